@@ -1,0 +1,11 @@
+//! What every other crate speaks of: texts, names and ids, the want of memory, and the counters of
+//! work.
+#![tactic(auto)]
+
+pub mod memory;
+pub mod steps;
+pub mod words;
+
+pub use memory::NoMemory;
+pub use steps::{Counts, Steps};
+pub use words::{Id, Name, Words};

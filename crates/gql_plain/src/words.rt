@@ -1,0 +1,88 @@
+//! Texts.
+ghost use Rattle.std.specs.Prelude.{◌≡◌, string_bytes, IfOk};
+
+use crate::memory::NoMemory;
+use std::alloc::Global;
+use std::marker::Model;
+
+/// A text, seen as its UTF-8 bytes.
+#[derive(Debug, Drop)]
+pub struct Words {
+    text: String,
+}
+
+/// A text that has the form of a GraphQL Name: a letter or `_`, then letters, digits and `_`, all
+/// ASCII (GraphQL, October 2021, section 2.1.9).
+pub type Name = Words;
+
+/// The id of a record: a text that is not empty.
+pub type Id = Words;
+
+impl Model for Words {
+    ghost use Rattle.std.specs.Prelude.{ℕ, List, string_bytes};
+
+    ghost Value = { List ℕ };
+
+    ghost view = { λ w. string_bytes w.text };
+}
+
+impl Words {
+    /// A copy of a text.
+    pub fn new(alloc: Global, text: &str) -> Result<Words, NoMemory>
+        ensures { IfOk result (λ w. w ≡ text.now) }
+    {
+        Ok(Words {
+            text: String::from_str(alloc, text)?,
+        })
+    }
+
+    /// The same text; takes no memory.
+    pub fn from_string(text: String) -> Words
+        ensures { result ≡ string_bytes text }
+    {
+        Words { text }
+    }
+
+    /// The text; takes no memory.
+    pub fn as_str(&self) -> &str
+        ensures { result.now ≡ self.now }
+    {
+        self.text.as_str()
+    }
+
+    /// The same text; takes no memory.
+    pub fn into_string(self) -> String
+        ensures { string_bytes result ≡ self }
+    {
+        self.text
+    }
+
+    /// An equal text.
+    pub fn copy(&self) -> Result<Words, NoMemory>
+        ensures { IfOk result (λ w. w ≡ self.now) }
+    {
+        Ok(Words {
+            text: self.text.clone()?,
+        })
+    }
+}
+
+impl PartialEq for Words {
+    ghost use Rattle.std.specs.Prelude.{nat_eq};
+    ghost use Rattle.std.specs.Cmp as Cmp;
+    ghost use Rattle.std.specs.Cmp.Lexicographic.{pointwise, nat_list_eq_equiv};
+
+    ghost eq = { pointwise nat_eq };
+
+    ghost laws = { Cmp.partial_equiv_from_equiv nat_list_eq_equiv };
+
+    fn eq(&self, other: &Words) -> bool {
+        self.as_str() == other.as_str()
+    }
+}
+
+impl Eq for Words {
+    ghost use Rattle.std.specs.Cmp.Lexicographic.{nat_list_eq_equiv};
+
+    ghost laws = { nat_list_eq_equiv };
+}
