@@ -1,0 +1,5 @@
+pub mod Adapters
+pub mod Causes
+pub mod Files
+pub mod Memory
+pub mod Streams
