@@ -2,10 +2,12 @@
 //! work.
 #![tactic(auto)]
 
+pub mod ids;
 pub mod memory;
 pub mod steps;
 pub mod words;
 
+pub use ids::{Conn, Ids, OptIds};
 pub use memory::NoMemory;
 pub use steps::{Counts, Steps};
 pub use words::{Id, Name, Words};

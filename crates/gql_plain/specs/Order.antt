@@ -1,0 +1,24 @@
+-- Lists of texts, distinct and in byte order.
+use Rattle.std.specs.Prelude.{◌≡◌, ◌↔◌, ℕ, Bool, List}
+use Rattle.std.specs.Cmp.Lexicographic.{slice_cmp}
+use Rattle.std.specs.List.{AllByRecursion, Contains, list_any}
+use Rattle.std.specs.List.Sorted.{IsStrictlySortedBy}
+use Rattle.std.specs.Ordering.{nat_cmp}
+use Rattle.std.specs.Str.{bytes_eq}
+use Rattle.std.specs.declared.cmp.Ordering.TheVariants.{Less}
+
+-- each text is below those after it, by bytes
+abbrev pub AreInOrder : List (List ℕ) → Type 0
+AreInOrder texts = IsStrictlySortedBy (slice_cmp nat_cmp) texts
+
+-- the text stands after each text of the list
+abbrev pub IsAfter : List ℕ → List (List ℕ) → Type 0
+IsAfter text texts = AllByRecursion (λ before. slice_cmp nat_cmp before text ≡ Less) texts
+
+-- whether the text is in the list
+abbrev pub has_text : List (List ℕ) → List ℕ → Bool
+has_text texts text = list_any (λ one. bytes_eq one text) texts
+
+-- the distinct texts of the list, in byte order
+abbrev pub AreSortedOf : List (List ℕ) → List (List ℕ) → Type 0
+AreSortedOf texts sorted = AreInOrder sorted × ((text : List ℕ) → Contains sorted text ↔ Contains texts text)
