@@ -1,8 +1,9 @@
 -- Lists of texts, distinct and in byte order.
-use Rattle.std.specs.Prelude.{◌≡◌, ◌↔◌, ℕ, Bool, List}
+use Rattle.std.specs.Prelude.{◌≡◌, ◌↔◌, ℕ, Bool, List, Option}
 use Rattle.std.specs.Cmp.Lexicographic.{slice_cmp}
 use Rattle.std.specs.List.{AllByRecursion, Contains, list_any}
 use Rattle.std.specs.List.Sorted.{IsStrictlySortedBy}
+use Rattle.std.specs.Map.{lookup}
 use Rattle.std.specs.Ordering.{nat_cmp}
 use Rattle.std.specs.Str.{bytes_eq}
 use Rattle.std.specs.declared.cmp.Ordering.TheVariants.{Less}
@@ -22,3 +23,7 @@ has_text texts text = list_any (λ one. bytes_eq one text) texts
 -- the distinct texts of the list, in byte order
 abbrev pub AreSortedOf : List (List ℕ) → List (List ℕ) → Type 0
 AreSortedOf texts sorted = AreInOrder sorted × ((text : List ℕ) → Contains sorted text ↔ Contains texts text)
+
+-- the value of a key, where the object has it
+abbrev pub member_at : {X : Type 0} → List (List ℕ × X) → List ℕ → Option X
+member_at members key = lookup (λ one. bytes_eq one key) members

@@ -4,10 +4,12 @@
 
 pub mod ids;
 pub mod memory;
+pub mod plain;
 pub mod steps;
 pub mod words;
 
 pub use ids::{Conn, Ids, OptIds};
 pub use memory::NoMemory;
+pub use plain::{Pairs, Plain, Plains};
 pub use steps::{Counts, Steps};
 pub use words::{Id, Name, Words};

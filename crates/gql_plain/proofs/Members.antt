@@ -1,0 +1,38 @@
+-- The pairs of an object, beside the trees that they stand for.
+use Rattle.std.proofs.Common.{◌≡◌, ℕ, ◌≤◌, Bool, true, false, cond, List, [], ◌∷◌, ◌++◌, length, take, Option, Some, None, option_map, Bor, refl, ap, sym, subst, ◌∙◌, bytes_eq}
+use Rattle.std.proofs.lemmas.List.{map-append, take_all}
+use Rattle.std.specs.Map.{keys_of}
+use Rattle.gql_plain.proofs.InOrder.{AreInOrder-push}
+use Rattle.gql_plain.specs.Order.{AreInOrder, IsAfter, member_at}
+use Rattle.gql_plain.specs.Shown.{tree_of, shown_members}
+use Rattle.gql_plain.specs.declared.plain.Plain.{Plain}
+
+pub keys_of-shown : (es : List (List ℕ × Plain)) → keys_of (shown_members es) ≡ keys_of es
+keys_of-shown [] = refl
+keys_of-shown (e ∷ es) = ap (λ ks. e.0 ∷ ks) (keys_of-shown es)
+
+-- a pair whose key stands after the last one keeps the order
+pub AreInOrder-push_pair : (es : List (List ℕ × Plain)) (key : List ℕ) (plain : Plain)
+    → AreInOrder (keys_of es) → IsAfter key (keys_of (shown_members es)) → AreInOrder (keys_of (es ++ (key, plain) ∷ []))
+AreInOrder-push_pair es key plain order after =
+    subst AreInOrder (sym (map-append (λ e. e.0) es ((key, plain) ∷ [])))
+    (AreInOrder-push (keys_of es) key order (subst (IsAfter key) (keys_of-shown es) after))
+
+-- copies of all pairs have their order
+pub AreInOrder-copied : (copies es : List (List ℕ × Plain)) (n : ℕ)
+    → shown_members copies ≡ shown_members (take n es) → length es ≤ n → AreInOrder (keys_of es) → AreInOrder (keys_of copies)
+AreInOrder-copied copies es n same all order =
+    subst AreInOrder (sym (keys_of-shown es) ∙ ap (λ xs. keys_of (shown_members xs)) (sym (take_all n es all)) ∙ ap (λ ms. keys_of ms) (sym same) ∙ keys_of-shown copies) order
+
+shown_or : (b : Bool) (plain : Plain) (rest : Option Plain) → option_map tree_of (cond b (Some plain) rest) ≡ cond b (Some (tree_of plain)) (option_map tree_of rest)
+shown_or true plain rest = refl
+shown_or false plain rest = refl
+
+pub member_at-shown : (es : List (List ℕ × Plain)) (key : List ℕ) → option_map tree_of (member_at es key) ≡ member_at (shown_members es) key
+member_at-shown [] key = refl
+member_at-shown (e ∷ es) key = shown_or (bytes_eq e.0 key) e.1 (member_at es key) ∙ ap (λ r. cond (bytes_eq e.0 key) (Some (tree_of e.1)) r) (member_at-shown es key)
+
+-- the tree of what a reference points to
+pub shown_ref : (r : Option (Bor Plain)) → option_map (λ p. tree_of p.now) r ≡ option_map tree_of (option_map (λ p. p.now) r)
+shown_ref None = refl
+shown_ref (Some p) = refl
