@@ -1,5 +1,5 @@
 -- Lists of texts, distinct and in byte order.
-use Rattle.std.proofs.Common.{◌≡◌, ℕ, List, [], ◌∷◌, ◌++◌}
+use Rattle.std.proofs.Common.{◌≡◌, ℕ, zero, suc, ◌<◌, length, get_or, take, arith, List, [], ◌∷◌, ◌++◌}
 use Rattle.std.proofs.lemmas.List.Filters.{dedup_is}
 use Rattle.std.proofs.lemmas.List.Kept.{Contains-dedup, Contains-from_dedup, IsStrictlySortedBy-dedup}
 use Rattle.std.proofs.lemmas.List.Sorted.{Contains-permutation, IsPermutation-sym}
@@ -7,6 +7,7 @@ use Rattle.std.specs.Cmp.Lexicographic.{slice_cmp, pointwise, bytes_decides, nat
 use Rattle.std.specs.List.{AllByRecursion, dedup}
 use Rattle.std.specs.List.Retain.{IsFiltered, DiffersFromLast}
 use Rattle.std.specs.List.Sorted.{IsPermutation, IsSorted, IsStrictlySortedBy}
+use Rattle.std.specs.Map.{keys_of}
 use Rattle.std.specs.Ordering.{nat_cmp}
 use Rattle.std.specs.Prelude.{nat_eq}
 use Rattle.std.specs.declared.cmp.Ordering.TheVariants.{Less}
@@ -39,3 +40,16 @@ AreSortedOf-dedup texts sorted kept moved order filtered =
         λ one. Contains-dedup nat_list_eq_equiv (λ x y. (bytes_decides x y).0) sorted text (Contains-permutation texts sorted text moved one),
       ),
     )
+
+below_at : {X : Type 0} (P : List ℕ → Type 0) (es : List (List ℕ × X)) (i : ℕ) (d : List ℕ × X) → i < length es → AllByRecursion P (keys_of es) → P (get_or es i d).0
+below_at P [] i d h all = absurd (omega arith)
+below_at P (e ∷ es) zero d h all = all.0
+below_at P (e ∷ es) (suc i) d h all = below_at P es i d (omega arith) all.1
+
+-- each key stands after those before it
+pub IsAfter-at : {X : Type 0} (es : List (List ℕ × X)) (i : ℕ) (d : List ℕ × X) → i < length es → AreInOrder (keys_of es) → IsAfter (get_or es i d).0 (keys_of (take i es))
+unfolding IsStrictlySortedBy
+IsAfter-at [] i d h order = absurd (omega arith)
+IsAfter-at (e ∷ es) zero d h order = tt
+IsAfter-at (e ∷ es) (suc i) d h order =
+    (below_at (λ key. slice_cmp nat_cmp e.0 key ≡ Less) es i d (omega arith) order.0, IsAfter-at es i d (omega arith) order.1)

@@ -1,2 +1,4 @@
 pub mod InOrder
+pub mod JsonLevels
+pub mod JsonTexts
 pub mod Members
