@@ -1,5 +1,6 @@
 pub mod Codes
 pub mod Counted
+pub mod Equal
 pub mod Falls
 pub mod FromJson
 pub mod Order

@@ -2,6 +2,7 @@
 //! work.
 #![tactic(auto)]
 
+mod equal;
 pub mod from_value;
 pub mod ids;
 pub mod memory;
