@@ -18,3 +18,6 @@ pub use plain::{Pairs, Plain, Plains};
 pub use steps::{Counts, Steps};
 pub use to_value::{text_of, value_of};
 pub use words::{Id, Name, Words};
+
+#[cfg(test)]
+mod tests;
