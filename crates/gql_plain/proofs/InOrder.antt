@@ -1,5 +1,5 @@
 -- Lists of texts, distinct and in byte order.
-use Rattle.std.proofs.Common.{◌≡◌, ℕ, zero, suc, ◌<◌, length, get_or, take, arith, List, [], ◌∷◌, ◌++◌}
+use Rattle.std.proofs.Common.{◌≡◌, ℕ, zero, suc, ◌<◌, length, map, get_or, take, arith, List, [], ◌∷◌, ◌++◌}
 use Rattle.std.proofs.lemmas.List.Filters.{dedup_is}
 use Rattle.std.proofs.lemmas.List.Kept.{Contains-dedup, Contains-from_dedup, IsStrictlySortedBy-dedup}
 use Rattle.std.proofs.lemmas.List.Sorted.{Contains-permutation, IsPermutation-sym}
@@ -7,7 +7,6 @@ use Rattle.std.specs.Cmp.Lexicographic.{slice_cmp, pointwise, bytes_decides, nat
 use Rattle.std.specs.List.{AllByRecursion, dedup}
 use Rattle.std.specs.List.Retain.{IsFiltered, DiffersFromLast}
 use Rattle.std.specs.List.Sorted.{IsPermutation, IsSorted, IsStrictlySortedBy}
-use Rattle.std.specs.Map.{keys_of}
 use Rattle.std.specs.Ordering.{nat_cmp}
 use Rattle.std.specs.Prelude.{nat_eq}
 use Rattle.std.specs.declared.cmp.Ordering.TheVariants.{Less}
@@ -41,15 +40,15 @@ AreSortedOf-dedup texts sorted kept moved order filtered =
       ),
     )
 
-below_at : {X : Type 0} (P : List ℕ → Type 0) (es : List (List ℕ × X)) (i : ℕ) (d : List ℕ × X) → i < length es → AllByRecursion P (keys_of es) → P (get_or es i d).0
-below_at P [] i d h all = absurd (omega arith)
-below_at P (e ∷ es) zero d h all = all.0
-below_at P (e ∷ es) (suc i) d h all = below_at P es i d (omega arith) all.1
+pub below_at : {X : Type 0} (key : X → List ℕ) (P : List ℕ → Type 0) (xs : List X) (i : ℕ) (d : X) → i < length xs → AllByRecursion P (map key xs) → P (key (get_or xs i d))
+below_at key P [] i d h all = absurd (omega arith)
+below_at key P (x ∷ xs) zero d h all = all.0
+below_at key P (x ∷ xs) (suc i) d h all = below_at key P xs i d (omega arith) all.1
 
 -- each key stands after those before it
-pub IsAfter-at : {X : Type 0} (es : List (List ℕ × X)) (i : ℕ) (d : List ℕ × X) → i < length es → AreInOrder (keys_of es) → IsAfter (get_or es i d).0 (keys_of (take i es))
+pub IsAfter-at : {X : Type 0} (key : X → List ℕ) (xs : List X) (i : ℕ) (d : X) → i < length xs → AreInOrder (map key xs) → IsAfter (key (get_or xs i d)) (map key (take i xs))
 unfolding IsStrictlySortedBy
-IsAfter-at [] i d h order = absurd (omega arith)
-IsAfter-at (e ∷ es) zero d h order = tt
-IsAfter-at (e ∷ es) (suc i) d h order =
-    (below_at (λ key. slice_cmp nat_cmp e.0 key ≡ Less) es i d (omega arith) order.0, IsAfter-at es i d (omega arith) order.1)
+IsAfter-at key [] i d h order = absurd (omega arith)
+IsAfter-at key (x ∷ xs) zero d h order = tt
+IsAfter-at key (x ∷ xs) (suc i) d h order =
+    (below_at key (λ later. slice_cmp nat_cmp (key x) later ≡ Less) xs i d (omega arith) order.0, IsAfter-at key xs i d (omega arith) order.1)

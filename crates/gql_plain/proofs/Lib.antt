@@ -3,3 +3,4 @@ pub mod InOrder
 pub mod JsonLevels
 pub mod JsonTexts
 pub mod Members
+pub mod Searches

@@ -1,5 +1,5 @@
 -- The pairs of an object, beside the trees that they stand for.
-use Rattle.std.proofs.Common.{◌≡◌, ℕ, ◌+◌, ◌<◌, ◌≤◌, get_or, Bool, true, false, cond, List, [], ◌∷◌, ◌++◌, length, take, Option, Some, None, option_map, Bor, refl, ap, sym, subst, ◌∙◌, bytes_eq}
+use Rattle.std.proofs.Common.{◌≡◌, ℕ, ◌+◌, ◌<◌, ◌≤◌, get_or, Bool, true, false, cond, List, [], ◌∷◌, ◌++◌, length, take, Option, Some, option_map, refl, ap, sym, subst, ◌∙◌, bytes_eq}
 use Rattle.std.proofs.lemmas.List.{map-append, take_all, take_more}
 use Rattle.std.specs.Map.{keys_of}
 use Rattle.serde_json.specs.Data.{put}
@@ -36,16 +36,11 @@ pub member_at-shown : (es : List (List ℕ × Plain)) (key : List ℕ) → optio
 member_at-shown [] key = refl
 member_at-shown (e ∷ es) key = shown_or (bytes_eq e.0 key) e.1 (member_at es key) ∙ ap (λ r. cond (bytes_eq e.0 key) (Some (tree_of e.1)) r) (member_at-shown es key)
 
--- the tree of what a reference points to
-pub shown_ref : (r : Option (Bor Plain)) → option_map (λ p. tree_of p.now) r ≡ option_map tree_of (option_map (λ p. p.now) r)
-shown_ref None = refl
-shown_ref (Some p) = refl
-
 -- the next pair's member goes last
 pub put-next : (es : List (List ℕ × Plain)) (i : ℕ) (e : List ℕ × Plain) → i < length es → e ≡ get_or es i e → AreInOrder (keys_of es)
     → put e.0 (data_of (tree_of e.1)) (members_data (members_of (shown_members (take i es)))) ≡ members_data (members_of (shown_members (take (i + 1) es)))
 put-next es i e within is order =
-    let after : IsAfter e.0 (keys_of (take i es)) = subst (λ x. IsAfter x.0 (keys_of (take i es))) (sym is) (IsAfter-at es i e within order) in
+    let after : IsAfter e.0 (keys_of (take i es)) = subst (λ x. IsAfter x.0 (keys_of (take i es))) (sym is) (IsAfter-at (λ x. x.0) es i e within order) in
     put-last (shown_members (take i es)) e.0 (tree_of e.1) (subst (IsAfter e.0) (sym (keys_of-shown (take i es))) after)
     ∙ ap (λ ms. members_data (members_of ms)) (sym (map-append (λ x. (x.0, tree_of x.1)) (take i es) (e ∷ [])))
     ∙ ap (λ xs. members_data (members_of (shown_members xs))) (ap (λ x. take i es ++ x ∷ []) is ∙ sym (take_more es i e within))

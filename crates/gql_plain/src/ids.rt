@@ -57,7 +57,9 @@ impl Ids {
     pub fn contains(&self, id: &str) -> bool
         ensures { result ≡ has_text self.now id.now }
     {
-        self.items.iter().any(|word| word.as_str() == id)
+        self.items
+            .binary_search_by(|word| word.as_str().cmp(id))
+            .is_ok()
     }
 
     /// How many texts; takes no memory.

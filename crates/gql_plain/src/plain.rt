@@ -177,7 +177,13 @@ impl Pairs {
     pub fn get(&self, key: &str) -> Option<&Plain>
         ensures { option_map (λ plain. tree_of plain.now) result ≡ member_at self.now key.now }
     {
-        plain_at(&self.entries, key)
+        let found = self
+            .entries
+            .binary_search_by(|(name, _)| name.as_str().cmp(key));
+        match found {
+            Ok(at) => Some(&self.entries[at].1),
+            Err(_) => None,
+        }
     }
 
     /// How many pairs; takes no memory.
@@ -212,18 +218,4 @@ impl Pairs {
         }
         Ok(Pairs { entries })
     }
-}
-
-/// The value of a key among some pairs.
-fn plain_at<'a>(entries: &'a [(Words, Plain)], key: &str) -> Option<&'a Plain>
-    ensures { option_map (λ plain. plain.now) result ≡ member_at entries.now key.now }
-{
-    let mut rest = entries;
-    'entries: while let [(name, plain), after @ ..] = rest {
-        if name.as_str() == key {
-            return Some(plain);
-        }
-        rest = after;
-    }
-    None
 }
