@@ -4,3 +4,4 @@ pub mod JsonLevels
 pub mod JsonTexts
 pub mod Members
 pub mod Searches
+pub mod SortedTexts

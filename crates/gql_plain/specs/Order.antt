@@ -1,10 +1,10 @@
 -- Lists of texts, distinct and in byte order.
-use Rattle.std.specs.Prelude.{◌≡◌, ◌↔◌, ℕ, Bool, List, Option}
+use Rattle.std.specs.Prelude.{◌≡◌, ◌↔◌, ℕ, Bool, List, [], ◌∷◌, Option}
 use Rattle.std.specs.Cmp.Lexicographic.{slice_cmp}
 use Rattle.std.specs.List.{AllByRecursion, Contains, list_any}
 use Rattle.std.specs.List.Sorted.{IsStrictlySortedBy}
 use Rattle.std.specs.Map.{lookup}
-use Rattle.std.specs.Ordering.{nat_cmp}
+use Rattle.std.specs.Ordering.{nat_cmp, match_ordering}
 use Rattle.std.specs.Str.{bytes_eq}
 use Rattle.std.specs.declared.cmp.Ordering.TheVariants.{Less}
 
@@ -27,3 +27,14 @@ AreSortedOf texts sorted = AreInOrder sorted × ((text : List ℕ) → Contains 
 -- the value of a key, where the object has it
 abbrev pub member_at : {X : Type 0} → List (List ℕ × X) → List ℕ → Option X
 member_at members key = lookup (λ one. bytes_eq one key) members
+
+-- the list with a text put at its place, unless the text is there
+abbrev pub with_text : List ℕ → List (List ℕ) → List (List ℕ)
+with_text text [] = text ∷ []
+with_text text (first ∷ rest) =
+    match_ordering (slice_cmp nat_cmp text first) (text ∷ first ∷ rest) (first ∷ rest) (first ∷ with_text text rest)
+
+-- the distinct texts of the list, in byte order
+abbrev pub sorted_texts : List (List ℕ) → List (List ℕ)
+sorted_texts [] = []
+sorted_texts (text ∷ texts) = with_text text (sorted_texts texts)

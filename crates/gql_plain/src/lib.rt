@@ -1,5 +1,5 @@
-//! What every other crate speaks of: texts, names and ids, the want of memory, and the counters of
-//! work.
+//! What every other crate speaks of: texts, names and ids, plain trees, the want of memory, and the
+//! counters of work.
 #![tactic(auto)]
 
 mod equal;
