@@ -6,3 +6,7 @@ pub mod Sels
 pub mod SelsCode
 pub mod SelectionView
 pub mod SelectionFalls
+pub mod Ty
+pub mod TypeCode
+pub mod TypeView
+pub mod TypeFalls

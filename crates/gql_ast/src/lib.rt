@@ -3,11 +3,21 @@
 #![tactic(auto)]
 
 pub mod directive;
+pub mod document;
+pub mod fault;
 pub mod names;
+pub mod place;
 pub mod selection;
+pub mod type_tree;
 pub mod value;
+pub mod variable;
 
 pub use directive::{Directive, Directives};
+pub use document::{Definition, Definitions, Document, Documents, Fragment, Kind, Operation};
+pub use fault::{ParseFault, SyntaxFault};
 pub use names::Names;
+pub use place::{FilePlace, FilePlaces, Placed};
 pub use selection::{Selection, Selections};
+pub use type_tree::{TypeBox, TypeTree};
 pub use value::{Argument, Arguments, ValueTree, ValueTrees};
+pub use variable::{VariableDef, VariableDefs};

@@ -221,3 +221,13 @@ impl Arguments {
         Ok(Arguments { items })
     }
 }
+
+/// The same value, or none where there is none.
+pub(crate) fn copy_of_value(value: &Option<ValueTree>) -> Result<Option<ValueTree>, NoMemory>
+    ensures { IfOk result (λ copy. copy ≡ value.now) }
+{
+    match value {
+        Some(value) => Ok(Some(value.copy()?)),
+        None => Ok(None),
+    }
+}
