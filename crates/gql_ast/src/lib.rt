@@ -1,5 +1,9 @@
 //! The trees of GraphQL texts: documents, type systems, and the places of their nodes (GraphQL,
 //! October 2021, sections 2 and 3).
+//!
+//! In contracts a list is the list of what it holds, without room and address, so two trees are
+//! equal there exactly where they are the same tree. Where a tree holds itself, contracts see what
+//! it stands for: a value as `Val`, a selection set as `Sels`, a type as `Ty`.
 #![tactic(auto)]
 
 pub mod directive;
@@ -27,3 +31,6 @@ pub use selection::{Selection, Selections};
 pub use type_tree::{TypeBox, TypeTree};
 pub use value::{Argument, Arguments, ValueTree, ValueTrees};
 pub use variable::{VariableDef, VariableDefs};
+
+#[cfg(test)]
+mod tests;
