@@ -2,7 +2,7 @@
 use Rattle.std.specs.Prelude.{ℕ, ℤ, ◌+◌, Bool, List, [], ◌∷◌, max}
 
 mutual
-  -- a value: a variable (2.9.10), an Int (2.9.1), a String (2.9.4), a Boolean (2.9.3), null (2.9.5), the name
+  -- a value: a variable (2.10), an Int (2.9.1), a String (2.9.4), a Boolean (2.9.3), null (2.9.5), the name
   -- of an Enum value (2.9.6), a List (2.9.7) or an Input Object (2.9.8)
   pub data Val : Type 0 where
     variable : List ℕ → Val

@@ -83,8 +83,9 @@ impl FilePlaces {
 /// A tree with the places of its nodes in text order.
 ///
 /// A node is a value of a struct or an enum of the trees, or a Name in them; a list, a Kind and a
-/// Location are none. The place of a node is that of its first token; a definition with a
-/// description begins with the description. Of two nodes that begin at one token the outer one
+/// Location are none. The place of a node is that of its first token: a definition with a
+/// description begins with the description, a field, an input and an enum value of a type system
+/// with its name, and a root with its kind. Of two nodes that begin at one token the outer one
 /// stands first.
 #[derive(Debug, Drop)]
 pub struct Placed<T> {
