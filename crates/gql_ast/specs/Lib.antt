@@ -1,0 +1,12 @@
+pub mod Value
+pub mod ValueCode
+pub mod ValueView
+pub mod ValueFalls
+pub mod Sels
+pub mod SelsCode
+pub mod SelectionView
+pub mod SelectionFalls
+pub mod Ty
+pub mod TypeCode
+pub mod TypeView
+pub mod TypeFalls
