@@ -1,0 +1,92 @@
+-- The machine: at each line it folds what was confirmed into fresh records, and reads them along the
+-- selections of the operation.
+use Rattle.std.specs.Prelude.{ℕ, ◌+◌, List, [], ◌∷◌, ◌++◌, length, Bool, true, false, ◌||◌, ◌==◌, cond, codes, bytes_eq}
+use Rattle.std.specs.List.{list_any}
+use Rattle.gql_ast.specs.Sels.{Sels}
+use Rattle.relay_model.specs.Keys.{Text}
+use Rattle.relay_model.specs.Schema.{Schema}
+use Rattle.relay_model.specs.Records.{Fact, Records, no_records, put_all}
+use Rattle.relay_model.specs.Payload.{Said, says}
+use Rattle.relay_model.specs.Read.{read_root}
+use Rattle.relay_model.specs.Events.{Event, retain, payload, read, Line, too_long, not_json as no_json, other, event, line_of}
+use Rattle.relay_model.specs.Printed.{done, shown, not_json, unknown_operation, unknown_handle, not_yet}
+
+-- an accepted project: its schema, and its one operation
+pub record Project : Type 0 where
+  pub schema : Schema
+  pub operation : Text
+  pub selections : Sels
+
+-- what was confirmed, and the live handles, each in order
+pub record State : Type 0 where
+  pub entries : List (List Fact)
+  pub handles : List Text
+
+abbrev pub beginning : State
+beginning = record { entries = []; handles = [] }
+
+-- the records that the confirmed entries give
+abbrev pub folded : List (List Fact) → Records → Records
+folded [] records = records
+folded (entry ∷ entries) records = folded entries (put_all entry records)
+
+abbrev pub base : State → Records
+base s = folded s.entries no_records
+
+-- whether the handle is live
+abbrev pub is_live : Text → State → Bool
+is_live handle s = list_any (bytes_eq handle) s.handles
+
+abbrev pub max_handles : ℕ
+max_handles = 10000
+
+-- what a line writes, whether it is refused, and the state after it
+pub record Step : Type 0 where
+  pub text : Text
+  pub refused : Bool
+  pub state : State
+
+abbrev pub refuse : Text → State → Step
+refuse text s = record { text = text; refused = true; state = s }
+
+abbrev pub accept : Text → State → Step
+accept text s = record { text = text; refused = false; state = s }
+
+abbrev pub confirm : State → ℕ → Said → Step
+confirm s n said =
+    cond said.plain (accept (done (codes "payload") n) (record { entries = s.entries ++ said.facts ∷ []; handles = s.handles }))
+    (refuse (not_yet n) s)
+
+abbrev pub step_retain : Project → State → ℕ → Text → Text → Step
+step_retain p s n handle operation =
+    cond (is_live handle s || (length s.handles == max_handles)) (refuse (not_yet n) s)
+    (cond (bytes_eq operation p.operation)
+    (accept (done (codes "retain") n) (record { entries = s.entries; handles = s.handles ++ handle ∷ [] }))
+    (refuse (unknown_operation n operation) s))
+
+abbrev pub step_event : Project → State → ℕ → Event → Step
+step_event p s n (retain handle operation) = step_retain p s n handle operation
+step_event p s n (payload handle response) =
+    cond (is_live handle s) (confirm s n (says p.schema p.selections response)) (refuse (unknown_handle n handle) s)
+step_event p s n (read handle) =
+    cond (is_live handle s) (accept (shown n (read_root p.schema (base s) p.selections)) s) (refuse (unknown_handle n handle) s)
+
+abbrev pub step_line : Project → State → ℕ → Line → Step
+step_line p s n too_long = refuse (not_yet n) s
+step_line p s n no_json = refuse (not_json n) s
+step_line p s n other = refuse (not_yet n) s
+step_line p s n (event e) = step_event p s n e
+
+-- the step of a line of the script
+abbrev pub step : Project → State → ℕ → Text → Step
+step p s n bytes = step_line p s n (line_of bytes)
+
+-- what the lines write from a state on, numbered from n
+abbrev pub output : Project → State → ℕ → List Text → Text
+output p s n [] = []
+output p s n (line ∷ lines) = (step p s n line).text ++ output p (step p s n line).state (n + 1) lines
+
+-- whether one of the lines is refused
+abbrev pub some_refused : Project → State → ℕ → List Text → Bool
+some_refused p s n [] = false
+some_refused p s n (line ∷ lines) = (step p s n line).refused || some_refused p (step p s n line).state (n + 1) lines

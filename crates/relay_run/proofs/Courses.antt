@@ -1,0 +1,138 @@
+-- The course of a call, from what its parts gave and took.
+use Rattle.std.proofs.Common.{◌≡◌, ◌⊎◌, ◌↔◌, ◌≤◌, ◌+◌, ◌++◌, ℕ, [], length, take, true, false, IsTrue, Option, None, Some, refl, sym, ap, subst, inl, inr, ◌∙◌, arith}
+use Rattle.std.specs.Io.KnownBytes.{IsAtEnd}
+use Rattle.std.proofs.lemmas.Bool.{false≢true}
+use Rattle.std.proofs.lemmas.List.{take_all}
+use Rattle.relay_io.specs.Streams.{appended, prepended}
+use Rattle.relay_io.proofs.Streaming.{appended-none}
+use Rattle.relay_model.specs.Keys.{Text}
+use Rattle.relay_model.specs.Machine.{Project}
+use Rattle.relay_model.specs.Printed.{project_fault}
+use Rattle.relay_run.specs.Answers.{refused, accepted, Ran, EndsLine, IsWhole}
+use Rattle.relay_run.specs.Output.{max_script, written, has_refusal, IsDone}
+use Rattle.relay_run.specs.declared.status.Status.{Status}
+use Rattle.relay_run.specs.declared.status.Status.TheVariants.{DoneWithRefusals, ProjectRefused, ReadFault, WriteFault, NoMemory, ScriptTooLong}
+
+pub nothing_given : (told : Option Text) → told ≡ prepended [] told
+nothing_given None = refl
+nothing_given (Some xs) = refl
+
+-- no line is answered
+pub ran_unanswered : (p : Project) (status : Status) (left left_now : Option Text) (reads reads_now : ℕ) (held : Option Text) (puts : ℕ) (given : Text)
+    → left ≡ prepended given left_now → reads_now ≤ reads + length given + 1 → length given ≤ max_script + 1
+    → (length given ≡ max_script + 1 → (status ≡ ScriptTooLong) ⊎ ((status ≡ WriteFault) ⊎ (status ≡ NoMemory)))
+    → (status ≡ ScriptTooLong → length given ≡ max_script + 1)
+    → (IsWhole status → ⊥)
+    → Ran (accepted p) status left left_now reads reads_now held held puts puts
+ran_unanswered p status left left_now reads reads_now held puts given is most within over too_long partial = record {
+  taken = given;
+  ended = false;
+  took = record {
+    is = is;
+    read = tt;
+    end = λ e. absurd (false≢true e);
+    most = within;
+    over = over;
+    too_long = λ e. (too_long e, refl);
+    read_fault = λ _. refl;
+    done = λ d. absurd (partial (inl d));
+  };
+  reads_most = most;
+  added = [];
+  adds = sym (appended-none held);
+  puts_most = omega arith;
+  ends = inr (inl refl);
+  more = written p (take max_script given) false;
+  part = refl;
+  whole = λ w. absurd (partial w);
+  refusals = λ d. absurd (partial (inl d));
+}
+
+abbrev IsAnswered : Status → Type 0
+IsAnswered status = IsDone status ⊎ ((status ≡ WriteFault) ⊎ (status ≡ NoMemory))
+
+not_other : (status other : Status) → (IsDone other → ⊥) → (WriteFault ≡ other → ⊥) → (NoMemory ≡ other → ⊥) → IsAnswered status → status ≡ other → ⊥
+not_other status other a b c form e = elim form [
+  | inl d ↦ a (subst IsDone e d)
+  | inr f ↦ elim f [ inl w ↦ b (sym w ∙ e) | inr m ↦ c (sym m ∙ e) ]
+]
+
+-- the lines are answered, as far as they are
+pub ran_answered : (p : Project) (status : Status) (left left_now : Option Text) (reads reads_now : ℕ) (held held_now : Option Text) (puts puts_now : ℕ) (given : Text)
+    → left ≡ prepended given left_now → reads_now ≤ reads + length given + 1 → length given ≤ max_script → IsAtEnd left_now
+    → IsAnswered status
+    → (added : Text) × (held_now ≡ appended held added) × (puts_now ≤ puts + length added + 1) × ((status ≡ WriteFault) ⊎ EndsLine added)
+    × (more : Text) × (added ++ more ≡ written p given true) × (IsDone status → more ≡ [])
+    → (IsDone status → (status ≡ DoneWithRefusals) ↔ IsTrue (has_refusal p given))
+    → Ran (accepted p) status left left_now reads reads_now held held_now puts puts_now
+ran_answered p status left left_now reads reads_now held held_now puts puts_now given is most within at_end form w refusals = record {
+  taken = given;
+  ended = true;
+  took = record {
+    is = is;
+    read = tt;
+    end = λ _. at_end;
+    most = omega (arith, within);
+    over = λ e. absurd (omega (arith, e, within));
+    too_long = λ e. absurd (not_other status ScriptTooLong (λ d. d) (λ x. cc) (λ x. cc) form e);
+    read_fault = λ e. absurd (not_other status ReadFault (λ d. d) (λ x. cc) (λ x. cc) form e);
+    done = λ _. refl;
+  };
+  reads_most = most;
+  added = w.0;
+  adds = w.1;
+  puts_most = w.2;
+  ends = w.3;
+  more = w.4;
+  part = w.5 ∙ ap (λ t. written p t true) (sym (take_all max_script given within));
+  whole = λ d. elim d [
+    | inl done ↦ w.6 done
+    | inr e ↦ absurd (not_other status ProjectRefused (λ d. d) (λ x. cc) (λ x. cc) form e)
+  ];
+  refusals = refusals;
+}
+
+abbrev pub IsRefused : Status → Type 0 → Type 0
+IsRefused status sink = (status ≡ ProjectRefused) ⊎ (((status ≡ WriteFault) × sink) ⊎ (status ≡ NoMemory))
+
+not_after : (status other : Status) (sink : Type 0) → (ProjectRefused ≡ other → ⊥) → (WriteFault ≡ other → ⊥) → (NoMemory ≡ other → ⊥) → IsRefused status sink → status ≡ other → ⊥
+not_after status other sink a b c form e = elim form [
+  | inl r ↦ a (sym r ∙ e)
+  | inr f ↦ elim f [ inl w ↦ b (sym w.0 ∙ e) | inr m ↦ c (sym m ∙ e) ]
+]
+
+pub not_done : (status : Status) (sink : Type 0) → IsRefused status sink → IsDone status → ⊥
+not_done status sink form d = elim form [
+  | inl r ↦ subst IsDone r d
+  | inr f ↦ elim f [ inl w ↦ subst IsDone w.0 d | inr m ↦ subst IsDone m d ]
+]
+
+-- the line of the project's fault is put, as far as it is
+pub ran_refused : (file rule : Text) (status : Status) (sink : Type 0) (left : Option Text) (reads : ℕ) (held held_now : Option Text) (puts puts_now : ℕ)
+    → IsRefused status sink
+    → (added : Text) × (held_now ≡ appended held added) × (puts_now ≤ puts + length added + 1) × ((status ≡ WriteFault) ⊎ EndsLine added)
+    × (more : Text) × (added ++ more ≡ project_fault file rule) × (status ≡ ProjectRefused → more ≡ [])
+    → Ran (refused file rule) status left left reads reads held held_now puts puts_now
+ran_refused file rule status sink left reads held held_now puts puts_now form w = record {
+  taken = [];
+  ended = false;
+  took = record {
+    is = nothing_given left;
+    read = refl;
+    end = λ e. absurd (false≢true e);
+    most = omega arith;
+    over = λ e. absurd (omega (arith, e));
+    too_long = λ e. absurd (not_after status ScriptTooLong sink (λ x. cc) (λ x. cc) (λ x. cc) form e);
+    read_fault = λ _. refl;
+    done = λ d. absurd (not_done status sink form d);
+  };
+  reads_most = omega arith;
+  added = w.0;
+  adds = w.1;
+  puts_most = w.2;
+  ends = w.3;
+  more = w.4;
+  part = w.5;
+  whole = λ d. elim d [ inl done ↦ absurd (not_done status sink form done) | inr e ↦ w.6 e ];
+  refusals = λ d. absurd (not_done status sink form d);
+}

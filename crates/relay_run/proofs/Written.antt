@@ -1,0 +1,119 @@
+-- What is written for the lines of a script, one after the other.
+use Rattle.std.proofs.Common.{◌≡◌, ℕ, ◌+◌, List, [], ◌∷◌, ◌++◌, length, take, drop, cond, Bool, true, false, ◌||◌, ◌==◌, codes, map, bytes_eq, refl, sym, ap, subst, inl, inr, ◌∙◌, arith, append_assoc}
+use Rattle.std.specs.Prelude.{unwrap_or}
+use Rattle.std.proofs.lemmas.List.{append-nil, take-append-drop}
+use Rattle.gql_plain.specs.Tree.{Tree, null, truth, text, list, object, trees_of, members_of}
+use Rattle.gql_plain.specs.ToJson.{compact}
+use Rattle.relay_model.specs.Events.{Event, retain, payload, read, Line, too_long, not_json as no_json, other, event, line_of, max_line}
+use Rattle.relay_model.specs.Keys.{Text}
+use Rattle.relay_model.specs.Machine.{Project, State, Step, step, step_line, step_event, confirm, output, some_refused, accept, refuse, is_live, max_handles, base}
+use Rattle.relay_model.specs.Payload.{Said, says}
+use Rattle.relay_model.specs.Read.{Answer, read_root}
+use Rattle.relay_model.specs.Order.{in_order}
+use Rattle.relay_model.specs.Printed.{line, number, done, shown, refusal, refusal_of, not_json, not_yet, unknown_operation, unknown_handle, project_fault}
+use Rattle.relay_model.specs.Script.{lines_of, cut}
+use Rattle.relay_run.specs.Answers.{EndsLine}
+
+line_ends : (members : List (Text × Tree)) → EndsLine (line members)
+line_ends members = inr (compact (object (members_of members)), refl)
+
+done_ends : (name : Text) (n : ℕ) → EndsLine (done name n)
+done_ends name n = line_ends ((codes "n", number n) ∷ (codes "ok", text name) ∷ [])
+
+shown_ends : (n : ℕ) (answer : Answer) → EndsLine (shown n answer)
+shown_ends n answer =
+    line_ends ((codes "data", unwrap_or answer.0 null) ∷ (codes "missing", truth answer.1.missing) ∷ (codes "n", number n) ∷ (codes "ok", text (codes "read"))
+    ∷ (codes "seen", list (trees_of (map text (in_order answer.1.seen)))) ∷ [])
+
+refusal_ends : (code : ℕ) (error : Text) (n : ℕ) → EndsLine (refusal code error n)
+refusal_ends code error n = line_ends ((codes "code", number code) ∷ (codes "error", text error) ∷ (codes "n", number n) ∷ [])
+
+refusal_of_ends : (code : ℕ) (error : Text) (n : ℕ) (name : Text) → EndsLine (refusal_of code error n name)
+refusal_of_ends code error n name = line_ends ((codes "code", number code) ∷ (codes "error", text error) ∷ (codes "n", number n) ∷ (codes "name", text name) ∷ [])
+
+-- the fault of a project is a whole line
+pub project_fault_ends : (file rule : Text) → EndsLine (project_fault file rule)
+project_fault_ends file rule = line_ends ((codes "column", number 1) ∷ (codes "file", text file) ∷ (codes "line", number 1) ∷ (codes "rule", text rule) ∷ [])
+
+not_yet_ends : (n : ℕ) → EndsLine (not_yet n)
+not_yet_ends n = refusal_ends 90 (codes "NotYet") n
+
+not_json_ends : (n : ℕ) → EndsLine (not_json n)
+not_json_ends n = refusal_ends 1 (codes "NotJson") n
+
+unknown_operation_ends : (n : ℕ) (name : Text) → EndsLine (unknown_operation n name)
+unknown_operation_ends n name = refusal_of_ends 5 (codes "UnknownOperation") n name
+
+unknown_handle_ends : (n : ℕ) (name : Text) → EndsLine (unknown_handle n name)
+unknown_handle_ends n name = refusal_of_ends 7 (codes "UnknownHandle") n name
+
+cond_ends : (t : Bool) (a b : Step) → EndsLine a.text → EndsLine b.text → EndsLine (cond t a b).text
+cond_ends true a b x y = x
+cond_ends false a b x y = y
+
+confirm_ends : (s : State) (n : ℕ) (said : Said) → EndsLine (confirm s n said).text
+confirm_ends s n said = cond_ends said.plain (accept (done (codes "payload") n) (record { entries = s.entries ++ said.facts ∷ []; handles = s.handles })) (refuse (not_yet n) s) (done_ends (codes "payload") n) (not_yet_ends n)
+
+event_ends : (p : Project) (s : State) (n : ℕ) (e : Event) → EndsLine (step_event p s n e).text
+event_ends p s n (retain handle operation) =
+    let known = cond (bytes_eq operation p.operation) (accept (done (codes "retain") n) (record { entries = s.entries; handles = s.handles ++ handle ∷ [] })) (refuse (unknown_operation n operation) s) in
+    let known_ends : EndsLine known.text = cond_ends (bytes_eq operation p.operation) (accept (done (codes "retain") n) (record { entries = s.entries; handles = s.handles ++ handle ∷ [] })) (refuse (unknown_operation n operation) s) (done_ends (codes "retain") n) (unknown_operation_ends n operation) in
+    cond_ends (is_live handle s || (length s.handles == max_handles)) (refuse (not_yet n) s) known (not_yet_ends n) known_ends
+event_ends p s n (payload handle response) =
+    cond_ends (is_live handle s) (confirm s n (says p.schema p.selections response)) (refuse (unknown_handle n handle) s) (confirm_ends s n (says p.schema p.selections response)) (unknown_handle_ends n handle)
+event_ends p s n (read handle) =
+    cond_ends (is_live handle s) (accept (shown n (read_root p.schema (base s) p.selections)) s) (refuse (unknown_handle n handle) s) (shown_ends n (read_root p.schema (base s) p.selections)) (unknown_handle_ends n handle)
+
+line_step_ends : (p : Project) (s : State) (n : ℕ) (l : Line) → EndsLine (step_line p s n l).text
+line_step_ends p s n too_long = not_yet_ends n
+line_step_ends p s n no_json = not_json_ends n
+line_step_ends p s n other = not_yet_ends n
+line_step_ends p s n (event e) = event_ends p s n e
+
+-- each answer is of whole lines
+pub step_ends : (p : Project) (s : State) (n : ℕ) (bytes : Text) → EndsLine (step p s n bytes).text
+step_ends p s n bytes = line_step_ends p s n (line_of bytes)
+
+pub both_end : (a b : Text) → EndsLine a → EndsLine b → EndsLine (a ++ b)
+both_end a b x (inl none) = subst EndsLine (sym (ap (λ t. a ++ t) none ∙ append-nil a)) x
+both_end a b x (inr some) = inr (a ++ some.0, ap (λ t. a ++ t) some.1 ∙ sym (append_assoc a some.0 (10 ∷ [])))
+
+abbrev seen : Text → Text
+seen l = take (max_line + 1) l
+
+-- after one more line
+pub written_next : (p : Project) (s : State) (n : ℕ) (all added l : Text) (ls0 ls : List Text) → ls0 ≡ l ∷ ls → all ≡ added ++ output p s n (cut ls0)
+    → all ≡ (added ++ (step p s n (seen l)).text) ++ output p (step p s n (seen l)).state (n + 1) (cut ls)
+written_next p s n all added l ls0 ls e h = h ∙ ap (λ xs. added ++ output p s n (cut xs)) e ∙ sym (append_assoc added (step p s n (seen l)).text _)
+
+or_or : (a b c : Bool) → (a || (b || c)) ≡ ((a || b) || c)
+or_or true b c = refl
+or_or false b c = refl
+
+pub refused_next : (p : Project) (s : State) (n : ℕ) (all before : Bool) (l : Text) (ls0 ls : List Text) → ls0 ≡ l ∷ ls → all ≡ (before || some_refused p s n (cut ls0))
+    → all ≡ ((before || (step p s n (seen l)).refused) || some_refused p (step p s n (seen l)).state (n + 1) (cut ls))
+refused_next p s n all before l ls0 ls e h = h ∙ ap (λ xs. before || some_refused p s n (cut xs)) e ∙ or_or before _ _
+
+-- a part of the next answer, and what is then still to come
+pub part_then : (p : Project) (s : State) (n : ℕ) (all added l : Text) (ls0 ls : List Text) (k : ℕ) → ls0 ≡ l ∷ ls → all ≡ added ++ output p s n (cut ls0)
+    → (added ++ take k (step p s n (seen l)).text) ++ (drop k (step p s n (seen l)).text ++ output p (step p s n (seen l)).state (n + 1) (cut ls)) ≡ all
+part_then p s n all added l ls0 ls k e h =
+    let answer = (step p s n (seen l)).text in
+    let rest = output p (step p s n (seen l)).state (n + 1) (cut ls) in
+    append_assoc added (take k answer) (drop k answer ++ rest) ∙ ap (λ t. added ++ t) (sym (append_assoc (take k answer) (drop k answer) rest) ∙ ap (λ t. t ++ rest) (take-append-drop k answer))
+    ∙ sym (h ∙ ap (λ xs. added ++ output p s n (cut xs)) e)
+
+-- at the end
+pub no_lines : (bytes : Text) → length bytes ≡ 0 → lines_of bytes true ≡ []
+no_lines [] h = refl
+no_lines (b ∷ bs) h = absurd (omega (arith, h))
+
+pub written_all : (p : Project) (s : State) (n : ℕ) (all added : Text) (ls : List Text) → ls ≡ [] → all ≡ added ++ output p s n (cut ls) → added ++ [] ≡ all
+written_all p s n all added ls e h = sym (h ∙ ap (λ xs. added ++ output p s n (cut xs)) e)
+
+or_none : (a : Bool) → (a || false) ≡ a
+or_none true = refl
+or_none false = refl
+
+pub refused_all : (p : Project) (s : State) (n : ℕ) (all before : Bool) (ls : List Text) → ls ≡ [] → all ≡ (before || some_refused p s n (cut ls)) → all ≡ before
+refused_all p s n all before ls e h = h ∙ ap (λ xs. before || some_refused p s n (cut xs)) e ∙ or_none before

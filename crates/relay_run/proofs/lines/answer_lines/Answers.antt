@@ -1,0 +1,102 @@
+use Rattle.std.proofs.Common.{◌≡◌, ◌+◌, ◌++◌, ◌||◌, true, [], length, refl, sym, ap, inl, inr, ◌∙◌, arith, take, length-append, length-take, Option}
+use Rattle.std.proofs.lemmas.Bool.{true≢false, eqb-true}
+use Rattle.relay_io.specs.Streams.{appended}
+use Rattle.relay_io.proofs.Streaming.{appended-none, appended-appended}
+use Rattle.relay_model.specs.Keys.{Text}
+use Rattle.relay_model.specs.Machine.{beginning, step, some_refused}
+use Rattle.relay_model.specs.Script.{lines_of, cut}
+use Rattle.relay_run.specs.Shown.{project_shown}
+use Rattle.relay_run.proofs.Written.{written_next, refused_next, part_then, no_lines, written_all, refused_all, step_ends, both_end}
+use Rattle.relay_run.proofs.lines.answer_lines.Goals as goal
+
+pub lines-init : goal.lines-init
+lines-init g c = record {
+  so_far = (beginning, c.new-engine.ensures, [], sym (appended-none _), refl, refl, inl refl, omega arith);
+  numbered = omega arith;
+  later = omega arith;
+}
+
+added_more : (h0 h1 h2 : Option Text) (added more : Text) → h1 ≡ appended h0 added → h2 ≡ appended h1 more → h2 ≡ appended h0 (added ++ more)
+added_more h0 h1 h2 added more first next = next ∙ ap (λ h. appended h more) first ∙ appended-appended h0 added more
+
+pub returns-in-Err-WriteFault-clause-added : goal.returns-in-Err-WriteFault-clause-added
+returns-in-Err-WriteFault-clause-added g c =
+    let inv = c.lines.invariant.so_far in
+    let p = project_shown c.args.project in
+    let w = c.in-Err-WriteFault.ensures.err p inv.0 inv.1 in
+    let text = (step p inv.0 c.lines.n (take 8388609 c.first_line.result.0.now)).text in (
+      inv.2 ++ take w.0 text,
+      added_more (g.K.Sink.held c.args.out.now) (g.K.Sink.held c.lines.out) (g.K.Sink.held c.answer_line.new.out) inv.2 (take w.0 text) inv.3 w.2,
+      omega (arith, inv.7, w.3, w.1, length-append inv.2 (take w.0 text), length-take w.0 text),
+      inl refl,
+      _,
+      part_then p inv.0 c.lines.n _ inv.2 c.first_line.result.0.now (lines_of c.lines.rest.now true) (lines_of c.first_line.result.1.now true) w.0 c.first_line.ensures.lines inv.4,
+      λ e. absurd e,
+    )
+
+pub returns-in-Err-NoMemory-clause-added : goal.returns-in-Err-NoMemory-clause-added
+returns-in-Err-NoMemory-clause-added g c =
+    let inv = c.lines.invariant.so_far in
+    let p = project_shown c.args.project in
+    let w = c.in-Err-NoMemory.ensures.err p inv.0 inv.1 in
+    let text = (step p inv.0 c.lines.n (take 8388609 c.first_line.result.0.now)).text in
+    let none : take w.0 text ≡ [] = ap (λ k. take k text) (w.4 c.in-Err-NoMemory.field-0-is) in (
+      inv.2,
+      w.2 ∙ ap (appended (g.K.Sink.held c.lines.out)) none ∙ appended-none _ ∙ inv.3,
+      omega (arith, inv.7, w.3, w.4 c.in-Err-NoMemory.field-0-is),
+      inr inv.6,
+      _,
+      sym inv.4,
+      λ e. absurd e,
+    )
+
+pub lines-preserved : goal.lines-preserved
+lines-preserved g c =
+    let inv = c.lines.invariant.so_far in
+    let p = project_shown c.args.project in
+    let w = c.in-Ok.ensures.ok p inv.0 inv.1 in
+    let now = step p inv.0 c.lines.n (take 8388609 c.first_line.result.0.now) in
+    record {
+      so_far = (
+        now.state,
+        w.1,
+        inv.2 ++ now.text,
+        added_more (g.K.Sink.held c.args.out.now) (g.K.Sink.held c.lines.out) (g.K.Sink.held c.answer_line.new.out) inv.2 now.text inv.3 w.2,
+        written_next p inv.0 c.lines.n _ inv.2 c.first_line.result.0.now (lines_of c.lines.rest.now true) (lines_of c.first_line.result.1.now true) c.first_line.ensures.lines inv.4,
+        refused_next p inv.0 c.lines.n _ c.lines.refused c.first_line.result.0.now (lines_of c.lines.rest.now true) (lines_of c.first_line.result.1.now true) c.first_line.ensures.lines inv.5
+            ∙ ap (λ r. (c.lines.refused || r) || some_refused p now.state (c.lines.n + 1) (cut (lines_of c.first_line.result.1.now true))) (sym w.0),
+        both_end inv.2 now.text inv.6 (step_ends p inv.0 c.lines.n _),
+        omega (arith, inv.7, w.3, length-append inv.2 now.text),
+      );
+      numbered = omega (arith, c.lines.invariant.numbered, c.first_line.ensures.shorter);
+      later = omega (arith, c.lines.invariant.later, c.answer_line.ensures.later);
+    }
+
+pub returns-then-refused-clause-added : goal.returns-then-refused-clause-added
+returns-then-refused-clause-added g c =
+    let inv = c.lines.invariant.so_far in
+    let p = project_shown c.args.project in
+    let end : lines_of c.lines.rest.now true ≡ [] = no_lines c.lines.rest.now (eqb-true (length c.lines.rest.now) 0 (sym c.is_empty.ensures ∙ c.lines-test.false)) in
+    (inv.2, inv.3, omega (arith, inv.7), inr inv.6, [], written_all p inv.0 c.lines.n _ inv.2 (lines_of c.lines.rest.now true) end inv.4, λ _. refl)
+
+pub returns-then-refused-clause-refusals : goal.returns-then-refused-clause-refusals
+returns-then-refused-clause-refusals g c = λ _.
+    let inv = c.lines.invariant.so_far in
+    let p = project_shown c.args.project in
+    let end : lines_of c.lines.rest.now true ≡ [] = no_lines c.lines.rest.now (eqb-true (length c.lines.rest.now) 0 (sym c.is_empty.ensures ∙ c.lines-test.false)) in
+    (λ _. refused_all p inv.0 c.lines.n _ c.lines.refused (lines_of c.lines.rest.now true) end inv.5 ∙ c.if-refused.true, λ _. refl)
+
+pub returns-clause-added : goal.returns-clause-added
+returns-clause-added g c =
+    let inv = c.lines.invariant.so_far in
+    let p = project_shown c.args.project in
+    let end : lines_of c.lines.rest.now true ≡ [] = no_lines c.lines.rest.now (eqb-true (length c.lines.rest.now) 0 (sym c.is_empty.ensures ∙ c.lines-test.false)) in
+    (inv.2, inv.3, omega (arith, inv.7), inr inv.6, [], written_all p inv.0 c.lines.n _ inv.2 (lines_of c.lines.rest.now true) end inv.4, λ _. refl)
+
+pub returns-clause-refusals : goal.returns-clause-refusals
+returns-clause-refusals g c = λ _.
+    let inv = c.lines.invariant.so_far in
+    let p = project_shown c.args.project in
+    let end : lines_of c.lines.rest.now true ≡ [] = no_lines c.lines.rest.now (eqb-true (length c.lines.rest.now) 0 (sym c.is_empty.ensures ∙ c.lines-test.false)) in
+    let none = refused_all p inv.0 c.lines.n _ c.lines.refused (lines_of c.lines.rest.now true) end inv.5 ∙ c.if-refused.false in
+    (λ e. absurd (cc), λ yes. absurd (true≢false (sym yes ∙ none)))

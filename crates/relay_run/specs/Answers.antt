@@ -1,0 +1,123 @@
+-- What the answers of a run owe.
+use Rattle.std.specs.Prelude.{◌≡◌, ◌⊎◌, ◌↔◌, ℕ, ◌+◌, ◌≤◌, [], ◌∷◌, ◌++◌, length, take, Bool, false, codes, Option, Some, None, Result, Ok, Err, Vec, ⊤, IsTrue, IsFalse}
+use Rattle.std.specs.Io.KnownBytes.{IsAtEnd}
+use Rattle.relay_io.specs.Streams.{appended, prepended}
+use Rattle.relay_model.specs.Keys.{Text}
+use Rattle.relay_model.specs.Machine.{Project}
+use Rattle.relay_model.specs.Printed.{project_fault}
+use Rattle.relay_run.specs.Files.{Files, given, IsProject, IsFaultOf}
+use Rattle.relay_run.specs.Output.{max_script, written, has_refusal, IsDone}
+use Rattle.relay_run.specs.Words.{Form}
+use Rattle.relay_run.specs.declared.files.File.{File}
+use Rattle.relay_run.specs.declared.files.File.TheVariants.{Schema, Document}
+use Rattle.relay_run.specs.declared.files.Rule.{Rule}
+use Rattle.relay_run.specs.declared.files.Rule.TheVariants.{F1, N1}
+use Rattle.relay_run.specs.declared.script.ScriptFault.{ScriptFault}
+use Rattle.relay_run.specs.declared.script.ScriptFault.TheVariants.{Failed, TooLong, NoMemory as NoRoom}
+use Rattle.relay_run.specs.declared.status.Status.{Status}
+use Rattle.relay_run.specs.declared.status.Status.TheVariants.{DoneWithRefusals, ProjectRefused, ReadFault, WriteFault, NoMemory, ScriptTooLong}
+
+-- ---- words and files
+
+abbrev pub the_form : Text → Text → Form
+the_form schema document = record { schema = schema; document = document }
+
+abbrev pub name_of : Form → File → Text
+name_of form Schema = form.schema
+name_of form Document = form.document
+
+abbrev pub rule_text : Rule → Text
+rule_text F1 = codes "F1"
+rule_text N1 = codes "N1"
+
+-- the project that the files are, where they are told: they are this one and no other
+abbrev pub IsTheProjectOf : Option Files → Form → Project → Type 0
+IsTheProjectOf None form project = ⊤
+IsTheProjectOf (Some files) form project =
+    IsProject (given form files) project × ((other : Project) → IsProject (given form files) other → other ≡ project)
+
+-- ---- the script
+
+-- how much the script gave where it could not be read
+abbrev pub GivesNoScript : Text → ScriptFault → Type 0
+GivesNoScript given Failed = length given ≤ max_script
+GivesNoScript given TooLong = length given ≡ max_script + 1
+GivesNoScript given NoRoom = length given ≤ max_script + 1
+
+-- what a reading of the script answers where the script gave these bytes
+abbrev pub Gives : {A : Type 0} → Text → Result (Vec ℕ A) ScriptFault → Type 0
+Gives given (Ok bytes) = (bytes.items ≡ given) × (length given ≤ max_script)
+Gives given (Err fault) = GivesNoScript given fault
+
+-- ---- the course of a call
+
+-- a text of whole lines: it is empty, or its last byte is LF
+abbrev pub EndsLine : Text → Type 0
+EndsLine text = (text ≡ []) ⊎ ((before : Text) × (text ≡ before ++ 10 ∷ []))
+
+-- what came to be known of the project: nothing, its fault, or that it is accepted
+pub data Course : Type 0 where
+  unknown : Course
+  refused : (file rule : Text) → Course
+  accepted : (project : Project) → Course
+
+-- the files, where they are told, give the course
+abbrev pub IsCourse : Option Files → Form → Course → Type 0
+IsCourse files form unknown = ⊤
+IsCourse files form (refused file rule) = IsFaultOf files form file rule
+IsCourse files form (accepted project) = IsTheProjectOf files form project
+
+-- what is due where the script gave these bytes, and has ended or not; only the first 2^30 bytes count
+abbrev pub due : Course → Text → Bool → Text
+due unknown taken ended = []
+due (refused file rule) taken ended = project_fault file rule
+due (accepted project) taken ended = written project (take max_script taken) ended
+
+-- whether one of the lines is refused
+abbrev pub refuses : Course → Text → Bool
+refuses unknown taken = false
+refuses (refused file rule) taken = false
+refuses (accepted project) taken = has_refusal project taken
+
+-- the script is read only where the project is accepted
+abbrev pub IsReadIn : Course → Text → Type 0
+IsReadIn unknown taken = taken ≡ []
+IsReadIn (refused file rule) taken = taken ≡ []
+IsReadIn (accepted project) taken = ⊤
+
+-- what the script, which had `before` and has `after`, gave in a call that is answered so
+pub record Took (course : Course) (status : Status) (before after : Option Text) (taken : Text) (ended : Bool) : Type 0 where
+  pub is : before ≡ prepended taken after
+  pub read : IsReadIn course taken
+  pub end : IsTrue ended → IsAtEnd after
+  pub most : length taken ≤ max_script + 1
+  pub over : length taken ≡ max_script + 1 → (status ≡ ScriptTooLong) ⊎ ((status ≡ WriteFault) ⊎ (status ≡ NoMemory))
+  pub too_long : status ≡ ScriptTooLong → (length taken ≡ max_script + 1) × IsFalse ended
+  pub read_fault : status ≡ ReadFault → IsFalse ended
+  pub done : IsDone status → IsTrue ended
+
+-- which answers come in a course, each with what it comes by
+abbrev pub Answering : Course → Status → (vault script sink : Type 0) → Type 0
+Answering unknown status vault script sink = ((status ≡ ReadFault) × vault) ⊎ (status ≡ NoMemory)
+Answering (refused file rule) status vault script sink = (status ≡ ProjectRefused) ⊎ (((status ≡ WriteFault) × sink) ⊎ (status ≡ NoMemory))
+Answering (accepted project) status vault script sink =
+    IsDone status ⊎ (((status ≡ ReadFault) × script) ⊎ (((status ≡ WriteFault) × sink) ⊎ ((status ≡ NoMemory) ⊎ (status ≡ ScriptTooLong))))
+
+-- what is due was written whole
+abbrev pub IsWhole : Status → Type 0
+IsWhole status = IsDone status ⊎ (status ≡ ProjectRefused)
+
+-- the bytes that the script gave and the sink took in a call, and in how many calls at most
+pub record Ran (course : Course) (status : Status) (left left_now : Option Text) (reads reads_now : ℕ) (held held_now : Option Text) (puts puts_now : ℕ) : Type 0 where
+  pub taken : Text
+  pub ended : Bool
+  pub took : Took course status left left_now taken ended
+  pub reads_most : reads_now ≤ reads + length taken + 1
+  pub added : Text
+  pub adds : held_now ≡ appended held added
+  pub puts_most : puts_now ≤ puts + length added + 1
+  pub ends : (status ≡ WriteFault) ⊎ EndsLine added
+  pub more : Text
+  pub part : added ++ more ≡ due course taken ended
+  pub whole : IsWhole status → more ≡ []
+  pub refusals : IsDone status → (status ≡ DoneWithRefusals) ↔ IsTrue (refuses course taken)

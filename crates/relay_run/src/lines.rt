@@ -1,0 +1,119 @@
+//! Answering the lines of a script.
+ghost use Rattle.std.specs.Prelude.{◌≡◌, ◌⊎◌, ◌↔◌, ◌≤◌, ◌<◌, ◌+◌, ◌^◌, ◌++◌, ◌∷◌, ◌==◌, [], ℕ, List, true, length, take, IfOk, IfErr, OnErr, IsTrue};
+ghost use Rattle.std.specs.List.{position};
+ghost use Rattle.relay_io.specs.Causes.{Rose};
+ghost use Rattle.relay_io.specs.Streams.{appended};
+ghost use Rattle.relay_model.specs.Events.{max_line};
+ghost use Rattle.relay_model.specs.Machine as machine;
+ghost use Rattle.relay_model.specs.Machine.{State};
+ghost use Rattle.relay_model.specs.Script.{lines_of};
+ghost use Rattle.relay_run.specs.Answers.{EndsLine};
+ghost use Rattle.relay_run.specs.Output.{max_script, written, has_refusal, IsDone};
+ghost use Rattle.relay_run.specs.Shown.{project_shown};
+ghost use Rattle.relay_run.specs.Stands.{StandsFor};
+
+use crate::engine::Engine;
+use crate::project::Project;
+use crate::put::put_all;
+use crate::status::Status;
+use relay_io::Sink;
+use std::alloc::Global;
+
+/// The most bytes of a line that is looked at: 8 MiB.
+const MAX_LINE: usize = 1 << 23;
+
+/// Why the answering stops before the last line.
+#[derive(Clone, Copy, Debug, Drop)]
+pub enum Stop {
+    /// An answer could not be written whole.
+    WriteFault,
+    NoMemory,
+}
+
+/// Answers the lines of a script one after the other, and puts each answer as one piece.
+pub fn answer_lines<K: Sink>(alloc: Global, project: Project, script: &[u8], out: &mut K) -> Status
+    requires { length script.now ≤ max_script }
+    ensures added { (added : List ℕ) × (K.held out.new ≡ appended (K.held out.old) added)
+        × (K.calls out.new ≤ K.calls out.old + length added + 1)
+        × ((result ≡ Status.WriteFault) ⊎ EndsLine added)
+        × (more : List ℕ) × (added ++ more ≡ written (project_shown project) script.now true) × (IsDone result → more ≡ []) }
+    ensures refusals { IsDone result → ((result ≡ Status.DoneWithRefusals) ↔ IsTrue (has_refusal (project_shown project) script.now)) }
+    ensures form { IsDone result ⊎ ((result ≡ Status.WriteFault) ⊎ (result ≡ Status.NoMemory)) }
+    ensures write_fault { result ≡ Status.WriteFault → Rose (K.faults out.old) (K.faults out.new) }
+    ensures later { K.faults out.old ≤ K.faults out.new }
+{
+    let mut engine = Engine::new(alloc, project);
+    let mut rest = script;
+    let mut n = 1;
+    let mut refused = false;
+    'lines: while !rest.is_empty() {
+        let (line, after) = first_line(rest);
+        match answer_line(alloc, &mut engine, line, n, out) {
+            Ok(line_refused) => refused |= line_refused,
+            Err(Stop::WriteFault) => return Status::WriteFault,
+            Err(Stop::NoMemory) => return Status::NoMemory,
+        }
+        rest = after;
+        n += 1;
+    }
+    if refused {
+        Status::DoneWithRefusals
+    } else {
+        Status::Done
+    }
+}
+
+/// Answers the line with the number `n`, and tells whether it was refused.
+fn answer_line<K: Sink>(
+    alloc: Global,
+    engine: &mut Engine,
+    line: &[u8],
+    n: u64,
+    out: &mut K,
+) -> Result<bool, Stop>
+    requires { n < 2 ^ 63 }
+    ensures ok { IfOk result (λ refused. (p : machine.Project) (s : State) → StandsFor engine.old p s
+        → let step = machine.step p s n (take (max_line + 1) line.now) in
+        (refused ≡ step.refused) × StandsFor engine.new p step.state
+        × (K.held out.new ≡ appended (K.held out.old) step.text) × (K.calls out.new ≤ K.calls out.old + length step.text)) }
+    ensures err { IfErr result (λ stop. (p : machine.Project) (s : State) → StandsFor engine.old p s
+        → let step = machine.step p s n (take (max_line + 1) line.now) in
+        (k : ℕ) × (k ≤ length step.text) × (K.held out.new ≡ appended (K.held out.old) (take k step.text))
+        × (K.calls out.new ≤ K.calls out.old + k + 1) × (stop ≡ Stop.NoMemory → k ≡ 0)) }
+    ensures write_fault { result ≡ Err Stop.WriteFault → Rose (K.faults out.old) (K.faults out.new) }
+    ensures later { K.faults out.old ≤ K.faults out.new }
+{
+    let Ok(answer) = engine.step(alloc, cut(line), n) else {
+        return Err(Stop::NoMemory);
+    };
+    let Ok(()) = put_all(out, answer.text.as_str().as_bytes()) else {
+        return Err(Stop::WriteFault);
+    };
+    Ok(answer.refused)
+}
+
+/// As much of a line as is looked at: of one that is too long, a byte more than the most.
+fn cut(line: &[u8]) -> &[u8]
+    ensures { result.now ≡ take (max_line + 1) line.now }
+{
+    &line[..line.len().min(MAX_LINE + 1)]
+}
+
+/// The first line of some bytes without its LF, and the bytes after it.
+fn first_line(bytes: &[u8]) -> (&[u8], &[u8])
+    requires { 0 < length bytes.now }
+    ensures lines { lines_of bytes.now true ≡ result.0.now ∷ lines_of result.1.now true }
+    ensures shorter { length result.1.now < length bytes.now }
+{
+    match end_of_line(bytes) {
+        Some(end) => (&bytes[..end], &bytes[end + 1..]),
+        None => (bytes, &[]),
+    }
+}
+
+/// Where the first LF stands.
+fn end_of_line(bytes: &[u8]) -> Option<usize>
+    ensures { result ≡ position (λ b. b == 10) bytes.now }
+{
+    bytes.iter().position(|b| *b == b'\n')
+}

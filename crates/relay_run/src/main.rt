@@ -1,0 +1,91 @@
+//! A client of a GraphQL server: it compiles a project, and runs a script of events against its store.
+#![tactic(auto)]
+
+mod engine;
+mod event;
+mod files;
+mod lines;
+mod members;
+mod object_id;
+mod payload;
+mod printed;
+mod project;
+mod put;
+mod reading;
+mod records;
+mod refusal;
+mod said;
+mod schema;
+mod script;
+mod status;
+#[cfg(test)]
+mod tests;
+mod thin_document;
+mod thin_schema;
+mod thin_sets;
+#[cfg(test)]
+mod thin_tests;
+mod thin_tokens;
+mod thin_types;
+mod top;
+mod trace;
+mod words;
+
+use gql_plain::Counts;
+use relay_io::{FileVault, StdSink, StdSource};
+use status::Status;
+use std::process::ExitCode;
+use std::{env, io};
+use top::relay_top;
+
+const USAGE: &str = "usage: relay_run run B SCHEMA DOC.. | compile SCHEMA DOC.. | bulk SEED COUNT";
+
+fn main(rt: HostRuntime) -> ExitCode {
+    let status = match words_of(&rt) {
+        Ok(words) => run(&rt, &words),
+        Err(status) => status,
+    };
+    if status == Status::Usage {
+        let _ = eprintln!(rt; "{}", USAGE);
+    }
+    ExitCode::from(status.code())
+}
+
+// The arguments after the program's name. One that is not UTF-8 is no word.
+fn words_of(rt: &HostRuntime) -> Result<Vec<String>, Status> {
+    match env::args(rt) {
+        Ok(words) => {
+            let mut rest = Vec::new(rt.alloc());
+            'words: for word in words.skip(1) {
+                if rest.push(word).is_err() {
+                    return Err(Status::NoMemory);
+                }
+            }
+            Ok(rest)
+        }
+        Err(error) if error.kind() == io::ErrorKind::OutOfMemory => Err(Status::NoMemory),
+        Err(_) => Err(Status::Usage),
+    }
+}
+
+// Runs these words over files, standard input and standard output.
+fn run(rt: &HostRuntime, words: &[String]) -> Status {
+    let mut borrowed = Vec::new(rt.alloc());
+    'words: for word in words {
+        if borrowed.push(word.as_str()).is_err() {
+            return Status::NoMemory;
+        }
+    }
+    let mut vault = FileVault::new(rt);
+    let mut script = StdSource::new(rt.reader());
+    let mut out = StdSink::new(io::writer(rt));
+    let mut steps = Counts::new();
+    relay_top(
+        rt.alloc(),
+        &borrowed,
+        &mut vault,
+        &mut script,
+        &mut out,
+        &mut steps,
+    )
+}

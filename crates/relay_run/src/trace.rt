@@ -1,0 +1,43 @@
+//! What a read meets beside its data.
+ghost use Rattle.std.specs.Prelude.{◌≡◌, OnOk};
+ghost use Rattle.relay_model.specs.Read as model;
+ghost use Rattle.relay_run.specs.Reading.{trace_shown};
+
+use gql_plain::{NoMemory, Words};
+use std::alloc::Global;
+
+/// Whether something was missing, and the ids where it stood, in order, each as often as it did.
+#[derive(Drop)]
+pub struct Trace {
+    pub missing: bool,
+    pub seen: Vec<Words>,
+}
+
+impl Trace {
+    /// Nothing; takes no memory.
+    pub fn new(alloc: Global) -> Trace
+        ensures { trace_shown result ≡ model.still }
+    {
+        Trace {
+            missing: false,
+            seen: Vec::new(alloc),
+        }
+    }
+
+    /// Stands at an id.
+    #[tactic(auto, using(crate::proofs::ReadingLaws::traces))]
+    pub fn stand(&mut self, alloc: Global, id: &str) -> Result<(), NoMemory>
+        ensures { OnOk result (trace_shown self.new ≡ model.joined (trace_shown self.old) (model.standing id.now)) }
+    {
+        self.seen.push(Words::new(alloc, id)?)?;
+        Ok(())
+    }
+
+    /// Something is missing; takes no memory.
+    #[tactic(auto, using(crate::proofs::ReadingLaws::traces))]
+    pub fn lose(&mut self)
+        ensures { trace_shown self.new ≡ model.joined (trace_shown self.old) model.lost }
+    {
+        self.missing = true;
+    }
+}
