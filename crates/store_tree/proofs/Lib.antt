@@ -1,0 +1,4 @@
+pub mod Low
+pub mod Opened
+pub mod Order
+pub mod Sides

@@ -1,0 +1,43 @@
+-- A balanced tree is low: what `least` says of heights.
+use Rattle.std.proofs.Common.{◌≡◌, ℕ, zero, suc, ◌+◌, ◌*◌, ◌^◌, ◌<◌, ◌≤◌, max, inl, inr, ap, arith}
+use Rattle.std.proofs.lemmas.Bool.{cases_order}
+use Rattle.std.proofs.Math.Nat.{two-pow-succ}
+use Rattle.store_tree.specs.Heights.{least, DifferByAtMost}
+
+pub least-zero : least 0 ≡ 0
+unfolding least
+least-zero i = 0
+
+pub least-step : (h : ℕ) → least (suc (suc h)) ≡ least (suc h) + least h + 1
+unfolding least
+least-step h i = least (suc h) + least h + 1
+
+least-one : least 1 ≡ 1
+unfolding least
+least-one i = 1
+
+pub least-rises : (h : ℕ) → least h ≤ least (suc h)
+least-rises zero = omega (arith, least-zero, least-one)
+least-rises (suc h) = omega (arith, least-step h)
+
+-- a balanced tree of fewer than 2 ^ d nodes is at most 2 * d high
+pub low : (d h n : ℕ) → least h ≤ n → n < 2 ^ d → h ≤ 2 * d
+low d zero n p q = omega arith
+low zero (suc zero) n p q = omega (arith, least-one)
+low zero (suc (suc h)) n p q = omega (arith, least-step h, least-rises h)
+low (suc d) (suc zero) n p q = omega arith
+low (suc d) (suc (suc h)) n p q =
+    omega (arith, low d h (least h) (omega arith) (omega (arith, two-pow-succ d, least-step h, least-rises h)))
+
+least-level : (n : ℕ) → least (suc n) ≤ least n + least n + 1
+least-level zero = omega (arith, least-zero, least-one)
+least-level (suc n) = omega (arith, least-step n, least-rises n)
+
+-- two sides and their node
+pub least-fork : (l r a b : ℕ) → DifferByAtMost 1 l r → least l ≤ a → least r ≤ b → least (max l r + 1) ≤ a + b + 1
+least-fork l r a b d p q =
+    elim (cases_order l r) [
+      | inl same ↦ let e : max l r + 1 ≡ suc r = omega arith in let f : l ≡ r = omega arith in rw e (omega (arith, least-level r, ap least f))
+      | inr (inl less) ↦ let e : max l r + 1 ≡ suc (suc l) = omega arith in let f : r ≡ suc l = omega arith in rw e (omega (arith, least-step l, ap least f))
+      | inr (inr more) ↦ let e : max l r + 1 ≡ suc (suc r) = omega arith in let f : l ≡ suc r = omega arith in rw e (omega (arith, least-step r, ap least f))
+    ]

@@ -1,0 +1,1 @@
+//! A branch with one entry put in or taken out.

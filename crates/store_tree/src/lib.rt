@@ -1,0 +1,6 @@
+//! A persistent balanced tree from text to shared values.
+#![tactic(auto)]
+
+mod balance;
+mod branch;
+mod change;
