@@ -72,6 +72,7 @@ impl<V: Drop> Branch<V> {
         ensures height { result ≡ self.now.height }
         ensures low { result ≤ 128 }
         ensures enough { least result ≤ length self.now.pairs }
+        ensures none { result ≡ 0 → self.now.pairs ≡ [] }
     {
         match &self.link {
             Some(node) => node.height,
