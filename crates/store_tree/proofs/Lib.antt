@@ -1,3 +1,4 @@
+pub mod Kept
 pub mod Low
 pub mod Opened
 pub mod Order

@@ -1,8 +1,14 @@
 -- A balanced tree is low: what `least` says of heights.
-use Rattle.std.proofs.Common.{◌≡◌, ℕ, zero, suc, ◌+◌, ◌*◌, ◌^◌, ◌<◌, ◌≤◌, max, inl, inr, ap, arith}
-use Rattle.std.proofs.lemmas.Bool.{cases_order}
+use Rattle.std.proofs.Common.{◌≡◌, ℕ, zero, suc, ◌+◌, ◌*◌, ◌/◌, ◌^◌, ◌<◌, ◌≤◌, true, false, max, length, Option, Some, None, inl, inr, refl, ap, subst, add-one, arith}
+use Rattle.std.specs.Prelude.{nat_eq}
+use Rattle.std.specs.declared.rc.Rc.{Rc}
+use Rattle.std.specs.declared.alloc.Global.{Global}
+use Rattle.std.proofs.lemmas.Bool.{cases_order, eqb-true, eqb-false}
 use Rattle.std.proofs.Math.Nat.{two-pow-succ}
+use Rattle.store_tree.specs.Contents.{Contents, binary_digits, halvings}
 use Rattle.store_tree.specs.Heights.{least, DifferByAtMost}
+use Rattle.store_tree.specs.Shape.{contents_of, IsBalanced}
+use Rattle.store_tree.specs.declared.branch.Node.{Node}
 
 pub least-zero : least 0 ≡ 0
 unfolding least
@@ -41,3 +47,25 @@ least-fork l r a b d p q =
       | inr (inl less) ↦ let e : max l r + 1 ≡ suc (suc l) = omega arith in let f : r ≡ suc l = omega arith in rw e (omega (arith, least-step l, ap least f))
       | inr (inr more) ↦ let e : max l r + 1 ≡ suc (suc r) = omega arith in let f : l ≡ suc r = omega arith in rw e (omega (arith, least-step r, ap least f))
     ]
+
+enough_halvings : (most n : ℕ) → n ≤ most → n < 2 ^ halvings most n
+enough_halvings zero n p = omega arith
+enough_halvings (suc most) n p =
+    elim (nat_eq n 0) as (λ b. nat_eq n 0 ≡ b → n < 2 ^ elim b as (λ _. ℕ) [ true ↦ 0 | false ↦ halvings most (n / 2) + 1 ]) [
+      | true ↦ λ e. let z = eqb-true n 0 e in omega arith
+      | false ↦ λ e.
+          let z = eqb-false n 0 e in
+          let less : n / 2 < 2 ^ halvings most (n / 2) = enough_halvings most (n / 2) (omega arith) in
+          rw (add-one (halvings most (n / 2))) (omega (arith, two-pow-succ (halvings most (n / 2))))
+    ] refl
+
+pub below-binary_digits : (n : ℕ) → n < 2 ^ binary_digits n
+unfolding binary_digits
+below-binary_digits n = enough_halvings n n (omega arith)
+
+pub low-opened : {V : Type 0} (link : Option (Rc (Node V) Global)) (d : Contents V) → IsBalanced link → contents_of link ≡ d → d.height ≤ 2 * binary_digits (length d.pairs)
+low-opened None d p q = subst (λ x. x.height ≤ 2 * binary_digits (length x.pairs)) q (omega arith)
+low-opened (Some n) d p q =
+    subst (λ x. x.height ≤ 2 * binary_digits (length x.pairs)) q
+    (let counted : n.value.count ≡ length (contents_of (Some n)).pairs = p.2 in
+    low _ n.value.height n.value.count p.3 (rw counted (below-binary_digits _)))

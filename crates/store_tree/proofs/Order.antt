@@ -1,6 +1,8 @@
 -- Pairs in the order of their keys, around one of them: what `find`, `put` and `where_key` do on either side.
 use Rattle.std.proofs.Common.{◌≡◌, ℕ, Bool, true, false, cond, T, List, [], ◌∷◌, ◌++◌, Option, Some, None, refl, sym, ap, ◌∙◌, subst}
-use Rattle.std.specs.Prelude.{not, ◌&&◌}
+use Rattle.std.specs.Prelude.{not, ◌&&◌, map}
+use Rattle.std.specs.List.{AllByRecursion}
+use Rattle.std.specs.List.Sorted.{IsStrictlySortedBy}
 use Rattle.std.specs.declared.cmp.Ordering.{Ordering}
 use Rattle.std.specs.declared.cmp.Ordering.TheVariants.{Less, Equal, Greater}
 use Rattle.std.specs.Ordering.{is_lt, is_eq, ordering_reverse, eq_by_cmp}
@@ -155,3 +157,12 @@ module _ {K X : Type 0} {R : K → K → Ordering} (o : IsTotalOrder R) where
       without-passes k l (e ∷ r) (passes_before k l e r p h)
       ∙ ap (λ t. l ++ cond (not (is_eq t)) (e ∷ where_key R (others R k) r) (where_key R (others R k) r)) p
       ∙ ap (λ t. l ++ t) (without-precedes k r (precedes_after k l e r p h))
+
+below_each : {K X : Type 0} (R : K → K → Ordering) (k : K) (es : List (K × X)) → T (below_all R k es) → AllByRecursion (λ x. R k x ≡ Less) (map (λ e. e.0) es)
+below_each R k [] h = tt
+below_each R k (e ∷ es) h = (less _ (first _ _ h), below_each R k es (second _ _ h))
+
+pub keys_rise : {K X : Type 0} (R : K → K → Ordering) (es : List (K × X)) → T (is_sorted R es) → IsStrictlySortedBy R (map (λ e. e.0) es)
+unfolding IsStrictlySortedBy
+keys_rise R [] h = tt
+keys_rise R (e ∷ es) h = (below_each R e.0 es (first _ _ h), keys_rise R es (second _ _ h))

@@ -1,13 +1,21 @@
 -- What a tree holds, as contracts see it.
-use Rattle.std.specs.Prelude.{ℕ, zero, suc, ◌+◌, ◌/◌, true, false, not, List, nat_eq}
+use Rattle.std.specs.Prelude.{ℕ, zero, suc, ◌+◌, ◌/◌, true, false, not, T, List, map, nat_eq}
 use Rattle.std.specs.Ordering.{nat_cmp, eq_by_cmp}
 use Rattle.std.specs.Cmp.Lexicographic.{slice_cmp}
-use Rattle.std.specs.FinMap.Entries.{where_key}
+use Rattle.std.specs.FinMap.Entries.{where_key, is_sorted}
 
 -- the pairs of key and value, and the height: the number of nodes on a longest way down
 pub record Contents (V : Type 0) : Type 0 where
   pub pairs : List (List ℕ × V)
   pub height : ℕ
+
+-- each key is below those after it, by bytes
+abbrev pub KeysRise : {V : Type 0} → List (List ℕ × V) → Type 0
+KeysRise pairs = T (is_sorted (slice_cmp nat_cmp) pairs)
+
+-- the keys, in order
+abbrev pub keys_of : {V : Type 0} → List (List ℕ × V) → List (List ℕ)
+keys_of pairs = map (λ pair. pair.0) pairs
 
 -- the pairs whose key is not this one
 abbrev pub without_key : {V : Type 0} → List ℕ → List (List ℕ × V) → List (List ℕ × V)

@@ -1,11 +1,11 @@
 //! The nodes of the tree, which are shared between versions and never change.
-ghost use Rattle.std.specs.Prelude.{◌≡◌, ◌+◌, ◌^◌, ◌<◌, ◌≤◌, max, [], ◌∷◌, ◌++◌, length, IfOk, IfSome, T};
+ghost use Rattle.std.specs.Prelude.{◌≡◌, ◌+◌, ◌^◌, ◌<◌, ◌≤◌, max, [], ◌∷◌, ◌++◌, length, IfOk, IfSome, OnOk, T};
 ghost use Rattle.std.specs.Cmp.Lexicographic.{slice_cmp};
 ghost use Rattle.std.specs.FinMap.{find, is_sorted};
 ghost use Rattle.std.specs.Option.{option_copied};
 ghost use Rattle.std.specs.Ordering.{nat_cmp};
 ghost use Rattle.gql_plain.specs.Counted.{next_count};
-ghost use Rattle.store_tree.specs.Contents.{Contents};
+ghost use Rattle.store_tree.specs.Contents.{Contents, keys_of};
 ghost use Rattle.store_tree.specs.Heights.{least, DifferByAtMost};
 ghost use Rattle.store_tree.specs.Shape.{pair_of};
 
@@ -115,6 +115,18 @@ impl<V: Drop> Branch<V> {
             Ordering::Equal => Some(node.entry.value.as_ref()),
             Ordering::Greater => node.right.get(key),
         }
+    }
+
+    /// Puts the keys in order to the end of a list.
+    pub(crate) fn add_keys(&self, keys: &mut Vec<Words>) -> Result<(), NoMemory>
+        ensures { OnOk result (keys.new.items ≡ keys.old.items ++ keys_of self.now.pairs) }
+    {
+        let Some(node) = &self.link else {
+            return Ok(());
+        };
+        node.left.add_keys(keys)?;
+        keys.push(node.entry.key.copy()?)?;
+        node.right.add_keys(keys)
     }
 }
 

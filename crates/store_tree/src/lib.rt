@@ -4,3 +4,6 @@
 mod balance;
 mod branch;
 mod change;
+pub mod tree;
+
+pub use tree::Tree;
