@@ -1,3 +1,4 @@
+pub mod AsMap
 pub mod Kept
 pub mod Low
 pub mod Opened

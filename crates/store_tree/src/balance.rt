@@ -58,7 +58,15 @@ fn rotate_right<V: Drop, C: Steps>(
     let Some(middle) = &inner.link else {
         unreachable!()
     };
-    part(alloc, outer.share()?, share(&node.entry)?, middle, entry, right, steps)
+    part(
+        alloc,
+        outer.share()?,
+        share(&node.entry)?,
+        middle,
+        entry,
+        right,
+        steps,
+    )
 }
 
 /// An entry between two sides of which the right is two levels higher, in balance.
@@ -87,7 +95,15 @@ fn rotate_left<V: Drop, C: Steps>(
     let Some(middle) = &inner.link else {
         unreachable!()
     };
-    part(alloc, left, entry, middle, share(&node.entry)?, outer.share()?, steps)
+    part(
+        alloc,
+        left,
+        entry,
+        middle,
+        share(&node.entry)?,
+        outer.share()?,
+        steps,
+    )
 }
 
 /// A node that is parted between the two beside it, its own entry above them.

@@ -7,3 +7,6 @@ mod change;
 pub mod tree;
 
 pub use tree::Tree;
+
+#[cfg(test)]
+mod tests;

@@ -1,5 +1,4 @@
-use Rattle.std.proofs.Common.{◌≡◌, ◌+◌, ◌^◌, ◌<◌, ◌≤◌, ◌++◌, ◌∷◌, max, length, length-append, arith}
-use Rattle.store_tree.specs.Heights.{least}
+use Rattle.std.proofs.Common.{◌≡◌, max, length-append, arith}
 use Rattle.store_tree.proofs.Low.{least-fork}
 use Rattle.store_tree.proofs.branch.fork.Goals as goal
 

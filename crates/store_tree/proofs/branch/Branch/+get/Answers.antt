@@ -1,4 +1,4 @@
-use Rattle.std.proofs.Common.{◌≡◌, ◌<◌, T, ◌∙◌, arith}
+use Rattle.std.proofs.Common.{◌≡◌, T, arith}
 use Rattle.std.specs.FinMap.{is_sorted}
 use Rattle.std.specs.Cmp.Lexicographic.{slice_cmp}
 use Rattle.std.specs.Ordering.{nat_cmp}

@@ -1,4 +1,4 @@
-use Rattle.std.proofs.Common.{◌<◌, ◌^◌, ◌≤◌, arith, subst}
+use Rattle.std.proofs.Common.{arith, subst}
 use Rattle.store_tree.specs.Shape.{IsBalanced}
 use Rattle.store_tree.proofs.Low.{least-zero, low}
 use Rattle.store_tree.proofs.branch.Branch.height.Goals as goal

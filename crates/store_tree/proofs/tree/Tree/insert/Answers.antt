@@ -1,8 +1,7 @@
-use Rattle.std.proofs.Common.{◌≡◌, ◌*◌, ◌≤◌, length, sym, ◌∙◌, subst, arith}
+use Rattle.std.proofs.Common.{◌≡◌, ◌∙◌, arith}
 use Rattle.std.specs.FinMap.{put}
 use Rattle.std.specs.Cmp.Lexicographic.{slice_cmp}
 use Rattle.std.specs.Ordering.{nat_cmp}
-use Rattle.store_tree.specs.Contents.{KeysRise, binary_digits}
 use Rattle.store_tree.proofs.Kept.{KeysRise-put}
 use Rattle.store_tree.proofs.Low.{low-opened}
 use Rattle.store_tree.proofs.tree.Tree.insert.Goals as goal

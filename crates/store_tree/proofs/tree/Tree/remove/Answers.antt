@@ -1,7 +1,5 @@
-use Rattle.std.proofs.Common.{◌≡◌, ◌*◌, ◌≤◌, length, sym, ◌∙◌, subst, arith}
-use Rattle.std.specs.Cmp.Lexicographic.{slice_cmp}
-use Rattle.std.specs.Ordering.{nat_cmp}
-use Rattle.store_tree.specs.Contents.{KeysRise, binary_digits, without_key}
+use Rattle.std.proofs.Common.{◌≡◌, ◌∙◌, arith}
+use Rattle.store_tree.specs.Contents.{without_key}
 use Rattle.store_tree.proofs.Kept.{KeysRise-without_key}
 use Rattle.store_tree.proofs.Low.{low-opened}
 use Rattle.store_tree.proofs.tree.Tree.remove.Goals as goal
