@@ -8,6 +8,3 @@ use Rattle.store_tree.specs.declared.branch.Node.{Node}
 
 pub pairs-opened : {V : Type 0} (link : Option (Rc (Node V) Global)) (n : Rc (Node V) Global) (d : Contents V) → link ≡ Some n → contents_of link ≡ d → d.pairs ≡ n.value.left.pairs ++ pair_of n.value.entry.value ∷ n.value.right.pairs
 pairs-opened link n d p q = ap (λ x. x.pairs) (sym q) ∙ ap (λ o. (contents_of o).pairs) p
-
-pub height-opened : {V : Type 0} (link : Option (Rc (Node V) Global)) (n : Rc (Node V) Global) (d : Contents V) → link ≡ Some n → contents_of link ≡ d → d.height ≡ n.value.height
-height-opened link n d p q = ap (λ x. x.height) (sym q) ∙ ap (λ o. (contents_of o).height) p
