@@ -1,0 +1,178 @@
+//! The nodes of the tree, which are shared between versions and never change.
+ghost use Rattle.std.specs.Prelude.{◌≡◌, ◌+◌, ◌^◌, ◌<◌, ◌≤◌, max, [], ◌∷◌, ◌++◌, length, IfOk, IfSome, OnOk, T};
+ghost use Rattle.std.specs.Cmp.Lexicographic.{slice_cmp};
+ghost use Rattle.std.specs.FinMap.{find, is_sorted};
+ghost use Rattle.std.specs.Option.{option_copied};
+ghost use Rattle.std.specs.Ordering.{nat_cmp};
+ghost use Rattle.gql_plain.specs.Counted.{next_count};
+ghost use Rattle.store_tree.specs.Contents.{Contents, keys_of};
+ghost use Rattle.store_tree.specs.Heights.{least, DifferByAtMost};
+ghost use Rattle.store_tree.specs.Shape.{pair_of};
+
+use gql_plain::{NoMemory, Steps, Words};
+use std::alloc::Global;
+use std::cmp::Ordering;
+use std::marker::Model;
+use std::rc::Rc;
+
+/// A key with its value, shared whole.
+#[derive(Drop)]
+pub(crate) struct Entry<V> {
+    pub(crate) key: Words,
+    pub(crate) value: Rc<V>,
+}
+
+/// A part of the tree, which may be empty.
+#[cycle(branch)]
+#[derive(Drop)]
+pub(crate) struct Branch<V> {
+    pub(crate) link: Option<Rc<Node<V>>>,
+}
+
+/// An entry between the entries before it and those after it.
+#[cycle(branch)]
+#[derive(Drop)]
+pub(crate) struct Node<V> {
+    pub(crate) left: Branch<V>,
+    pub(crate) entry: Rc<Entry<V>>,
+    pub(crate) right: Branch<V>,
+    pub(crate) count: u64,
+    pub(crate) height: u64,
+}
+
+impl<V> Model for Branch<V> {
+    ghost use Rattle.std.specs.Prelude.{length};
+    ghost use Rattle.store_tree.specs.Contents.{Contents};
+
+    ghost Value = { Contents V };
+
+    ghost use Rattle.store_tree.specs.Shape.{contents_of, IsBalanced};
+
+    ghost view = { λ b. contents_of b.link };
+
+    ghost invariant = { λ b. IsBalanced b.link };
+
+    ghost size = { λ d. length d.pairs };
+
+    ghost use Rattle.std.proofs.Common.{arith, length-append};
+
+    ghost size_decreases = { λ a h. Prim.grind (arith, length-append) };
+}
+
+impl<V: Drop> Branch<V> {
+    /// No entry; takes no memory.
+    pub(crate) fn empty() -> Branch<V>
+        ensures { result ≡ record { pairs = []; height = 0 } }
+    {
+        Branch { link: None }
+    }
+
+    /// The number of nodes on a longest way down; takes no memory.
+    pub(crate) fn height(&self) -> u64
+        ensures height { result ≡ self.now.height }
+        ensures low { result ≤ 128 }
+        ensures enough { least result ≤ length self.now.pairs }
+        ensures none { result ≡ 0 → self.now.pairs ≡ [] }
+    {
+        match &self.link {
+            Some(node) => node.height,
+            None => 0,
+        }
+    }
+
+    /// The number of entries; takes no memory.
+    pub(crate) fn count(&self) -> u64
+        ensures { result ≡ length self.now.pairs }
+    {
+        match &self.link {
+            Some(node) => node.count,
+            None => 0,
+        }
+    }
+
+    /// The same nodes once more, in constant time.
+    pub(crate) fn share(&self) -> Result<Branch<V>, NoMemory>
+        ensures { IfOk result (λ b. b ≡ self.now) }
+    {
+        match &self.link {
+            Some(node) => Ok(Branch {
+                link: Some(node.clone()?),
+            }),
+            None => Ok(Branch::empty()),
+        }
+    }
+
+    /// The value at the key; takes no memory.
+    pub(crate) fn get(&self, key: &str) -> Option<&V>
+        requires { T (is_sorted (slice_cmp nat_cmp) self.now.pairs) }
+        ensures { option_copied result ≡ find (slice_cmp nat_cmp) key.now self.now.pairs }
+    {
+        let Some(node) = &self.link else {
+            return None;
+        };
+        match key.cmp(node.entry.key.as_str()) {
+            Ordering::Less => node.left.get(key),
+            Ordering::Equal => Some(node.entry.value.as_ref()),
+            Ordering::Greater => node.right.get(key),
+        }
+    }
+
+    /// Puts the keys in order to the end of a list.
+    pub(crate) fn add_keys(&self, keys: &mut Vec<Words>) -> Result<(), NoMemory>
+        ensures { OnOk result (keys.new.items ≡ keys.old.items ++ keys_of self.now.pairs) }
+    {
+        let Some(node) = &self.link else {
+            return Ok(());
+        };
+        node.left.add_keys(keys)?;
+        keys.push(node.entry.key.copy()?)?;
+        node.right.add_keys(keys)
+    }
+}
+
+/// The same entry once more, in constant time.
+pub(crate) fn share<V: Drop>(entry: &Rc<Entry<V>>) -> Result<Rc<Entry<V>>, NoMemory>
+    ensures { IfOk result (λ e. e.value ≡ entry.now.value) }
+{
+    Ok(entry.clone()?)
+}
+
+/// A new node: an entry between the entries before it and those after it.
+pub(crate) fn fork<V: Drop, C: Steps>(
+    alloc: Global,
+    left: Branch<V>,
+    entry: Rc<Entry<V>>,
+    right: Branch<V>,
+    steps: &mut C,
+) -> Result<Branch<V>, NoMemory>
+    requires { DifferByAtMost 1 left.height right.height }
+    ensures pairs { IfOk result (λ b. b.pairs ≡ left.pairs ++ pair_of entry.value ∷ right.pairs) }
+    ensures height { IfOk result (λ b. b.height ≡ max left.height right.height + 1) }
+    ensures looks { C.looks steps.new ≡ C.looks steps.old }
+    ensures applies { C.applies steps.new ≡ C.applies steps.old }
+    ensures nodes { C.nodes steps.new ≡ next_count (C.nodes steps.old) }
+{
+    steps.node();
+    let height = left.height().max(right.height()) + 1;
+    let Some(count) = one_more_than(left.count(), right.count()) else {
+        return Err(NoMemory);
+    };
+    let node = Node {
+        left,
+        entry,
+        right,
+        count,
+        height,
+    };
+    Ok(Branch {
+        link: Some(Rc::new(alloc, node)?),
+    })
+}
+
+/// The sum and one more, if 64 bits hold it.
+fn one_more_than(left: u64, right: u64) -> Option<u64>
+    ensures sum { IfSome result (λ n. n ≡ left + right + 1) }
+    ensures fits { IfSome result (λ n. n < 2 ^ 64) }
+{
+    left.checked_add(right)?.checked_add(1)
+}

@@ -1,0 +1,12 @@
+//! A persistent balanced tree from text to shared values.
+#![tactic(auto)]
+
+mod balance;
+mod branch;
+mod change;
+pub mod tree;
+
+pub use tree::Tree;
+
+#[cfg(test)]
+mod tests;

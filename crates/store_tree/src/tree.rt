@@ -1,0 +1,135 @@
+//! The tree: a map from text whose versions share their nodes.
+ghost use Rattle.std.specs.Prelude.{◌≡◌, ◌+◌, ◌*◌, ◌≤◌, [], length, map, IfOk};
+ghost use Rattle.std.specs.Cmp.Lexicographic.{slice_cmp};
+ghost use Rattle.std.specs.FinMap.{find, put};
+ghost use Rattle.std.specs.Option.{option_copied};
+ghost use Rattle.std.specs.Ordering.{nat_cmp};
+ghost use Rattle.store_tree.specs.Contents.{Contents, KeysRise, binary_digits, keys_of, without_key};
+
+use crate::branch::{Branch, Entry};
+use crate::change::{with_entry, without_entry};
+use gql_plain::{Ids, NoMemory, Steps, Words};
+use std::alloc::Global;
+use std::marker::Model;
+use std::rc::Rc;
+
+/// A map from text to shared values, seen as its pairs in the byte order of the keys, and its
+/// height.
+///
+/// A tree never changes: `insert` and `remove` give a new version, which shares with the old one
+/// all nodes but those on the way to the key. Each node made is counted by `Steps::node`.
+#[derive(Drop)]
+pub struct Tree<V> {
+    root: Branch<V>,
+}
+
+impl<V> Model for Tree<V> {
+    ghost use Rattle.store_tree.specs.Contents.{Contents, KeysRise};
+
+    ghost Value = { Contents V };
+
+    ghost view = { λ t. t.root };
+
+    ghost invariant = { λ t. KeysRise t.root.pairs };
+}
+
+impl<V: Drop> Tree<V> {
+    /// The empty map; takes no memory.
+    pub fn new() -> Tree<V>
+        ensures { result ≡ record { pairs = []; height = 0 } }
+    {
+        Tree {
+            root: Branch::empty(),
+        }
+    }
+
+    /// The number of pairs, in constant time; takes no memory. The height is at most twice the
+    /// number of its binary digits.
+    pub fn len(&self) -> u64
+        ensures len { result ≡ length self.now.pairs }
+        ensures in_order { KeysRise self.now.pairs }
+        ensures low { self.now.height ≤ 2 * binary_digits (length self.now.pairs) }
+    {
+        let root = &self.root;
+        let _ = &root.link;
+        root.count()
+    }
+
+    /// The value at the key; takes no memory.
+    pub fn get(&self, key: &str) -> Option<&V>
+        ensures found { option_copied result ≡ find (slice_cmp nat_cmp) key.now self.now.pairs }
+        ensures in_order { KeysRise self.now.pairs }
+    {
+        self.root.get(key)
+    }
+
+    /// An equal tree that shares the nodes, in constant time.
+    pub fn version(&self) -> Result<Tree<V>, NoMemory>
+        ensures same { IfOk result (λ t. t ≡ self.now) }
+        ensures in_order { KeysRise self.now.pairs }
+    {
+        Ok(Tree {
+            root: self.root.share()?,
+        })
+    }
+
+    /// The map with the value at the key, in place of one that stands there.
+    ///
+    /// `nodes` rises by at most `8 * (h + 1)`, where `h` is the height before.
+    pub fn insert<C: Steps>(
+        &self,
+        alloc: Global,
+        key: Words,
+        value: Rc<V>,
+        steps: &mut C,
+    ) -> Result<Tree<V>, NoMemory>
+        ensures pairs { IfOk result (λ t. t.pairs ≡ put (slice_cmp nat_cmp) key value.value self.now.pairs) }
+        ensures in_order { KeysRise self.now.pairs }
+        ensures looks { C.looks steps.new ≡ C.looks steps.old }
+        ensures applies { C.applies steps.new ≡ C.applies steps.old }
+        ensures nodes { C.nodes steps.new ≤ C.nodes steps.old + 8 * (self.now.height + 1) }
+        ensures bound { C.nodes steps.new ≤ C.nodes steps.old
+            + 8 * (2 * binary_digits (length self.now.pairs) + 1) }
+    {
+        let root = &self.root;
+        let _ = &root.link;
+        let entry = Rc::new(alloc, Entry { key, value })?;
+        Ok(Tree {
+            root: with_entry(alloc, root, entry, steps)?,
+        })
+    }
+
+    /// The map without the key.
+    ///
+    /// `nodes` rises by at most `8 * (h + 1)`, where `h` is the height before.
+    pub fn remove<C: Steps>(
+        &self,
+        alloc: Global,
+        key: &str,
+        steps: &mut C,
+    ) -> Result<Tree<V>, NoMemory>
+        ensures pairs { IfOk result (λ t. t.pairs ≡ without_key key.now self.now.pairs) }
+        ensures in_order { KeysRise self.now.pairs }
+        ensures looks { C.looks steps.new ≡ C.looks steps.old }
+        ensures applies { C.applies steps.new ≡ C.applies steps.old }
+        ensures nodes { C.nodes steps.new ≤ C.nodes steps.old + 8 * (self.now.height + 1) }
+        ensures bound { C.nodes steps.new ≤ C.nodes steps.old
+            + 8 * (2 * binary_digits (length self.now.pairs) + 1) }
+    {
+        let root = &self.root;
+        let _ = &root.link;
+        Ok(Tree {
+            root: without_entry(alloc, root, key, steps)?,
+        })
+    }
+
+    /// The keys in byte order.
+    pub fn keys(&self, alloc: Global) -> Result<Ids, NoMemory>
+        ensures keys { IfOk result (λ ids. ids ≡ keys_of self.now.pairs) }
+        ensures in_order { KeysRise self.now.pairs }
+    {
+        let mut items = Vec::new(alloc);
+        self.root.add_keys(&mut items)?;
+        Ok(Ids { items })
+    }
+}
