@@ -1,5 +1,5 @@
 //! Places in a text.
-ghost use Rattle.std.specs.Prelude.{◌≡◌, ◌<◌, ◌-◌, ◌^◌, length, IsCharBoundary};
+ghost use Rattle.std.specs.Prelude.{◌≡◌, ◌<◌, ◌-◌, ◌^◌, ◌≤◌, chars, length, IsCharBoundary};
 ghost use Rattle.gql_lex.specs.Lines.{place_at};
 
 use crate::bytes::ends_line;
@@ -21,9 +21,17 @@ pub fn place(text: &str, at: usize) -> Place
             start = i + 1;
         }
     }
-    let column = text[start..at].chars().count();
+    let column = char_count(&text[start..at]);
     Place {
         line,
         column: column as u32 + 1,
     }
+}
+
+/// How many characters a text has.
+fn char_count(text: &str) -> usize
+    ensures count { result ≡ length (chars text.now) }
+    ensures within { result ≤ length text.now }
+{
+    text.chars().count()
 }
