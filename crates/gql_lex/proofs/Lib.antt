@@ -1,2 +1,7 @@
-mod Examples
+pub mod Digits
 pub mod Ends
+pub mod Escapes
+mod Examples
+pub mod Extents
+pub mod Reading
+pub mod Skips

@@ -1,4 +1,6 @@
+pub mod Answers
 pub mod Characters
+pub mod Codes
 pub mod Heads
 pub mod Lines
 pub mod Numbers

@@ -28,7 +28,7 @@ read_head (Wrong code ahead) at bs rest = faulty code (at + ahead)
 unfoldable pub read : (inside at : ℕ) → List ℕ → Source
 read n at [] = ended
 read (suc n) at (c ∷ cs) = read n (at + 1) cs
-read zero at (c ∷ cs) = read_head (head c cs) at (c ∷ cs) (λ n. read n (at + 1) cs)
+read zero at (c ∷ cs) = read_head (head (c ∷ cs)) at (c ∷ cs) (λ n. read n (at + 1) cs)
 
 -- what the bytes from the offset `at` on hold
 abbrev pub lexed : (at : ℕ) → List ℕ → Source

@@ -1,8 +1,8 @@
 -- Where a string ends (GraphQL, October 2021, section 2.9.4). `Ok n`: with the first n of these bytes. `Err`: the fault,
 -- the first from left to right. The first `inside` bytes belong to what was read already.
-use Rattle.std.specs.Prelude.{ℕ, zero, suc, ◌+◌, ◌*◌, Bool, cond, ◌&&◌, ◌||◌, ◌==◌, nat_lt, List, [], ◌∷◌, slice_index, Result, Ok, Err}
+use Rattle.std.specs.Prelude.{◌≡◌, ◌<◌, ◌≤◌, Option, MatchOption, MatchResult, ℕ, zero, suc, ◌+◌, ◌*◌, Bool, cond, ◌&&◌, ◌||◌, ◌==◌, nat_lt, List, [], ◌∷◌, drop, slice_index, Result, Ok, Err}
 use Rattle.std.specs.Char.{digit_value}
-use Rattle.gql_lex.specs.Characters.{quote, backslash, is_within, may_stand, is_line_end}
+use Rattle.gql_lex.specs.Characters.{quote, backslash, is_within, may_stand, may_stand_in_block, is_three_quotes, is_escaped_quotes}
 
 abbrev pub bad_char : ℕ
 bad_char = 1
@@ -48,10 +48,11 @@ is_surrogate c = is_within 0xD800 0xDFFF c
 
 -- how many bytes the escape has behind its backslash
 unfoldable pub escape_len : List ℕ → Result ℕ ℕ
-escape_len [] = Err bad_string
-escape_len (c ∷ cs) =
-    cond (is_simple_escape c) (Ok 1)
-    (cond ((c == 117) && is_four_hex cs) (cond (is_surrogate (code_of_hex cs)) (Err surrogate) (Ok 5)) (Err bad_string))
+escape_len bs =
+    cond (is_simple_escape (slice_index bs 0)) (Ok 1)
+    (cond ((slice_index bs 0 == 117) && is_four_hex (drop 1 bs))
+        (cond (is_surrogate (code_of_hex (drop 1 bs))) (Err surrogate) (Ok 5))
+        (Err bad_string))
 
 -- ---- a Text, behind its first quote
 
@@ -66,15 +67,20 @@ text_end zero (c ∷ cs) = text_step c cs (λ n. further 1 (text_end n cs))
 
 -- ---- a Block, behind its first three quotes
 
-abbrev pub is_three_quotes : List ℕ → Bool
-is_three_quotes bs = (slice_index bs 0 == quote) && (slice_index bs 1 == quote) && (slice_index bs 2 == quote)
-
 abbrev pub block_step : ℕ → List ℕ → (ℕ → Result ℕ ℕ) → Result ℕ ℕ
 block_step c cs next =
     cond (is_three_quotes (c ∷ cs)) (Ok 3)
-    (cond ((c == backslash) && is_three_quotes cs) (next 3) (cond (may_stand c || is_line_end c) (next 0) (Err bad_string)))
+    (cond (is_escaped_quotes (c ∷ cs)) (next 3) (cond (may_stand_in_block c) (next 0) (Err bad_string)))
 
 unfoldable pub block_end : (inside : ℕ) → List ℕ → Result ℕ ℕ
 block_end n [] = Err bad_string
 block_end (suc n) (c ∷ cs) = further 1 (block_end n cs)
 block_end zero (c ∷ cs) = block_step c cs (λ n. further 1 (block_end n cs))
+
+-- ---- one step: what a string's end says of its bytes, where a step reads the first n of them, or the string's last n
+
+abbrev pub GoesOn : (List ℕ → Result ℕ ℕ) → List ℕ → ℕ → Type 0
+GoesOn end bs n = (0 < n) × (n ≤ 6) × (end bs ≡ further n (end (drop n bs)))
+
+abbrev pub IsStep : (List ℕ → Result ℕ ℕ) → (last : ℕ) → List ℕ → Result (Option ℕ) ℕ → Type 0
+IsStep end last bs step = MatchResult step (λ more. MatchOption more (end bs ≡ Ok last) (GoesOn end bs)) (λ code. end bs ≡ Err code)

@@ -3,9 +3,9 @@ use Rattle.std.specs.Prelude.{ℕ, zero, suc, ◌+◌, ◌-◌, Bool, true, fals
 use Rattle.std.specs.List.{prefix_len, suffix_len}
 use Rattle.gql_lex.specs.declared.tokens.TokenKind.{TokenKind}
 use Rattle.gql_lex.specs.declared.tokens.TokenKind.TheVariants.{Punct, Name, Int, Text, Block}
-use Rattle.gql_lex.specs.Characters.{tab, line_feed, carriage_return, space, quote, backslash}
+use Rattle.gql_lex.specs.Characters.{tab, line_feed, carriage_return, space, quote, backslash, is_three_quotes, is_escaped_quotes}
 use Rattle.gql_lex.specs.Lines.{lines}
-use Rattle.gql_lex.specs.Strings.{code_of_hex, is_three_quotes}
+use Rattle.gql_lex.specs.Strings.{code_of_hex}
 
 -- ---- Text
 
@@ -34,7 +34,7 @@ text_value zero (c ∷ cs) = text_value_step c cs (λ n. text_value n cs)
 
 abbrev pub raw_step : ℕ → List ℕ → (ℕ → List ℕ) → List ℕ
 raw_step c cs rest =
-    cond (is_three_quotes (c ∷ cs)) [] (cond ((c == backslash) && is_three_quotes cs) (quote ∷ quote ∷ quote ∷ rest 3) (c ∷ rest 0))
+    cond (is_three_quotes (c ∷ cs)) [] (cond (is_escaped_quotes (c ∷ cs)) (quote ∷ quote ∷ quote ∷ rest 3) (c ∷ rest 0))
 
 -- the raw text of a Block, behind its first three quotes: `\"""` gives `"""`
 unfoldable pub raw_text : (inside : ℕ) → List ℕ → List ℕ

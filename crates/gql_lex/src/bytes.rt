@@ -1,8 +1,7 @@
 //! Tests of single bytes.
 ghost use Rattle.std.specs.Prelude.{◌≡◌, ◌==◌, ◌&&◌, slice_index};
-ghost use Rattle.gql_lex.specs.Characters.{ends_mark, is_blank, is_digit, is_line_end, is_name_byte, is_name_start, is_punctuator, is_within, may_stand, quote};
+ghost use Rattle.gql_lex.specs.Characters.{is_blank, is_digit, is_escaped_quotes, is_float_mark, is_ignored, is_line_end, is_mark, is_name_byte, is_name_start, is_number_start, is_punctuator, is_spread, is_three_quotes, is_two_quotes, is_within, may_stand, may_stand_in_block, quote};
 ghost use Rattle.gql_lex.specs.Lines.{ends_line};
-ghost use Rattle.gql_lex.specs.Strings.{is_three_quotes};
 
 /// The byte at an index, or 0 past the end.
 pub fn byte_at(bytes: &[u8], index: usize) -> u8
@@ -81,18 +80,67 @@ pub fn is_punctuator(byte: u8) -> bool
         || is_within(b'{', b'}', byte)
 }
 
-/// Whether these bytes end a byte order mark, its first byte standing before them.
-pub fn ends_mark(bytes: &[u8]) -> bool
-    ensures { result ≡ ends_mark bytes.now }
+/// Whether a byte is ignored by itself.
+pub fn is_ignored(byte: u8) -> bool
+    ensures { result ≡ is_ignored byte }
 {
-    byte_at(bytes, 0) == 187 && byte_at(bytes, 1) == 191
+    is_blank(byte) || is_line_end(byte)
 }
 
-/// Whether three quotes stand here.
+/// Whether a byte order mark stands here.
+pub fn is_mark(bytes: &[u8]) -> bool
+    ensures { result ≡ is_mark bytes.now }
+{
+    byte_at(bytes, 0) == 239 && byte_at(bytes, 1) == 187 && byte_at(bytes, 2) == 191
+}
+
+/// Whether `...` stands here.
+pub fn is_spread(bytes: &[u8]) -> bool
+    ensures { result ≡ is_spread bytes.now }
+{
+    byte_at(bytes, 0) == b'.' && byte_at(bytes, 1) == b'.' && byte_at(bytes, 2) == b'.'
+}
+
+/// Whether a byte may begin a number.
+pub fn is_number_start(byte: u8) -> bool
+    ensures { result ≡ is_number_start byte }
+{
+    byte == b'-' || is_digit(byte)
+}
+
+/// Whether a byte begins a fraction or an exponent.
+pub fn is_float_mark(byte: u8) -> bool
+    ensures { result ≡ is_float_mark byte }
+{
+    byte == b'.' || byte == b'e' || byte == b'E'
+}
+
+/// Whether a byte may stand in a Block.
+pub fn may_stand_in_block(byte: u8) -> bool
+    ensures { result ≡ may_stand_in_block byte }
+{
+    may_stand(byte) || is_line_end(byte)
+}
+
+/// Whether `"""` stands here.
 pub fn is_three_quotes(bytes: &[u8]) -> bool
     ensures { result ≡ is_three_quotes bytes.now }
 {
     byte_at(bytes, 0) == b'"' && byte_at(bytes, 1) == b'"' && byte_at(bytes, 2) == b'"'
+}
+
+/// Whether `\"""` stands here.
+pub fn is_escaped_quotes(bytes: &[u8]) -> bool
+    ensures { result ≡ is_escaped_quotes bytes.now }
+{
+    byte_at(bytes, 0) == b'\\' && is_three_quotes(&bytes[1..])
+}
+
+/// Whether `""` stands here.
+pub fn is_two_quotes(bytes: &[u8]) -> bool
+    ensures { result ≡ is_two_quotes bytes.now }
+{
+    byte_at(bytes, 0) == b'"' && byte_at(bytes, 1) == b'"'
 }
 
 /// Whether a line ends with this byte, before the rest: LF, and CR that no LF follows.

@@ -1,9 +1,14 @@
 //! The tokens of a GraphQL text (October 2021, section 2), their values and their places.
 #![tactic(auto)]
 
-pub mod bytes;
+mod bytes;
+mod heads;
+pub mod lexer;
+mod numbers;
 pub mod places;
+mod strings;
 pub mod tokens;
 
+pub use lexer::Lexer;
 pub use places::place;
 pub use tokens::{LexFault, Place, Token, TokenKind};

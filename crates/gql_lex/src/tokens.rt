@@ -52,3 +52,18 @@ pub enum Head {
     /// A fault of this code, so many bytes ahead.
     Wrong(u8, usize),
 }
+
+/// A character begins no token, or may not stand in a comment.
+pub const BAD_CHAR: u8 = 1;
+
+/// No number, or one that does not fit i64.
+pub const BAD_NUMBER: u8 = 2;
+
+/// A number with a fraction or an exponent.
+pub const FLOAT_LITERAL: u8 = 3;
+
+/// A string that is not ended, has another escape or a character that may not stand in it.
+pub const BAD_STRING: u8 = 4;
+
+/// An escape of a surrogate.
+pub const SURROGATE: u8 = 5;
