@@ -85,14 +85,14 @@ block_end-within k bs = within_of bs (block_end k bs) (block_end-closes k bs)
 
 -- ---- bytes that pass a test are ASCII
 
-or_below : (c : ℕ) (x y : Bool) → (x ≡ true → c < 128) → (y ≡ true → c < 128) → (x || y) ≡ true → c < 128
+pub or_below : (c : ℕ) (x y : Bool) → (x ≡ true → c < 128) → (y ≡ true → c < 128) → (x || y) ≡ true → c < 128
 or_below c true y h k e = h refl
 or_below c false y h k e = k e
 
 within_below : (low high c : ℕ) → high < 128 → is_within low high c ≡ true → c < 128
 within_below low high c h e = omega (arith, leb-true c high (and_parts (leb low c) (leb c high) e).1)
 
-same_below : (c k : ℕ) → k < 128 → eqb c k ≡ true → c < 128
+pub same_below : (c k : ℕ) → k < 128 → eqb c k ≡ true → c < 128
 same_below c k h e = omega (arith, eqb-true c k e)
 
 name_start_below : (c : ℕ) → is_name_start c ≡ true → c < 128

@@ -3,5 +3,9 @@ pub mod Ends
 pub mod Escapes
 mod Examples
 pub mod Extents
+pub mod Pushes
 pub mod Reading
+pub mod Runs
 pub mod Skips
+pub mod StringKinds
+pub mod Texts

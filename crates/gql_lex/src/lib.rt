@@ -2,11 +2,13 @@
 #![tactic(auto)]
 
 mod bytes;
+
 mod heads;
 pub mod lexer;
 mod numbers;
 pub mod places;
 mod strings;
+mod text_values;
 pub mod tokens;
 
 pub use lexer::Lexer;
