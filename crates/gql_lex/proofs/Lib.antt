@@ -1,8 +1,11 @@
+pub mod Blocks
+pub mod Breaks
 pub mod Digits
 pub mod Ends
 pub mod Escapes
 mod Examples
 pub mod Extents
+pub mod Margins
 pub mod Pushes
 pub mod Reading
 pub mod Runs

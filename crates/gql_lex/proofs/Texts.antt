@@ -15,7 +15,7 @@ use Rattle.gql_lex.proofs.Extents.{or_below, same_below, Closes, text_end-closes
 use Rattle.gql_lex.proofs.Skips.{text_end-skip}
 use Rattle.gql_lex.proofs.Escapes.{unicode_ok, four_hex}
 
-further_one : (r : Result ℕ ℕ) (n : ℕ) → further 1 r ≡ Ok (suc n) → r ≡ Ok n
+pub further_one : (r : Result ℕ ℕ) (n : ℕ) → further 1 r ≡ Ok (suc n) → r ≡ Ok n
 further_one (Ok k) n e =
     let p : 1 + k ≡ suc n = cc in
     let q : k ≡ n = omega arith in
@@ -147,7 +147,7 @@ taken (Err code) next m e = (0, cc, cc)
 the_none : (code l : ℕ) → further 0 (Err code) ≡ Ok l → ⊥
 the_none code l e = cc
 
-behind : (ds : List ℕ) (n l : ℕ) (r : Result ℕ ℕ) → IfOk r (Closes ds) → length ds ≡ l - n → further n r ≡ Ok l → (n < l) × (r ≡ Ok (length ds))
+pub behind : (ds : List ℕ) (n l : ℕ) (r : Result ℕ ℕ) → IfOk r (Closes ds) → length ds ≡ l - n → further n r ≡ Ok l → (n < l) × (r ≡ Ok (length ds))
 behind ds n l (Ok zero) c d e = absurd (omega (arith, c.1 0))
 behind ds n l (Ok (suc k)) c d e =
     let p : n + suc k ≡ l = cc in

@@ -1,8 +1,9 @@
 -- The lines of a text: they end at LF, CR or CR LF (GraphQL, October 2021, section 2.1.2).
-use Rattle.std.specs.Prelude.{ℕ, zero, suc, ◌+◌, Bool, cond, not, ◌&&◌, ◌||◌, ◌==◌, nat_lt, List, [], ◌∷◌, length, drop, take, chars, slice_index}
-use Rattle.std.specs.List.{between}
+use Rattle.std.specs.Prelude.{ℕ, zero, suc, ◌+◌, Bool, cond, not, ◌&&◌, ◌||◌, ◌==◌, nat_lt, List, [], ◌∷◌, map, length, drop, take, chars, slice_index}
+use Rattle.std.specs.List.{between, prefix_len}
 use Rattle.gql_lex.specs.declared.tokens.Place.{Place}
-use Rattle.gql_lex.specs.Characters.{line_feed, carriage_return}
+use Rattle.gql_lex.specs.Characters.{line_feed, carriage_return, is_line_end}
+use denote.Bor.{Bor}
 
 -- whether a line ends with the byte c, before cs: LF, and CR without LF behind it
 abbrev pub ends_line : ℕ → List ℕ → Bool
@@ -35,3 +36,21 @@ place_at text at = record {
   line = 1 + ended_lines at text;
   column = 1 + length (chars (between (line_start at text) at text))
 }
+
+-- ---- the first line: how many bytes it has, and how many the end has that these bytes begin with
+
+abbrev pub is_in_line : ℕ → Bool
+is_in_line c = not (is_line_end c)
+
+abbrev pub line_len : List ℕ → ℕ
+line_len bs = prefix_len is_in_line bs
+
+abbrev pub is_pair : List ℕ → Bool
+is_pair bs = (slice_index bs 0 == carriage_return) && (slice_index bs 1 == line_feed)
+
+abbrev pub end_len : List ℕ → ℕ
+end_len bs = cond (is_pair bs) 2 (cond (is_line_end (slice_index bs 0)) 1 0)
+
+-- the texts that these references point to
+abbrev pub texts : List (Bor (List ℕ)) → List (List ℕ)
+texts ls = map (λ (l : Bor (List ℕ)). l.now) ls

@@ -78,10 +78,13 @@ abbrev pub least : ℕ → Option ℕ → ℕ
 least n None = n
 least n (Some m) = min n m
 
+abbrev pub narrowed : List ℕ → Option ℕ → Option ℕ
+narrowed l most = cond (is_blank_line l) most (Some (least (indent l) most))
+
 -- the least indent of the lines that have another character, where there is such a line
 abbrev pub least_indent : List (List ℕ) → Option ℕ
 least_indent [] = None
-least_indent (l ∷ ls) = cond (is_blank_line l) (least_indent ls) (Some (least (indent l) (least_indent ls)))
+least_indent (l ∷ ls) = narrowed l (least_indent ls)
 
 abbrev pub common_indent : List (List ℕ) → ℕ
 common_indent ls = unwrap_or (least_indent ls) 0
