@@ -171,7 +171,7 @@ int_before-sound bs text rest h l a b =
     (λ _. cond_both (is_name_byte (get_or rest 0 0)) _ _ (IsSound bs) (λ _. (h, inl refl))
     (λ _. cond_both (is_in_i64 text) _ _ (IsSound bs) (λ _. (omega arith, a, b)) (λ _. (h, inl refl))))
 
-digits_some : (s d : ℕ) → ¬ (d ≡ 0) → 0 < s + d
+pub digits_some : (s d : ℕ) → ¬ (d ≡ 0) → 0 < s + d
 digits_some s d h = omega arith
 
 last_below : (bs : List ℕ) (n : ℕ) → 0 < n → ((i : ℕ) → i < n → get_or bs i 0 < 128) → get_or bs (length (take n bs) - 1) 0 < 128

@@ -12,3 +12,4 @@ pub mod Runs
 pub mod Skips
 pub mod StringKinds
 pub mod Texts
+pub mod Whole

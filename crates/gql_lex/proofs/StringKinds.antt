@@ -22,7 +22,7 @@ past : {A : Type 0} (b : Bool) (x y z : A) → ¬ (x ≡ z) → cond b x y ≡ z
 past true x y z n e = absurd (n e)
 past false x y z n e = e
 
-no_comment : (cs : List ℕ) (kind : TokenKind) (n : ℕ) → ¬ (comment cs ≡ Found kind n)
+pub no_comment : (cs : List ℕ) (kind : TokenKind) (n : ℕ) → ¬ (comment cs ≡ Found kind n)
 unfolding comment
 no_comment cs kind n =
     cond_both ((eqb (length cs) (prefix_len may_stand cs)) || is_line_end (get_or cs (prefix_len may_stand cs) 0)) _ _ (λ h. ¬ (h ≡ Found kind n)) (λ _ e. cc) (λ _ e. cc)

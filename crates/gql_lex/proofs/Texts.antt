@@ -104,15 +104,15 @@ pub record Escape (es : List ℕ) : Type 0 where
   pub is : escape_len es ≡ Ok (escaped_len es)
   pub last : get_or es (escaped_len es - 1) 0 < 128
 
-not_unicode : (es : List ℕ) → ¬ (get_or es 0 0 ≡ 117) → escape_len es ≡ cond (is_simple_escape (get_or es 0 0)) (Ok 1) (Err 4)
+pub not_unicode : (es : List ℕ) → ¬ (get_or es 0 0 ≡ 117) → escape_len es ≡ cond (is_simple_escape (get_or es 0 0)) (Ok 1) (Err 4)
 unfolding escape_len
 not_unicode es n = rw (ne_eqb (get_or es 0 0) 117 n) refl
 
-is_simple : (s : Bool) → IsOk {T = ℕ} {E = ℕ} (cond s (Ok 1) (Err 4)) → s ≡ true
+pub is_simple : (s : Bool) → IsOk {T = ℕ} {E = ℕ} (cond s (Ok 1) (Err 4)) → s ≡ true
 is_simple true o = refl
 is_simple false o = cc
 
-unicode_is : (es : List ℕ) → IsOk (escape_len es) → get_or es 0 0 ≡ 117 → escape_len es ≡ Ok 5
+pub unicode_is : (es : List ℕ) → IsOk (escape_len es) → get_or es 0 0 ≡ 117 → escape_len es ≡ Ok 5
 unfolding escape_len
 unicode_is es o u = let k = unicode_ok es o u in rw (u, k.0, k.1) refl
 
@@ -140,7 +140,7 @@ pub record Escaped (bs : List ℕ) : Type 0 where
   pub within : 1 + escaped_len (drop 1 bs) < length bs
   pub last : get_or bs (escaped_len (drop 1 bs)) 0 < 128
 
-taken : (r : Result ℕ ℕ) (next : ℕ → Result ℕ ℕ) (m : ℕ) → and_then r next ≡ Ok m → (n : ℕ) × (r ≡ Ok n) × (next n ≡ Ok m)
+pub taken : (r : Result ℕ ℕ) (next : ℕ → Result ℕ ℕ) (m : ℕ) → and_then r next ≡ Ok m → (n : ℕ) × (r ≡ Ok n) × (next n ≡ Ok m)
 taken (Ok n) next m e = (n, refl, e)
 taken (Err code) next m e = (0, cc, cc)
 
@@ -161,7 +161,7 @@ escape_end es n e =
     let g : further n (text_end 0 (drop n es)) ≡ Ok (length es) = sym (text_end-skip n es) ∙ f in
     behind (drop n es) n (length es) (text_end 0 (drop n es)) (text_end-closes 0 (drop n es)) (length-drop n es) g
 
-ok_from : (r : Result ℕ ℕ) (n : ℕ) → r ≡ Ok n → IsOk r
+pub ok_from : (r : Result ℕ ℕ) (n : ℕ) → r ≡ Ok n → IsOk r
 ok_from r n e = rw e refl
 
 same_ok : (r : Result ℕ ℕ) (m n : ℕ) → r ≡ Ok m → r ≡ Ok n → m ≡ n

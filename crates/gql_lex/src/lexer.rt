@@ -1,6 +1,7 @@
 //! The tokens of a text, one by one.
-ghost use Rattle.std.specs.Prelude.{◌≡◌};
+ghost use Rattle.std.specs.Prelude.{◌≡◌, IfOk, IfSome};
 ghost use Rattle.gql_lex.specs.Answers.{Gives};
+ghost use Rattle.gql_lex.specs.Heads.{IsToken};
 ghost use Rattle.gql_lex.specs.Sources.{lexed};
 
 use crate::heads::head;
@@ -40,7 +41,8 @@ impl<'a> Lexer<'a> {
     /// The next token, or None where only ignored text is left. A fault comes again at each later
     /// call.
     pub fn next(&mut self) -> Result<Option<Token<'a>>, LexFault>
-        ensures { Gives result self.new self.old }
+        ensures gives { Gives result self.new self.old }
+        ensures form { IfOk result (λ next. IfSome next (λ token. IsToken token.kind token.text.now)) }
     {
         let text = self.text;
         let bytes = text.as_bytes();
