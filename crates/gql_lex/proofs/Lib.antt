@@ -5,6 +5,7 @@ pub mod Ends
 pub mod Escapes
 mod Examples
 pub mod Extents
+pub mod Gaps
 pub mod Margins
 pub mod Pushes
 pub mod Reading

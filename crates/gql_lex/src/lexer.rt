@@ -1,6 +1,7 @@
 //! The tokens of a text, one by one.
 ghost use Rattle.std.specs.Prelude.{◌≡◌, IfOk, IfSome};
 ghost use Rattle.gql_lex.specs.Answers.{Gives};
+ghost use Rattle.gql_lex.specs.Descriptions.{Describes};
 ghost use Rattle.gql_lex.specs.Heads.{IsToken};
 ghost use Rattle.gql_lex.specs.Sources.{lexed};
 
@@ -33,7 +34,8 @@ impl<'a> Model for Lexer<'a> {
 impl<'a> Lexer<'a> {
     /// A lexer at the start of a text.
     pub fn new(text: &'a str) -> Lexer<'a>
-        ensures { result ≡ lexed 0 text.now }
+        ensures ahead { result ≡ lexed 0 text.now }
+        ensures describes { Describes text.now 0 result }
     {
         Lexer { text, at: 0 }
     }

@@ -10,6 +10,8 @@ mod lines;
 mod numbers;
 pub mod places;
 mod strings;
+#[cfg(test)]
+mod tests;
 mod text_values;
 pub mod tokens;
 pub mod values;
