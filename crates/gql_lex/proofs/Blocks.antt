@@ -1,12 +1,12 @@
 -- A Block from a place in it on: it ends with the last byte, and its raw text goes on there.
-use Rattle.std.proofs.Common.{◌≡◌, ℕ, zero, suc, ◌+◌, ◌-◌, ◌<◌, ◌≤◌, ◌⊎◌, Bool, true, false, cond, eqb, ◌&&◌, ◌||◌, List, [], ◌∷◌, ◌++◌, length, get_or, take, drop, Result, Ok, Err, IfOk, refl, arith, sym, ap, ◌∙◌, inl, inr, ⊎_elim}
+use Rattle.std.proofs.Common.{◌≡◌, ℕ, zero, suc, ◌+◌, ◌-◌, ◌<◌, Bool, true, false, cond, eqb, ◌&&◌, List, [], ◌∷◌, ◌++◌, length, get_or, take, drop, Ok, Err, refl, arith, sym, ap, ◌∙◌, ⊎_elim}
 use Rattle.std.specs.List.{between}
 use Rattle.std.proofs.lemmas.Bool.{or_parts, or_cases, and_parts, eqb-true}
 use Rattle.std.proofs.lemmas.List.{length-drop, drop-drop, get_or-drop}
 use Rattle.gql_lex.specs.Characters.{may_stand_in_block, is_three_quotes, is_escaped_quotes}
 use Rattle.gql_lex.specs.Strings.{further, block_end}
 use Rattle.gql_lex.specs.Values.{IsBlockRest, raw_text, run_before, stops_block}
-use Rattle.gql_lex.proofs.Extents.{Closes, block_end-closes, third_quote}
+use Rattle.gql_lex.proofs.Extents.{block_end-closes, third_quote}
 use Rattle.gql_lex.proofs.Skips.{block_end-skip}
 use Rattle.gql_lex.proofs.Texts.{further_one, behind}
 
@@ -79,7 +79,7 @@ escape_step (c ∷ es) e l q s =
       ended = h.1;
       value = rw (q, s) (ap (λ r. 34 ∷ 34 ∷ 34 ∷ r) (raw_text-skip 3 es));
       within = omega (arith, h.0);
-      last = omega (arith, third_quote es t.1)
+      last = omega (arith, third_quote es t.1);
     }
 
 -- ---- the same at an offset
@@ -87,12 +87,12 @@ escape_step (c ∷ es) e l q s =
 quotes_below : (bs : List ℕ) → stops_block bs ≡ true → get_or bs 0 0 < 128
 quotes_below bs s =
     ⊎_elim (λ a. omega (arith, eqb-true (get_or bs 0 0) 34 (and_parts (eqb (get_or bs 0 0) 34) (eqb (get_or bs 1 0) 34) (and_parts (eqb (get_or bs 0 0) 34 && eqb (get_or bs 1 0) 34) (eqb (get_or bs 2 0) 34) a).0).0))
-        (λ b. omega (arith, eqb-true (get_or bs 0 0) 92 (and_parts (eqb (get_or bs 0 0) 92) (is_three_quotes (drop 1 bs)) b).0))
-        (or_cases (is_three_quotes bs) (is_escaped_quotes bs) s)
+    (λ b. omega (arith, eqb-true (get_or bs 0 0) 92 (and_parts (eqb (get_or bs 0 0) 92) (is_three_quotes (drop 1 bs)) b).0))
+    (or_cases (is_three_quotes bs) (is_escaped_quotes bs) s)
 
 pub raw_end_at : (bs : List ℕ) (at n : ℕ) → n ≡ run_before stops_block (drop at bs) → IsBlockRest (drop at bs)
     → (at + n < length bs) × IsBlockRest (drop (at + n) bs) × (raw_text 0 (drop at bs) ≡ between at (at + n) bs ++ raw_text 0 (drop (at + n) bs))
-        × (stops_block (drop (at + n) bs) ≡ true) × (get_or bs (at + n) 0 < 128)
+    × (stops_block (drop (at + n) bs) ≡ true) × (get_or bs (at + n) 0 < 128)
 raw_end_at bs at n e r =
     let p : Plain (drop at bs) n = rw e (plain_run (drop at bs) r) in
     let m : at + n - at ≡ n = omega arith in
@@ -119,5 +119,5 @@ escaped_from bs at r l q s =
       rest = rw g at p.ended;
       value = rw (← g) p.value;
       within = omega (arith, p.within, length-drop at bs);
-      last = rw (get_or-drop at bs 3 0) at p.last
+      last = rw (get_or-drop at bs 3 0) at p.last;
     }

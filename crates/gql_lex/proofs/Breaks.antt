@@ -1,11 +1,11 @@
 -- The first line of a text, and the others.
-use Rattle.std.proofs.Common.{◌≡◌, ℕ, zero, suc, ◌+◌, ◌-◌, ◌<◌, ◌≤◌, Bool, true, false, cond, eqb, not, ◌&&◌, ◌||◌, List, [], ◌∷◌, ◌++◌, length, get_or, take, drop, refl, lit<, arith, sym, ap, ◌∙◌, inl, inr, ⊎_elim}
-use Rattle.std.specs.List.{prefix_len, between}
-use Rattle.std.proofs.lemmas.Bool.{or_parts, or_cases, and_parts, eqb-true, cases_Bool, not-true, not-false}
+use Rattle.std.proofs.Common.{◌≡◌, ℕ, suc, ◌+◌, ◌-◌, ◌<◌, ◌≤◌, Bool, true, false, cond, eqb, not, ◌&&◌, ◌||◌, List, [], ◌∷◌, ◌++◌, length, get_or, take, drop, refl, lit<, arith, sym, ap, ◌∙◌, ⊎_elim}
+use Rattle.std.specs.List.{between}
+use Rattle.std.proofs.lemmas.Bool.{or_parts, and_parts, eqb-true, cases_Bool, not-false}
 use Rattle.std.proofs.lemmas.List.{length-drop, drop-drop, get_or-drop, take_all, map-append, append_assoc}
 use Rattle.std.proofs.lemmas.List.Sums.{prefix_len-le-length, prefix_len_stops}
 use Rattle.gql_lex.specs.Characters.{is_line_end}
-use Rattle.gql_lex.specs.Lines.{lines, onto_first, ends_line, line_len, end_len, is_in_line, is_pair, texts}
+use Rattle.gql_lex.specs.Lines.{lines, onto_first, line_len, end_len, is_in_line, is_pair, texts}
 use denote.Bor.{Bor}
 use Rattle.gql_lex.proofs.Extents.{or_below, same_below, stands_within}
 

@@ -1,6 +1,6 @@
 -- One byte more of a text: how many lines end, and where the last one begins.
-use Rattle.std.proofs.Common.{◌≡◌, ℕ, zero, suc, ◌+◌, ◌<◌, ◌≤◌, Bool, true, false, cond, not, ◌&&◌, ltb, eqb, List, [], ◌∷◌, length, get_or, drop, refl, arith, sym, ap, ◌∙◌, inl, inr, add-one}
-use Rattle.std.proofs.lemmas.Bool.{lt-ltb, le-ltb, or_cases, and_parts, eqb-true}
+use Rattle.std.proofs.Common.{◌≡◌, ℕ, zero, suc, ◌+◌, ◌<◌, ◌≤◌, Bool, true, false, cond, not, ◌&&◌, ltb, eqb, List, [], ◌∷◌, length, get_or, drop, refl, arith, ap, inl, inr, add-one}
+use Rattle.std.proofs.lemmas.Bool.{lt-ltb, or_cases, and_parts, eqb-true}
 use Rattle.gql_lex.specs.Lines.{ends_line, ended_lines, line_start}
 
 at_most : (b : Bool) (m n : ℕ) → m ≤ n → cond b 1 0 + m ≤ suc n
@@ -54,5 +54,6 @@ turns_no bs i h e =
 -- what ends a line is ASCII
 pub ends_line-ascii : (c : ℕ) (cs : List ℕ) → ends_line c cs ≡ true → c < 128
 ends_line-ascii c cs h = elim (or_cases (eqb c 10) (eqb c 13 && not (eqb (get_or cs 0 0) 10)) h) [
-    inl e ↦ omega (arith, eqb-true c 10 e)
-  | inr e ↦ omega (arith, eqb-true c 13 (and_parts (eqb c 13) (not (eqb (get_or cs 0 0) 10)) e).0) ]
+  | inl e ↦ omega (arith, eqb-true c 10 e)
+  | inr e ↦ omega (arith, eqb-true c 13 (and_parts (eqb c 13) (not (eqb (get_or cs 0 0) 10)) e).0)
+]

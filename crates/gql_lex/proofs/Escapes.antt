@@ -1,5 +1,5 @@
 -- Escapes, by the code that their digits write.
-use Rattle.std.proofs.Common.{◌≡◌, ℕ, Bool, true, false, cond, ◌&&◌, List, get_or, drop, Option, Some, None, Result, Ok, Err, eqb, IsOk, ◌+◌, ◌*◌, ◌<◌, ◌⊎◌, leb, inl, inr, ⊎_elim, arith, refl, sym, ap, ◌∙◌}
+use Rattle.std.proofs.Common.{◌≡◌, ℕ, Bool, true, false, cond, ◌&&◌, List, get_or, drop, Some, None, Ok, Err, eqb, IsOk, ◌+◌, ◌*◌, ◌<◌, ◌⊎◌, leb, inl, inr, ⊎_elim, arith, refl}
 use Rattle.std.proofs.lemmas.Bool.{and_right, and_from, eq-eqb, and_parts, and_cases, leb-false, ltb-true}
 use Rattle.std.specs.Char.{digit_value}
 use Rattle.gql_lex.specs.Strings.{escape_len, is_four_hex, code_of_hex, is_simple_escape, is_surrogate, is_hex}
@@ -60,7 +60,7 @@ pub code_below : (bs : List ℕ) → is_four_hex bs ≡ true → code_of_hex bs 
 code_below bs e =
     let f = four_hex bs e in
     code_small (digit_value (get_or bs 0 0)) (digit_value (get_or bs 1 0)) (digit_value (get_or bs 2 0)) (digit_value (get_or bs 3 0))
-        (hex_of (get_or bs 0 0) f.first) (hex_of (get_or bs 1 0) f.second) (hex_of (get_or bs 2 0) f.third) (hex_of (get_or bs 3 0) f.fourth)
+    (hex_of (get_or bs 0 0) f.first) (hex_of (get_or bs 1 0) f.second) (hex_of (get_or bs 2 0) f.third) (hex_of (get_or bs 3 0) f.fourth)
 
 -- the code is that of a character
 pub code_scalar : (bs : List ℕ) (y : ℕ) → IsOk (escape_len bs) → get_or bs 0 0 ≡ 117 → Some y ≡ cond (is_four_hex (drop 1 bs)) (Some (code_of_hex (drop 1 bs))) None

@@ -1,14 +1,13 @@
 -- What the definitions say of single texts.
-use Rattle.std.proofs.Common.{◌≡◌, ℕ, ◌+◌, List, [], ◌∷◌, ◌++◌, Ok, Err, Some, None, codes, refl, pos, negsuc}
-use Rattle.gql_lex.specs.declared.tokens.TokenKind.TheVariants.{Punct, Name, Int, Text, Block}
-use Rattle.gql_lex.specs.declared.tokens.TokenKind.{TokenKind}
-use Rattle.gql_lex.specs.Characters.{quote, backslash}
+use Rattle.std.proofs.Common.{◌≡◌, ℕ, List, [], ◌∷◌, ◌++◌, Some, codes, refl, pos, negsuc}
+use Rattle.gql_lex.specs.declared.tokens.TokenKind.TheVariants.{Block}
+use Rattle.gql_lex.specs.Characters.{quote}
 use Rattle.gql_lex.specs.Heads.{comment, int_before, number, string, head}
 use Rattle.gql_lex.specs.Lines.{lines, ended_lines, line_start, place_at}
-use Rattle.gql_lex.specs.Sources.{Source, ended, faulty, token, lexed, read}
+use Rattle.gql_lex.specs.Sources.{ended, faulty, token, lexed, read}
 use Rattle.gql_lex.specs.Strings.{escape_len, text_end, block_end}
 use Rattle.gql_lex.specs.Toks.{tokens_of, open_brace, close_brace, name, int, text, dollar, spread}
-use Rattle.gql_lex.specs.Values.{string_value_of, text_value, raw_text, block_value}
+use Rattle.gql_lex.specs.Values.{text_value, raw_text, block_value}
 use Rattle.std.specs.Str.{chars}
 use Rattle.std.specs.Char.{encode_utf8}
 

@@ -1,12 +1,10 @@
 -- What begins a text lies within the text, and a token begins and ends with ASCII.
-use Rattle.std.proofs.Common.{◌≡◌, ℕ, zero, suc, ◌+◌, ◌-◌, ◌<◌, ◌≤◌, ◌⊎◌, Bool, true, false, cond, eqb, leb, ◌&&◌, ◌||◌, List, [], ◌∷◌, length, get_or, take, drop, Result, Ok, Err, IfOk, refl, ⊎_elim, add-zero, lit<, arith, sym, ap, ◌∙◌, inl, inr}
-use Rattle.std.specs.Prelude.{IsAscii}
+use Rattle.std.proofs.Common.{◌≡◌, ℕ, zero, suc, ◌+◌, ◌-◌, ◌<◌, ◌≤◌, ◌⊎◌, Bool, true, false, cond, eqb, leb, ◌&&◌, ◌||◌, List, [], ◌∷◌, length, get_or, take, drop, Result, Ok, Err, IfOk, refl, ⊎_elim, add-zero, lit<, arith, inl, inr}
 use Rattle.std.specs.List.{prefix_len}
-use Rattle.std.specs.Str.Parse.{AllDigits}
-use Rattle.std.proofs.lemmas.Bool.{and_parts, or_parts, or_cases, eqb-true, eqb-false, leb-true, leb-false, cond_both}
-use Rattle.std.proofs.lemmas.List.{get_or-take, get_or-drop, length-drop, length-take, length-take-le, drop-take}
+use Rattle.std.proofs.lemmas.Bool.{and_parts, or_parts, eqb-true, eqb-false, leb-true, leb-false, cond_both}
+use Rattle.std.proofs.lemmas.List.{get_or-drop, length-drop, length-take}
 use Rattle.std.proofs.lemmas.List.Sums.{prefix_len-le-length, prefix_len_passes, prefix_len_stops}
-use Rattle.gql_lex.specs.declared.tokens.TokenKind.TheVariants.{Punct, Name, Int, Text, Block}
+use Rattle.gql_lex.specs.declared.tokens.TokenKind.TheVariants.{Text, Block}
 use Rattle.gql_lex.specs.declared.tokens.TokenKind.{TokenKind}
 use Rattle.gql_lex.specs.declared.tokens.Head.{Head}
 use Rattle.gql_lex.specs.declared.tokens.Head.TheVariants.{Ignored, Found, Wrong}
@@ -14,7 +12,6 @@ use Rattle.gql_lex.specs.Characters.{is_within, is_digit, is_name_start, is_name
 use Rattle.gql_lex.specs.Numbers.{sign_len, digits_len, int_len, is_in_i64}
 use Rattle.gql_lex.specs.Strings.{further, and_then, escape_len, text_end, block_end}
 use Rattle.gql_lex.specs.Heads.{comment, int_before, number, string, string_head, head, IsSoundAt}
-use Rattle.gql_lex.proofs.Digits.{run_digits, zero_digit, number_ascii}
 
 -- a byte that is not 0 stands within the text
 pub stands_within : (bs : List ℕ) (i : ℕ) → 0 < get_or bs i 0 → i < length bs
@@ -55,7 +52,7 @@ text_end-closes k [] = tt
 text_end-closes (suc k) (c ∷ cs) = further_closes c cs (text_end k cs) (text_end-closes k cs)
 text_end-closes zero (c ∷ cs) =
     text_step_gives (Closes (c ∷ cs)) (eqb c 34) (eqb c 92) (may_stand c) (escape_len cs) _ (λ e. (omega arith, λ q. eqb-true c 34 e))
-        (λ n. further_closes c cs (text_end n cs) (text_end-closes n cs))
+    (λ n. further_closes c cs (text_end n cs) (text_end-closes n cs))
 
 block_step_gives : (P : ℕ → Type 0) (q e m : Bool) (next : ℕ → Result ℕ ℕ) → (q ≡ true → P 3) → ((k : ℕ) → IfOk (next k) P)
     → IfOk (cond q (Ok 3) (cond e (next 3) (cond m (next 0) (Err 4)))) P
@@ -70,8 +67,8 @@ block_end-closes k [] = tt
 block_end-closes (suc k) (c ∷ cs) = further_closes c cs (block_end k cs) (block_end-closes k cs)
 block_end-closes zero (c ∷ cs) =
     block_step_gives (Closes (c ∷ cs)) (is_three_quotes (c ∷ cs)) (is_escaped_quotes (c ∷ cs)) (may_stand_in_block c) _
-        (λ e. (three_quotes_within (c ∷ cs) e, λ q. third_quote (c ∷ cs) e))
-        (λ n. further_closes c cs (block_end n cs) (block_end-closes n cs))
+    (λ e. (three_quotes_within (c ∷ cs) e, λ q. third_quote (c ∷ cs) e))
+    (λ n. further_closes c cs (block_end n cs) (block_end-closes n cs))
 
 within_of : (bs : List ℕ) (r : Result ℕ ℕ) → IfOk r (Closes bs) → IfOk r (λ n. n ≤ length bs)
 within_of bs (Ok n) h = h.0
@@ -98,8 +95,8 @@ same_below c k h e = omega (arith, eqb-true c k e)
 name_start_below : (c : ℕ) → is_name_start c ≡ true → c < 128
 name_start_below c =
     or_below c (is_within 65 90 c || is_within 97 122 c) (eqb c 95)
-        (or_below c (is_within 65 90 c) (is_within 97 122 c) (within_below 65 90 c (lit< tt)) (within_below 97 122 c (lit< tt)))
-        (same_below c 95 (lit< tt))
+    (or_below c (is_within 65 90 c) (is_within 97 122 c) (within_below 65 90 c (lit< tt)) (within_below 97 122 c (lit< tt)))
+    (same_below c 95 (lit< tt))
 
 name_byte_below : (c : ℕ) → is_name_byte c ≡ true → c < 128
 name_byte_below c = or_below c (is_name_start c) (is_digit c) (name_start_below c) (within_below 48 57 c (lit< tt))
@@ -160,9 +157,9 @@ comment-sound : (c : ℕ) (cs : List ℕ) → IsSound (c ∷ cs) (comment cs)
 unfolding comment
 comment-sound c cs =
     cond_both ((eqb (length cs) (prefix_len may_stand cs)) || is_line_end (get_or cs (prefix_len may_stand cs) 0)) _ _ (IsSound (c ∷ cs))
-        (λ _. omega (arith, prefix_len-le-length may_stand cs))
-        (λ e. control_in c cs (prefix_len may_stand cs) (or_parts (eqb (length cs) (prefix_len may_stand cs)) (is_line_end (get_or cs (prefix_len may_stand cs) 0)) e).0
-            (prefix_len-le-length may_stand cs) (prefix_len_stops may_stand cs 0))
+    (λ _. omega (arith, prefix_len-le-length may_stand cs))
+    (λ e. control_in c cs (prefix_len may_stand cs) (or_parts (eqb (length cs) (prefix_len may_stand cs)) (is_line_end (get_or cs (prefix_len may_stand cs) 0)) e).0
+    (prefix_len-le-length may_stand cs) (prefix_len_stops may_stand cs 0))
 
 int_before-sound : (bs text rest : List ℕ) → 0 < length bs → length text ≤ length bs → get_or bs 0 0 < 128 → get_or bs (length text - 1) 0 < 128 → IsSound bs (int_before text rest)
 unfolding int_before
@@ -182,7 +179,7 @@ unfolding number
 number-sound bs h a =
     cond_both (eqb (digits_len (drop (sign_len bs) bs)) 0) _ _ (IsSound bs) (λ _. (h, inl refl))
     (λ e. int_before-sound bs (take (int_len bs) bs) (drop (int_len bs) bs) h (omega (arith, length-take (int_len bs) bs)) a
-        (last_below bs (int_len bs) (digits_some _ _ (eqb-false _ 0 e)) (int_below bs a)))
+    (last_below bs (int_len bs) (digits_some _ _ (eqb-false _ 0 e)) (int_below bs a)))
 
 string_head-sound : (bs : List ℕ) (kind : TokenKind) (more : ℕ) (r : Result ℕ ℕ) → 0 < length bs → get_or bs 0 0 < 128
     → IfOk r (λ n. (more + n < length bs) × (get_or bs (more + n) 0 ≡ 34)) → IsSound bs (string_head kind more r)
@@ -209,8 +206,8 @@ string-sound : (c : ℕ) (cs : List ℕ) → c < 128 → IsSound (c ∷ cs) (str
 unfolding string
 string-sound c cs a =
     cond_both (is_two_quotes cs) _ _ (IsSound (c ∷ cs))
-        (λ e. string_head-sound (c ∷ cs) Block 2 (block_end 0 (drop 2 cs)) (omega arith) a (block_at c cs (block_end 0 (drop 2 cs)) (two_quotes_within cs e) (block_end-closes 0 (drop 2 cs))))
-        (λ _. string_head-sound (c ∷ cs) Text 0 (text_end 0 cs) (omega arith) a (text_at c cs (text_end 0 cs) (text_end-closes 0 cs)))
+    (λ e. string_head-sound (c ∷ cs) Block 2 (block_end 0 (drop 2 cs)) (omega arith) a (block_at c cs (block_end 0 (drop 2 cs)) (two_quotes_within cs e) (block_end-closes 0 (drop 2 cs))))
+    (λ _. string_head-sound (c ∷ cs) Text 0 (text_end 0 cs) (omega arith) a (text_at c cs (text_end 0 cs) (text_end-closes 0 cs)))
 
 mark_within : (bs : List ℕ) → is_mark bs ≡ true → 2 < length bs
 mark_within bs e =
@@ -234,7 +231,7 @@ head-sound (c ∷ cs) h =
     (λ _. cond_both (is_punctuator c) _ _ (IsSound (c ∷ cs)) (λ e. (h, punctuator_below c e, punctuator_below c e))
     (λ _. cond_both (is_spread (c ∷ cs)) _ _ (IsSound (c ∷ cs)) (λ e. spread_within (c ∷ cs) e)
     (λ _. cond_both (is_name_start c) _ _ (IsSound (c ∷ cs))
-        (λ e. (omega (arith, prefix_len-le-length is_name_byte cs), name_start_below c e, run_below is_name_byte name_byte_below c cs (name_start_below c e) (prefix_len is_name_byte cs) (omega arith)))
+    (λ e. (omega (arith, prefix_len-le-length is_name_byte cs), name_start_below c e, run_below is_name_byte name_byte_below c cs (name_start_below c e) (prefix_len is_name_byte cs) (omega arith)))
     (λ _. cond_both (is_number_start c) _ _ (IsSound (c ∷ cs)) (λ e. number-sound (c ∷ cs) h (number_start_below c e))
     (λ _. cond_both (eqb c 34) _ _ (IsSound (c ∷ cs)) (λ e. string-sound c cs (same_below c 34 (lit< tt) e))
     (λ _. (h, inl refl)))))))))

@@ -1,11 +1,11 @@
 -- Behind ignored text a character begins, and what the tokens of a text say of it.
-use Rattle.std.proofs.Common.{◌≡◌, ℕ, zero, suc, ◌+◌, ◌-◌, ◌<◌, ◌≤◌, ◌⊎◌, Bool, true, false, cond, eqb, ltb, ◌&&◌, ◌||◌, List, [], ◌∷◌, ◌++◌, length, get_or, take, drop, Result, Ok, Err, ◌/◌, lit<, refl, arith, sym, ap, ◌∙◌, inl, inr, ⊎_elim, IsUtf8, IsCharBoundary, encode_utf8_all}
-use Rattle.std.specs.List.{prefix_len, between}
+use Rattle.std.proofs.Common.{◌≡◌, ℕ, zero, suc, ◌+◌, ◌-◌, ◌<◌, ◌≤◌, ◌⊎◌, true, eqb, ◌&&◌, ◌||◌, List, [], ◌∷◌, ◌++◌, length, get_or, take, drop, Result, Ok, Err, ◌/◌, lit<, refl, arith, sym, inl, inr, ⊎_elim, IsUtf8, IsCharBoundary, encode_utf8_all}
+use Rattle.std.specs.List.{prefix_len}
 use Rattle.std.specs.Char.{encode_utf8, len_utf8}
 use Rattle.std.proofs.lemmas.Bool.{cond_both, and_parts, or_cases, eqb-true, cases_lt, lt-ltb, le-ltb}
-use Rattle.std.proofs.lemmas.List.{length-drop, get_or-drop, drop-drop}
-use Rattle.std.proofs.lemmas.Str.{IsUtf8-drop, IsCharBoundary-start, IsCharBoundary-end, IsCharBoundary-before_ascii, IsCharBoundary-after_ascii, IsCharBoundary-past_char}
-use Rattle.gql_lex.specs.declared.tokens.TokenKind.TheVariants.{Punct, Name, Int, Text, Block}
+use Rattle.std.proofs.lemmas.List.{length-drop, get_or-drop}
+use Rattle.std.proofs.lemmas.Str.{IsUtf8-drop, IsCharBoundary-start, IsCharBoundary-before_ascii, IsCharBoundary-after_ascii, IsCharBoundary-past_char}
+use Rattle.gql_lex.specs.declared.tokens.TokenKind.TheVariants.{Text, Block}
 use Rattle.gql_lex.specs.declared.tokens.TokenKind.{TokenKind}
 use Rattle.gql_lex.specs.declared.tokens.Head.{Head}
 use Rattle.gql_lex.specs.declared.tokens.Head.TheVariants.{Ignored, Found, Wrong}
@@ -14,11 +14,10 @@ use Rattle.gql_lex.specs.Numbers.{sign_len, digits_len, int_len, is_in_i64}
 use Rattle.gql_lex.specs.Strings.{text_end, block_end}
 use Rattle.gql_lex.specs.Heads.{comment, int_before, number, string, string_head, head, IsSoundAt}
 use Rattle.gql_lex.specs.Sources.{Source, ended, faulty, token, lexed}
-use Rattle.gql_lex.specs.Descriptions.{Describes, StandsAt}
+use Rattle.gql_lex.specs.Descriptions.{Describes}
 use Rattle.gql_lex.proofs.Extents.{or_below, same_below, head-sound_at}
 use Rattle.gql_lex.proofs.Breaks.{line_end_below}
 use Rattle.gql_lex.proofs.Reading.{at_ignored, at_found, at_wrong, lexed_none}
-use Rattle.gql_lex.proofs.StringKinds.{chosen}
 use Rattle.gql_lex.proofs.Whole.{found_token}
 
 -- ---- a byte order mark
@@ -28,12 +27,12 @@ unfolding encode_utf8
 first_byte x rest e = ⊎_elim
     (λ a. let t = lt-ltb x 128 a in let f : x ≡ 239 = rw t at e in absurd (omega arith))
     (λ a. ⊎_elim
-        (λ b. let t = le-ltb x 128 a in let u = lt-ltb x 2048 b in let f : 192 + x / 64 ≡ 239 = rw (t, u) at e in absurd (omega arith))
-        (λ b. ⊎_elim
-            (λ c. let t = le-ltb x 128 a in let u = le-ltb x 2048 b in let v = lt-ltb x 65536 c in rw (t, u, v) refl)
-            (λ c. let t = le-ltb x 128 a in let u = le-ltb x 2048 b in let v = le-ltb x 65536 c in let f : 240 + x / 262144 ≡ 239 = rw (t, u, v) at e in absurd (omega arith))
-            (cases_lt x 65536))
-        (cases_lt x 2048))
+    (λ b. let t = le-ltb x 128 a in let u = lt-ltb x 2048 b in let f : 192 + x / 64 ≡ 239 = rw (t, u) at e in absurd (omega arith))
+    (λ b. ⊎_elim
+    (λ c. let t = le-ltb x 128 a in let u = le-ltb x 2048 b in let v = lt-ltb x 65536 c in rw (t, u, v) refl)
+    (λ c. let t = le-ltb x 128 a in let u = le-ltb x 2048 b in let v = le-ltb x 65536 c in let f : 240 + x / 262144 ≡ 239 = rw (t, u, v) at e in absurd (omega arith))
+    (cases_lt x 65536))
+    (cases_lt x 2048))
     (cases_lt x 128)
 
 mark_first : (bs : List ℕ) → is_mark bs ≡ true → get_or bs 0 0 ≡ 239
@@ -71,12 +70,12 @@ comment_ends : (c : ℕ) (cs : List ℕ) → IfIgnored (c ∷ cs) (comment cs)
 unfolding comment
 comment_ends c cs =
     cond_both ((eqb (length cs) (prefix_len may_stand cs)) || is_line_end (get_or cs (prefix_len may_stand cs) 0)) _ _ (IfIgnored (c ∷ cs))
-        (λ e. inr (inr (⊎_elim
-            (λ a. inl (omega (arith, eqb-true (length cs) (prefix_len may_stand cs) a)))
-            (λ b. let o : 1 + prefix_len may_stand cs ≡ suc (prefix_len may_stand cs) = omega arith in
-                  inr (rw o (line_end_below (get_or cs (prefix_len may_stand cs) 0) b)))
-            (or_cases (eqb (length cs) (prefix_len may_stand cs)) (is_line_end (get_or cs (prefix_len may_stand cs) 0)) e))))
-        (λ _. tt)
+    (λ e. inr (inr (⊎_elim
+    (λ a. inl (omega (arith, eqb-true (length cs) (prefix_len may_stand cs) a)))
+    (λ b. let o : 1 + prefix_len may_stand cs ≡ suc (prefix_len may_stand cs) = omega arith in
+    inr (rw o (line_end_below (get_or cs (prefix_len may_stand cs) 0) b)))
+    (or_cases (eqb (length cs) (prefix_len may_stand cs)) (is_line_end (get_or cs (prefix_len may_stand cs) 0)) e))))
+    (λ _. tt)
 
 int_ends : (bs text rest : List ℕ) → IfIgnored bs (int_before text rest)
 unfolding int_before
@@ -120,16 +119,16 @@ in_or_at_end bs k l c = (l, λ w x. absurd (omega (arith, c, x)))
 behind : (bs : List ℕ) (at n : ℕ) → IsUtf8 bs → IsCharBoundary bs at → at + n < length bs → Ends (drop at bs) n → IsCharBoundary bs (at + (1 + n))
 behind bs at n u b l e = ⊎_elim
     (λ a. let z : at + 0 ≡ at = omega arith in
-          let c = rw (get_or-drop at bs 0 0, z) at a.1 in
-          let i : at + 1 ≡ at + (1 + n) = omega (arith, a.0) in
-          rw i at (IsCharBoundary-after_ascii bs at u (omega arith) c))
+    let c = rw (get_or-drop at bs 0 0, z) at a.1 in
+    let i : at + 1 ≡ at + (1 + n) = omega (arith, a.0) in
+    rw i at (IsCharBoundary-after_ascii bs at u (omega arith) c))
     (λ r. ⊎_elim
-        (λ m. let i : at + 3 ≡ at + (1 + n) = omega (arith, m.0) in rw i at (mark_at bs at u b m.1))
-        (λ q. ⊎_elim
-            (λ w. at_end bs (at + (1 + n)) (omega (arith, w, length-drop at bs)))
-            (λ c. in_or_at_end bs (at + (1 + n)) (omega arith) (rw (get_or-drop at bs (1 + n) 0) at c))
-            q)
-        r)
+    (λ m. let i : at + 3 ≡ at + (1 + n) = omega (arith, m.0) in rw i at (mark_at bs at u b m.1))
+    (λ q. ⊎_elim
+    (λ w. at_end bs (at + (1 + n)) (omega (arith, w, length-drop at bs)))
+    (λ c. in_or_at_end bs (at + (1 + n)) (omega arith) (rw (get_or-drop at bs (1 + n) 0) at c))
+    q)
+    r)
     e
 
 -- ---- the whole text
@@ -158,7 +157,7 @@ described text at u b l (Found kind n) e more =
     let i = rw o at (IsCharBoundary-after_ascii text (at + n) u s.0 s.2) in
     let t = found_token (drop at text) kind n (omega (arith, s.0, length-drop at text)) (sym e) in
     rw (at_found text at n kind l e)
-        (record { behind = omega arith; some = omega arith; within = omega (arith, s.0); text = refl; form = rw m t; start = b; end = i }, more (at + (1 + n)) (omega arith) i)
+    (record { behind = omega arith; some = omega arith; within = omega (arith, s.0); text = refl; form = rw m t; start = b; end = i }, more (at + (1 + n)) (omega arith) i)
 described text at u b l (Wrong code n) e more =
     let s = sound_of text at l (Wrong code n) e in
     rw (at_wrong text at n code l e) (omega arith, s.0, ⊎_elim (λ z. let i : at ≡ at + n = omega (arith, z) in rw i at b) (λ a. IsCharBoundary-before_ascii text (at + n) s.0 a) s.1)

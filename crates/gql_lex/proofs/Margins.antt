@@ -1,13 +1,13 @@
 -- Lines as references to them; their indents; blank lines; lines joined.
-use Rattle.std.proofs.Common.{◌≡◌, ℕ, zero, suc, ◌+◌, ◌-◌, ◌<◌, ◌≤◌, ◌⊎◌, min, Bool, true, false, cond, eqb, List, [], ◌∷◌, ◌++◌, map, length, get_or, take, drop, Option, Some, None, unwrap_or, refl, lit<, arith, sym, ap, ◌∙◌, inl, inr, ⊎_elim, IsUtf8, IsCharBoundary, append_assoc, append-nil}
+use Rattle.std.proofs.Common.{◌≡◌, ℕ, zero, suc, ◌+◌, ◌-◌, ◌<◌, ◌≤◌, min, Bool, true, false, cond, eqb, List, [], ◌∷◌, ◌++◌, map, length, get_or, take, drop, Option, Some, None, unwrap_or, refl, lit<, arith, sym, ap, ◌∙◌, IsUtf8, IsCharBoundary, append_assoc}
 use Rattle.std.specs.List.{prefix_len, suffix_len}
 use denote.Bor.{Bor}
-use Rattle.std.proofs.lemmas.Bool.{cases_Bool, or_cases, eqb-true, ne_eqb, cond_both}
-use Rattle.std.proofs.lemmas.List.{drop_more, take_more, map-append, length-map, length-take-le, drop_all, take_all, drop_min, take-map}
-use Rattle.std.proofs.lemmas.List.Sums.{prefix_len-le-length, prefix_len_passes, suffix_len-take_yes, suffix_len-take_no, suffix_len-le-length}
+use Rattle.std.proofs.lemmas.Bool.{eqb-true, ne_eqb, cond_both}
+use Rattle.std.proofs.lemmas.List.{drop_more, take_more, map-append, length-map, length-take-le, drop_all, drop_min, take-map}
+use Rattle.std.proofs.lemmas.List.Sums.{prefix_len-le-length, prefix_len_passes, suffix_len-take_yes, suffix_len-take_no}
 use Rattle.std.proofs.lemmas.Str.{IsCharBoundary-after_ascii}
 use Rattle.gql_lex.specs.Lines.{texts, lines, onto_first, ends_line}
-use Rattle.gql_lex.specs.Values.{is_indent, indent, is_blank_line, least, narrowed, least_indent, common_indent, unindented, joined, without_blank_start, without_blank_end}
+use Rattle.gql_lex.specs.Values.{is_indent, indent, is_blank_line, least, least_indent, common_indent, unindented, joined, without_blank_start, without_blank_end}
 use Rattle.gql_lex.proofs.Extents.{or_below, same_below}
 
 indent_below : (c : ℕ) → is_indent c ≡ true → c < 128
@@ -104,7 +104,7 @@ pub cut_more : (old new ls : List (Bor (List ℕ))) (front : List (List ℕ)) (c
 cut_more old new ls front c i l d lt n e w =
     let t = texts_taken ls i d lt in
     let m : cut_lines c (texts (take i ls) ++ (get_or ls i d).now ∷ []) ≡ cut_lines c (texts (take i ls)) ++ (drop (min c (indent (get_or ls i d).now)) (get_or ls i d).now) ∷ []
-          = map-append (λ (m : List ℕ). drop (min c (indent m)) m) (texts (take i ls)) ((get_or ls i d).now ∷ []) in
+    = map-append (λ (m : List ℕ). drop (min c (indent m)) m) (texts (take i ls)) ((get_or ls i d).now ∷ []) in
     rw (n, texts_push old l, e, w, t, m) (append_assoc front (cut_lines c (texts (take i ls))) _)
 
 -- ---- blank lines at the end

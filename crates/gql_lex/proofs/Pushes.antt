@@ -1,5 +1,5 @@
 -- A value that is made piece by piece.
-use Rattle.std.proofs.Common.{◌≡◌, ℕ, List, [], ◌++◌, refl, sym, ap, ◌∙◌, append_assoc, append-nil}
+use Rattle.std.proofs.Common.{◌≡◌, ℕ, List, [], ◌++◌, sym, ap, ◌∙◌, append_assoc, append-nil}
 
 -- the last piece
 pub pushed_last : (whole old now here part rest : List ℕ) → whole ≡ old ++ here → here ≡ part ++ rest → rest ≡ [] → now ≡ old ++ part → now ≡ whole

@@ -1,11 +1,11 @@
 -- One step of reading a text.
-use Rattle.std.proofs.Common.{◌≡◌, ℕ, zero, suc, ◌+◌, ◌-◌, ◌<◌, ◌≤◌, List, [], ◌∷◌, length, get_or, take, drop, refl, arith, sym, ap, ◌∙◌, add-zero}
+use Rattle.std.proofs.Common.{◌≡◌, ℕ, zero, suc, ◌+◌, ◌-◌, ◌<◌, ◌≤◌, List, [], ◌∷◌, length, take, drop, refl, arith, ap, ◌∙◌, add-zero}
 use Rattle.std.proofs.lemmas.List.{drop-drop, drop_all, length-drop}
 use Rattle.std.specs.List.{between}
 use Rattle.gql_lex.specs.declared.tokens.TokenKind.{TokenKind}
 use Rattle.gql_lex.specs.declared.tokens.Head.TheVariants.{Ignored, Found, Wrong}
 use Rattle.gql_lex.specs.Heads.{head}
-use Rattle.gql_lex.specs.Sources.{Source, ended, faulty, token, read, read_head, lexed}
+use Rattle.gql_lex.specs.Sources.{ended, faulty, token, read, read_head, lexed}
 
 read-skip : (n at : ℕ) (bs : List ℕ) → read n at bs ≡ read 0 (at + n) (drop n bs)
 unfolding read

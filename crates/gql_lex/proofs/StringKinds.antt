@@ -1,12 +1,11 @@
 -- What a token of a string begins with.
-use Rattle.std.proofs.Common.{◌≡◌, ℕ, zero, suc, ◌+◌, ◌-◌, ◌<◌, ◌≤◌, ◌⊎◌, Bool, true, false, cond, eqb, ◌||◌, List, [], ◌∷◌, length, get_or, take, drop, Result, Ok, Err, refl, arith, sym, ap, ◌∙◌, inl, inr, ⊎_elim}
+use Rattle.std.proofs.Common.{◌≡◌, ℕ, ◌+◌, ◌-◌, ◌⊎◌, Bool, true, false, cond, eqb, ◌||◌, List, length, get_or, take, drop, Result, Ok, Err, refl, arith, sym, ap, ◌∙◌, inl, inr, ⊎_elim}
 use Rattle.std.specs.List.{prefix_len}
 use Rattle.std.proofs.lemmas.Bool.{cond_both, eqb-true, and_parts}
 use Rattle.std.proofs.lemmas.List.{length-drop, drop-drop, get_or-drop}
 use Rattle.gql_lex.specs.declared.tokens.TokenKind.TheVariants.{Punct, Name, Int, Text, Block}
 use Rattle.gql_lex.specs.declared.tokens.TokenKind.{TokenKind}
-use Rattle.gql_lex.specs.declared.tokens.Head.{Head}
-use Rattle.gql_lex.specs.declared.tokens.Head.TheVariants.{Ignored, Found, Wrong}
+use Rattle.gql_lex.specs.declared.tokens.Head.TheVariants.{Found, Wrong}
 use Rattle.gql_lex.specs.Characters.{is_ignored, is_mark, is_punctuator, is_spread, is_name_start, is_name_byte, is_number_start, is_float_mark, is_line_end, is_two_quotes, may_stand}
 use Rattle.gql_lex.specs.Numbers.{sign_len, digits_len, int_len, is_in_i64}
 use Rattle.gql_lex.specs.Strings.{text_end, block_end}
@@ -38,7 +37,7 @@ number_kind : (bs : List ℕ) (kind : TokenKind) (n : ℕ) → number bs ≡ Fou
 unfolding number
 number_kind bs kind n =
     cond_both (eqb (digits_len (drop (sign_len bs) bs)) 0) _ _ (λ h. h ≡ Found kind n → kind ≡ Int) (λ _ e. cc)
-        (λ _ e. int_kind (take (int_len bs) bs) (drop (int_len bs) bs) kind n e)
+    (λ _ e. int_kind (take (int_len bs) bs) (drop (int_len bs) bs) kind n e)
 
 wrong_found : (kind : TokenKind) (n : ℕ) → ¬ (Wrong 1 0 ≡ Found kind n)
 wrong_found kind n e = cc

@@ -1,16 +1,12 @@
 -- A Text from a place in it on: it ends with the last byte, and its value goes on there.
-use Rattle.std.proofs.Common.{◌≡◌, ℕ, zero, suc, ◌+◌, ◌-◌, ◌<◌, ◌≤◌, ◌⊎◌, Bool, true, false, cond, eqb, ltb, ◌&&◌, ◌||◌, List, [], ◌∷◌, ◌++◌, length, get_or, take, drop, Result, Ok, Err, IfOk, IsOk, lit<, refl, arith, sym, ap, ◌∙◌, inl, inr, ⊎_elim}
+use Rattle.std.proofs.Common.{◌≡◌, ℕ, zero, suc, ◌+◌, ◌-◌, ◌<◌, ◌≤◌, ◌⊎◌, Bool, true, false, cond, eqb, List, [], ◌∷◌, ◌++◌, length, get_or, take, drop, Result, Ok, Err, IfOk, IsOk, lit<, refl, arith, sym, ap, ◌∙◌, inl, inr, ⊎_elim}
 use Rattle.std.specs.List.{between}
-use Rattle.std.specs.Char.{digit_value, encode_utf8}
-use Rattle.std.proofs.lemmas.Bool.{or_parts, eqb-true, eqb-false, eq-eqb, ne_eqb, le-ltb, cases_lt, cases_eq, or_cases, or_right, cond_both, and_parts}
-use Rattle.std.proofs.lemmas.List.{length-drop, drop-drop, drop_all, append_assoc, get_or-drop}
-use Rattle.gql_lex.specs.declared.tokens.TokenKind.TheVariants.{Punct, Name, Int, Text, Block}
-use Rattle.gql_lex.specs.declared.tokens.TokenKind.{TokenKind}
-use Rattle.gql_lex.specs.declared.tokens.Head.{Head}
-use Rattle.gql_lex.specs.declared.tokens.Head.TheVariants.{Ignored, Found, Wrong}
+use Rattle.std.specs.Char.{encode_utf8}
+use Rattle.std.proofs.lemmas.Bool.{or_parts, eqb-true, eq-eqb, ne_eqb, le-ltb, cases_lt, cases_eq, or_cases, or_right, cond_both}
+use Rattle.std.proofs.lemmas.List.{length-drop, drop-drop, get_or-drop}
 use Rattle.gql_lex.specs.Characters.{may_stand}
-use Rattle.gql_lex.specs.Strings.{further, and_then, escape_len, text_end, text_step, is_simple_escape, is_hex, is_four_hex, is_surrogate, code_of_hex}
-use Rattle.gql_lex.specs.Values.{IsTextRest, text_value, text_value_step, escape_char, escaped_len, run_before, stops_text}
+use Rattle.gql_lex.specs.Strings.{further, and_then, escape_len, text_end, is_simple_escape, is_hex}
+use Rattle.gql_lex.specs.Values.{IsTextRest, text_value, escape_char, escaped_len, run_before, stops_text}
 use Rattle.gql_lex.proofs.Extents.{or_below, same_below, Closes, text_end-closes}
 use Rattle.gql_lex.proofs.Skips.{text_end-skip}
 use Rattle.gql_lex.proofs.Escapes.{unicode_ok, four_hex}
@@ -195,7 +191,7 @@ escape_step (c ∷ es) e l s n =
       ended = rw i h.1;
       value = rw (i, f, g) (ap (λ r. encode_utf8 (escape_char es) ++ r) (text_value-skip (escaped_len es) es));
       within = omega (arith, h.0);
-      last = last_at c es (escaped_len es) (escaped_some es) k.last
+      last = last_at c es (escaped_len es) (escaped_some es) k.last;
     }
 
 -- ---- the same at an offset
@@ -205,16 +201,19 @@ drop_on bs at n = drop-drop n at bs
 
 pub plain_end_at : (bs : List ℕ) (at n : ℕ) → n ≡ run_before stops_text (drop at bs) → IsTextRest (drop at bs)
     → (at + n < length bs) × IsTextRest (drop (at + n) bs) × (text_value 0 (drop at bs) ≡ between at (at + n) bs ++ text_value 0 (drop (at + n) bs))
-        × ((get_or bs (at + n) 0 ≡ 34) ⊎ (get_or bs (at + n) 0 ≡ 92))
+    × ((get_or bs (at + n) 0 ≡ 34) ⊎ (get_or bs (at + n) 0 ≡ 92))
 plain_end_at bs at n e r =
     let p : Plain (drop at bs) n = rw e (plain_run (drop at bs) r) in
     let m : at + n - at ≡ n = omega arith in
     let s = rw (drop_on bs at n) at p.stops in
     let f = get_or-drop (at + n) bs 0 0 in
     let z : at + n + 0 ≡ at + n = omega arith in
-    let g = rw (f, z) at s in
-    (omega (arith, p.within, length-drop at bs), rw (drop_on bs at n) at p.ended, rw m (rw (drop_on bs at n) at p.value),
-        ⊎_elim (λ a. inl (eqb-true (get_or bs (at + n) 0) 34 a)) (λ b. inr (eqb-true (get_or bs (at + n) 0) 92 b)) (or_cases (eqb (get_or bs (at + n) 0) 34) (eqb (get_or bs (at + n) 0) 92) g))
+    let g = rw (f, z) at s in (
+      omega (arith, p.within, length-drop at bs),
+      rw (drop_on bs at n) at p.ended,
+      rw m (rw (drop_on bs at n) at p.value),
+      ⊎_elim (λ a. inl (eqb-true (get_or bs (at + n) 0) 34 a)) (λ b. inr (eqb-true (get_or bs (at + n) 0) 92 b)) (or_cases (eqb (get_or bs (at + n) 0) 34) (eqb (get_or bs (at + n) 0) 92) g),
+    )
 
 pub escaped_at : (bs : List ℕ) (at : ℕ) → IsTextRest (drop at bs) → at < length bs → get_or bs at 0 ≡ 92 → Escaped (drop at bs)
 escaped_at bs at r l e =
@@ -241,5 +240,5 @@ escaped_from bs at n e r l b =
       rest = rw g at (rw f at p.ended);
       value = rw (← g, ← d) (rw f at p.value);
       within = omega (arith, rw f at p.within, length-drop at bs);
-      last = rw (get_or-drop at bs n 0) at (rw f at p.last)
+      last = rw (get_or-drop at bs n 0) at (rw f at p.last);
     }

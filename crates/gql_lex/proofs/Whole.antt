@@ -1,18 +1,15 @@
 -- A token's text is read alone as the same token.
-use Rattle.std.proofs.Common.{◌≡◌, ℕ, zero, suc, ◌+◌, ◌-◌, ◌<◌, ◌≤◌, ◌⊎◌, min, Bool, true, false, cond, eqb, ◌&&◌, ◌||◌, List, [], ◌∷◌, length, get_or, take, drop, Result, Ok, Err, IfOk, IsOk, lit<, refl, arith, sym, ap, ◌∙◌, inl, inr, ⊎_elim}
+use Rattle.std.proofs.Common.{◌≡◌, ℕ, zero, suc, ◌+◌, ◌-◌, ◌<◌, ◌≤◌, min, Bool, true, false, cond, eqb, ◌&&◌, List, [], ◌∷◌, length, get_or, take, drop, Result, Ok, Err, IfOk, lit<, refl, arith, sym, ap, ◌∙◌, ⊎_elim}
 use Rattle.std.specs.List.{prefix_len}
-use Rattle.std.proofs.lemmas.Bool.{and_parts, and_from, eqb-true, eq-eqb, ne_eqb, eqb-false, false_from_ne_true, cases_eq}
-use Rattle.std.proofs.lemmas.List.{get_or-take, get_or-drop, drop-take, take_all, drop_all, length-take, length-drop, length-take-le, take_min}
-use Rattle.std.proofs.lemmas.List.Sums.{prefix_len-le-length}
+use Rattle.std.proofs.lemmas.Bool.{and_parts, and_from, eqb-true, ne_eqb, eqb-false, false_from_ne_true, cases_eq}
+use Rattle.std.proofs.lemmas.List.{get_or-take, get_or-drop, drop-take, take_all, drop_all, length-take, take_min}
 use Rattle.gql_lex.specs.declared.tokens.TokenKind.TheVariants.{Punct, Name, Int, Text, Block}
 use Rattle.gql_lex.specs.declared.tokens.TokenKind.{TokenKind}
-use Rattle.gql_lex.specs.declared.tokens.Head.{Head}
 use Rattle.gql_lex.specs.declared.tokens.Head.TheVariants.{Ignored, Found, Wrong}
-use Rattle.gql_lex.specs.Characters.{is_digit, is_name_start, is_name_byte, is_line_end, is_punctuator, is_spread, is_mark, is_ignored, is_number_start, is_float_mark, is_two_quotes, may_stand, may_stand_in_block, is_three_quotes, is_escaped_quotes}
+use Rattle.gql_lex.specs.Characters.{is_digit, is_name_start, is_name_byte, is_punctuator, is_spread, is_mark, is_ignored, is_number_start, is_float_mark, is_two_quotes, may_stand, may_stand_in_block, is_three_quotes, is_escaped_quotes}
 use Rattle.gql_lex.specs.Numbers.{sign_len, digits_len, int_len, is_in_i64}
 use Rattle.gql_lex.specs.Strings.{further, and_then, escape_len, text_end, block_end, is_four_hex, code_of_hex, is_simple_escape}
 use Rattle.gql_lex.specs.Heads.{comment, int_before, number, string, string_head, head, IsToken}
-use Rattle.gql_lex.specs.Values.{escaped_len}
 use Rattle.gql_lex.proofs.Extents.{stands_within, text_end-closes, block_end-closes, Closes, digits_some}
 use Rattle.gql_lex.proofs.Skips.{text_end-skip, block_end-skip}
 use Rattle.gql_lex.proofs.StringKinds.{chosen, no_comment}
@@ -247,8 +244,8 @@ digits_by : (ds : List ℕ) (b : Bool) → eqb (get_or ds 0 0) 48 ≡ b → digi
 digits_by ds true e = let a = get_or-take 1 ds 0 0 (lit< tt) in rw (a, e) refl
 digits_by ds false e =
     let f : eqb (get_or (take (prefix_len is_digit ds) ds) 0 0) 48 ≡ false = false_from_ne_true _ (λ t.
-          let x : false ≡ true = sym e ∙ same_byte ds (prefix_len is_digit ds) 0 48 (lit< tt) t in
-          cc) in
+    let x : false ≡ true = sym e ∙ same_byte ds (prefix_len is_digit ds) 0 48 (lit< tt) t in
+    cc) in
     rw f (take_run is_digit ds)
 
 digits_kept : (ds : List ℕ) → digits_len (take (digits_len ds) ds) ≡ digits_len ds
@@ -258,7 +255,7 @@ int_found : (text rest : List ℕ) (k : TokenKind) (n : ℕ) → int_before text
 unfolding int_before
 int_found text rest k n e =
     ⊎_elim (λ w. absurd (wrong_found 3 k n w.1)) (λ w. ⊎_elim (λ v. absurd (wrong_found 2 k n v.1)) (λ v. ⊎_elim (λ u. (u.1, u.0)) (λ u. absurd (wrong_found 2 k n u.1))
-        (chosen (is_in_i64 text) _ _ _ v.1)) (chosen (is_name_byte (get_or rest 0 0)) _ _ _ w.1)) (chosen (is_float_mark (get_or rest 0 0)) _ _ _ e)
+    (chosen (is_in_i64 text) _ _ _ v.1)) (chosen (is_name_byte (get_or rest 0 0)) _ _ _ w.1)) (chosen (is_float_mark (get_or rest 0 0)) _ _ _ e)
 
 int_alone : (text : List ℕ) → is_in_i64 text ≡ true → int_before text [] ≡ Found Int (length text - 1)
 unfolding int_before
@@ -313,11 +310,11 @@ unfolding head
 head_kept c cs k n e =
     step_same (is_ignored c) (Ignored 0) (Ignored 0) _ _ (Found k n) (λ x. x)
     (step_kept (is_mark (c ∷ cs)) (is_mark (c ∷ take n cs)) (Ignored 2) (Ignored 2) _ _ (Found k n) (λ t x. absurd (not_ignored 2 k n x))
-        (λ f. three_shorter (c ∷ cs) (suc n) 239 187 191 (lit< tt) (lit< tt) (lit< tt) f)
+    (λ f. three_shorter (c ∷ cs) (suc n) 239 187 191 (lit< tt) (lit< tt) (lit< tt) f)
     (step_same (eqb c 35) (comment cs) (comment (take n cs)) _ _ (Found k n) (λ x. absurd (no_comment cs k n x))
     (step_same (is_punctuator c) (Found Punct 0) (Found Punct 0) _ _ (Found k n) (λ x. x)
     (step_kept (is_spread (c ∷ cs)) (is_spread (c ∷ take n cs)) (Found Punct 2) (Found Punct 2) _ _ (Found k n) (λ t x. (spread_kept (c ∷ cs) n t (spread_more k n x), x))
-        (λ f. three_shorter (c ∷ cs) (suc n) 46 46 46 (lit< tt) (lit< tt) (lit< tt) f)
+    (λ f. three_shorter (c ∷ cs) (suc n) 46 46 46 (lit< tt) (lit< tt) (lit< tt) f)
     (step_same (is_name_start c) _ _ _ _ (Found k n) (name_kept cs k n)
     (step_same (is_number_start c) _ _ _ _ (Found k n) (number_on c cs k n)
     (step_same (eqb c 34) _ _ (Wrong 1 0) (Wrong 1 0) (Found k n) (string_kept cs k n) (λ x. x)))))))) e

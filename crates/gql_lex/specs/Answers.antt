@@ -1,5 +1,5 @@
 -- What a lexer answers, by the tokens that lie ahead of it.
-use Rattle.std.specs.Prelude.{◌≡◌, ℕ, Option, Some, None, Result, Ok, Err, IsOkAnd, IsSomeAnd, MatchResult, MatchOption, IsErrAnd}
+use Rattle.std.specs.Prelude.{◌≡◌, Option, None, Result, IsOkAnd, IsSomeAnd, IsErrAnd}
 use Rattle.gql_lex.specs.declared.tokens.Token.{Token}
 use Rattle.gql_lex.specs.declared.tokens.LexFault.{LexFault}
 use Rattle.gql_lex.specs.Sources.{Piece, Source, ended, faulty, token}

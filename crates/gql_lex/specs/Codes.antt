@@ -9,7 +9,7 @@ use Rattle.gql_lex.specs.Sources.{Piece, Source, ended, faulty, token}
 abbrev coded_piece : Coded Piece
 coded_piece =
     code_by (TokenKind × (List ℕ × (ℕ × ℕ))) (coded× kind.the_row.coded (coded× (coded_list coded_ℕ) (coded× coded_ℕ coded_ℕ)))
-        (λ p. (p.kind, (p.text, (p.start, p.end)))) (λ q. record { kind = q.0; text = q.1.0; start = q.1.1.0; end = q.1.1.1 }) (λ _. refl)
+    (λ p. (p.kind, (p.text, (p.start, p.end)))) (λ q. record { kind = q.0; text = q.1.0; start = q.1.1.0; end = q.1.1.1 }) (λ _. refl)
 
 abbrev Stored : Type 0
 Stored = List Piece × Option (ℕ × ℕ)

@@ -1,5 +1,5 @@
 -- What the bytes of a text begin with: ignored text, a token, or a fault (GraphQL, October 2021, sections 2.1 and 2.9).
-use Rattle.std.specs.Prelude.{◌≡◌, ◌<◌, ◌⊎◌, ℕ, ◌+◌, ◌-◌, Bool, cond, ◌&&◌, ◌||◌, ◌==◌, List, [], ◌∷◌, length, take, drop, slice_index, Result, Ok, Err}
+use Rattle.std.specs.Prelude.{◌≡◌, ◌<◌, ◌⊎◌, ℕ, ◌+◌, ◌-◌, cond, ◌||◌, ◌==◌, List, length, take, drop, slice_index, Result, Ok, Err}
 use Rattle.std.specs.List.{prefix_len}
 use Rattle.gql_lex.specs.declared.tokens.TokenKind.{TokenKind}
 use Rattle.gql_lex.specs.declared.tokens.TokenKind.TheVariants.{Punct, Name, Int, Text, Block}
@@ -7,7 +7,7 @@ use Rattle.gql_lex.specs.declared.tokens.Head.{Head}
 use Rattle.gql_lex.specs.declared.tokens.Head.TheVariants.{Ignored, Found, Wrong}
 use Rattle.gql_lex.specs.Characters.{quote, number_sign, is_line_end, may_stand, is_name_start, is_name_byte, is_punctuator, is_ignored, is_mark, is_spread, is_number_start, is_float_mark, is_two_quotes}
 use Rattle.gql_lex.specs.Numbers.{sign_len, digits_len, int_len, is_in_i64}
-use Rattle.gql_lex.specs.Strings.{bad_char, bad_number, float_literal, bad_string, text_end, block_end}
+use Rattle.gql_lex.specs.Strings.{bad_char, bad_number, float_literal, text_end, block_end}
 
 -- a comment, behind its `#`: it goes to the end of the line, and each character in it may stand there
 unfoldable pub comment : List ℕ → Head
@@ -37,8 +37,8 @@ string_head kind more (Err code) = Wrong code 0
 unfoldable pub string : List ℕ → Head
 string cs =
     cond (is_two_quotes cs)
-        (string_head Block 2 (block_end 0 (drop 2 cs)))
-        (string_head Text 0 (text_end 0 cs))
+    (string_head Block 2 (block_end 0 (drop 2 cs)))
+    (string_head Text 0 (text_end 0 cs))
 
 -- what the bytes begin with
 unfoldable pub head : List ℕ → Head

@@ -1,5 +1,5 @@
 -- The lines of a text: they end at LF, CR or CR LF (GraphQL, October 2021, section 2.1.2).
-use Rattle.std.specs.Prelude.{ℕ, zero, suc, ◌+◌, Bool, cond, not, ◌&&◌, ◌||◌, ◌==◌, nat_lt, List, [], ◌∷◌, map, length, drop, take, chars, slice_index}
+use Rattle.std.specs.Prelude.{ℕ, zero, suc, ◌+◌, Bool, cond, not, ◌&&◌, ◌||◌, ◌==◌, nat_lt, List, [], ◌∷◌, map, length, chars, slice_index}
 use Rattle.std.specs.List.{between, prefix_len}
 use Rattle.gql_lex.specs.declared.tokens.Place.{Place}
 use Rattle.gql_lex.specs.Characters.{line_feed, carriage_return, is_line_end}
@@ -34,7 +34,7 @@ line_start (suc n) (c ∷ cs) = cond (nat_lt 0 (ended_lines (suc n) (c ∷ cs)))
 abbrev pub place_at : List ℕ → (at : ℕ) → Place
 place_at text at = record {
   line = 1 + ended_lines at text;
-  column = 1 + length (chars (between (line_start at text) at text))
+  column = 1 + length (chars (between (line_start at text) at text));
 }
 
 -- ---- the first line: how many bytes it has, and how many the end has that these bytes begin with

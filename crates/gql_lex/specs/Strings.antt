@@ -51,8 +51,8 @@ unfoldable pub escape_len : List ℕ → Result ℕ ℕ
 escape_len bs =
     cond (is_simple_escape (slice_index bs 0)) (Ok 1)
     (cond ((slice_index bs 0 == 117) && is_four_hex (drop 1 bs))
-        (cond (is_surrogate (code_of_hex (drop 1 bs))) (Err surrogate) (Ok 5))
-        (Err bad_string))
+    (cond (is_surrogate (code_of_hex (drop 1 bs))) (Err surrogate) (Ok 5))
+    (Err bad_string))
 
 -- ---- a Text, behind its first quote
 

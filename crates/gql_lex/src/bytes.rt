@@ -7,11 +7,7 @@ ghost use Rattle.gql_lex.specs.Lines.{ends_line};
 pub fn byte_at(bytes: &[u8], index: usize) -> u8
     ensures { result ≡ slice_index bytes.now index }
 {
-    if index < bytes.len() {
-        bytes[index]
-    } else {
-        0
-    }
+    if index < bytes.len() { bytes[index] } else { 0 }
 }
 
 /// Whether a byte lies between two, both included.

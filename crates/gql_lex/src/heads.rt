@@ -6,10 +6,13 @@ ghost use Rattle.gql_lex.specs.Numbers.{sign_len};
 ghost use Rattle.gql_lex.specs.Characters.{is_name_byte, may_stand};
 ghost use Rattle.gql_lex.specs.Heads.{IsSoundAt, comment, head, int_before, number, string, string_head};
 
-use crate::bytes::{byte_at, is_float_mark, is_ignored, is_line_end, is_mark, is_name_byte, is_name_start, is_number_start, is_punctuator, is_spread, is_two_quotes, may_stand};
+use crate::bytes::{
+    byte_at, is_float_mark, is_ignored, is_line_end, is_mark, is_name_byte, is_name_start,
+    is_number_start, is_punctuator, is_spread, is_two_quotes, may_stand,
+};
 use crate::numbers::{digits_len, is_in_i64, sign_len};
 use crate::strings::{block_end, text_end};
-use crate::tokens::{Head, TokenKind, BAD_CHAR, BAD_NUMBER, FLOAT_LITERAL};
+use crate::tokens::{BAD_CHAR, BAD_NUMBER, FLOAT_LITERAL, Head, TokenKind};
 
 /// How many bytes in front may stand in a Name.
 fn name_len(bytes: &[u8]) -> usize

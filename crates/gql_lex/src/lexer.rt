@@ -71,7 +71,7 @@ impl<'a> Lexer<'a> {
                 }
             }
         }
-        self.at = at;
+        self.at = bytes.len();
         Ok(None)
     }
 }

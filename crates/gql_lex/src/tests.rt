@@ -75,7 +75,10 @@ fn tokens_of_documents(rt: HostRuntime) -> Result<(), Fail> {
     let cases = [
         ("", ""),
         ("\u{FEFF} ,\t\r\n# a comment \u{7F} \u{E9}\r", ""),
-        ("!$&()...:=@[]{|}", "P! P$ P& P( P) P... P: P= P@ P[ P] P{ P| P} "),
+        (
+            "!$&()...:=@[]{|}",
+            "P! P$ P& P( P) P... P: P= P@ P[ P] P{ P| P} ",
+        ),
         (
             "query _q1($a: [Int!] = -12) {...F}",
             "Nquery N_q1 P( P$ Na P: P[ NInt P! P] P= I-12 P) P{ P... NF P} ",
@@ -141,7 +144,10 @@ fn values_of_strings(rt: HostRuntime) -> Result<(), Fail> {
             "\"\"\"\n    Hello,\n      World!\n\n    Yours,\n      GraphQL.\n  \"\"\"",
             "Hello,\n  World!\n\nYours,\n  GraphQL.",
         ),
-        ("\"\"\"  a\r\n\t\t\r b\\\"\"\"\n  c \\n\"\"\"", "  a\n\t\nb\"\"\"\n c \\n"),
+        (
+            "\"\"\"  a\r\n\t\t\r b\\\"\"\"\n  c \\n\"\"\"",
+            "  a\n\t\nb\"\"\"\n c \\n",
+        ),
     ];
     for (text, expected) in cases {
         let value = said(rt.alloc(), text)?;

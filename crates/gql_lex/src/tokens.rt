@@ -44,7 +44,7 @@ pub struct Place {
 
 /// What the bytes of a text begin with.
 #[derive(Clone, Copy, Debug, Drop)]
-pub enum Head {
+pub(crate) enum Head {
     /// Ignored text: one byte, and so many more.
     Ignored(usize),
     /// A token: one byte, and so many more.
@@ -54,16 +54,16 @@ pub enum Head {
 }
 
 /// A character begins no token, or may not stand in a comment.
-pub const BAD_CHAR: u8 = 1;
+pub(crate) const BAD_CHAR: u8 = 1;
 
 /// No number, or one that does not fit i64.
-pub const BAD_NUMBER: u8 = 2;
+pub(crate) const BAD_NUMBER: u8 = 2;
 
 /// A number with a fraction or an exponent.
-pub const FLOAT_LITERAL: u8 = 3;
+pub(crate) const FLOAT_LITERAL: u8 = 3;
 
 /// A string that is not ended, has another escape or a character that may not stand in it.
-pub const BAD_STRING: u8 = 4;
+pub(crate) const BAD_STRING: u8 = 4;
 
 /// An escape of a surrogate.
-pub const SURROGATE: u8 = 5;
+pub(crate) const SURROGATE: u8 = 5;

@@ -7,7 +7,7 @@ invariant-raw l = record {
   ended : IsBlockRest (drop l.at l.bytes);
   value : raw_text 0 (drop 3 l.bytes) ≡ string_bytes l.value ++ raw_text 0 (drop l.at l.bytes);
   boundary : IsCharBoundary l.bytes l.at;
-  within : l.at ≤ length l.bytes
+  within : l.at ≤ length l.bytes;
 }
 
 abbrev pub decreases-raw : goal.decreases-raw

@@ -1,8 +1,5 @@
-use Rattle.std.proofs.Common.{◌≡◌, ap, ◌∙◌, arith, length, drop, take, ◌-◌}
-use Rattle.std.proofs.lemmas.List.{take_rest}
-use Rattle.gql_lex.specs.Lines.{lines, texts}
-use Rattle.gql_lex.specs.Values.{block_value, unindented, without_blank_end, without_blank_start, joined}
-use Rattle.gql_lex.proofs.Margins.{trimmed, some_of}
+use Rattle.gql_lex.specs.Values.{block_value}
+use Rattle.gql_lex.proofs.Margins.{some_of}
 use Rattle.gql_lex.proofs.indents.block_value.Goals as goal
 
 pub unindented-requires : goal.unindented-requires

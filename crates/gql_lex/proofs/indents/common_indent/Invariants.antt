@@ -6,7 +6,7 @@ use Rattle.gql_lex.proofs.indents.common_indent.Given as goal
 abbrev pub invariant-lines : goal.invariant-lines
 invariant-lines l = record {
   within : l.at ≤ length l.lines;
-  most : l.most ≡ least_indent (texts (drop l.at l.lines))
+  most : l.most ≡ least_indent (texts (drop l.at l.lines));
 }
 
 abbrev pub decreases-lines : goal.decreases-lines

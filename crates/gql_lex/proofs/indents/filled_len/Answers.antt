@@ -1,5 +1,4 @@
-use Rattle.std.proofs.Common.{◌≡◌, ◌-◌, ◌<◌, true, false, length, get_or, arith, sym, ap, ◌∙◌}
-use Rattle.gql_lex.specs.Values.{is_blank_line}
+use Rattle.std.proofs.Common.{arith, sym, ◌∙◌}
 use Rattle.gql_lex.proofs.Margins.{filled_more, filled_stop}
 use Rattle.gql_lex.proofs.indents.filled_len.Goals as goal
 
@@ -9,5 +8,5 @@ returns-then-not-is_blank-clause-is c = filled_stop c.args.lines.now c.end.len _
 pub end-preserved : goal.end-preserved
 end-preserved c = record {
   within = omega (arith, c.end.invariant.within);
-  rest = filled_more c.args.lines.now c.end.len _ c.end-test.true c.end.invariant.within (sym c.is_blank.ensures ∙ c.if-not-is_blank.false) c.end.invariant.rest
+  rest = filled_more c.args.lines.now c.end.len _ c.end-test.true c.end.invariant.within (sym c.is_blank.ensures ∙ c.if-not-is_blank.false) c.end.invariant.rest;
 }

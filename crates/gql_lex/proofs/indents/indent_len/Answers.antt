@@ -1,4 +1,3 @@
-use Rattle.std.proofs.Common.{arith, length}
 use Rattle.std.proofs.lemmas.List.Sums.{prefix_len-le-length}
 use Rattle.gql_lex.specs.Values.{is_indent}
 use Rattle.gql_lex.proofs.indents.indent_len.Goals as goal

@@ -1,6 +1,4 @@
-use Rattle.std.proofs.Common.{◌≡◌, ap, ◌∙◌, arith, length, drop, take, ◌-◌}
 use Rattle.std.proofs.lemmas.List.{take_rest}
-use Rattle.gql_lex.specs.Lines.{texts}
 use Rattle.gql_lex.proofs.Margins.{trimmed}
 use Rattle.gql_lex.proofs.indents.joined_filled.Goals as goal
 

@@ -17,5 +17,5 @@ returns c =
       last = λ w. last_at c.args.bytes.now c.args.at c.line_len.result n c.requires w;
       more = λ l. more_at c.args.bytes.now c.args.at c.line_len.result n l;
       stops = λ l. stops_at c.args.bytes.now c.args.at c.line_len.result n l;
-      ascii = λ l. line_end_below _ (stops_at c.args.bytes.now c.args.at c.line_len.result n l)
+      ascii = λ l. line_end_below _ (stops_at c.args.bytes.now c.args.at c.line_len.result n l);
     }

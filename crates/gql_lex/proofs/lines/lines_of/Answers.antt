@@ -1,6 +1,5 @@
-use Rattle.std.proofs.Common.{◌≡◌, ◌+◌, ◌-◌, ◌<◌, ◌≤◌, length, drop, ap, sym, ◌∙◌, refl, arith}
+use Rattle.std.proofs.Common.{◌≡◌, ◌+◌, ◌-◌, ◌<◌, length, refl, arith}
 use Rattle.std.proofs.lemmas.Str.{IsCharBoundary-after_ascii, IsCharBoundary-start}
-use Rattle.gql_lex.specs.Lines.{lines, texts}
 use Rattle.gql_lex.proofs.Breaks.{line_pushed}
 use Rattle.gql_lex.proofs.lines.lines_of.Goals as goal
 
@@ -8,7 +7,7 @@ pub lines-init : goal.lines-init
 lines-init c = record {
   whole = rw c.new-lines.ensures.items refl;
   boundary = IsCharBoundary-start c.as_bytes-bytes.result.now c.as_bytes-bytes.ensures.utf8;
-  within = omega arith
+  within = omega arith;
 }
 
 pub lines-preserved : goal.lines-preserved
@@ -21,5 +20,5 @@ lines-preserved c =
     record {
       whole = line_pushed _ _ _ _ _ _ _ c.lines.invariant.whole h c.in_ok-push.ensures.items t;
       boundary = rw i at (IsCharBoundary-after_ascii c.as_bytes-bytes.result.now (c.next_line-at.result - 1) c.as_bytes-bytes.ensures.utf8 k c.next_line-at.ensures.ascii);
-      within = c.next_line-at.ensures.within.1
+      within = c.next_line-at.ensures.within.1;
     }

@@ -6,7 +6,7 @@ abbrev pub invariant-lines : goal.invariant-lines
 invariant-lines l = record {
   whole : lines l.bytes ≡ texts l.lines.items ++ lines (drop l.at l.bytes);
   boundary : IsCharBoundary l.bytes l.at;
-  within : l.at ≤ length l.bytes
+  within : l.at ≤ length l.bytes;
 }
 
 abbrev pub decreases-lines : goal.decreases-lines

@@ -1,4 +1,4 @@
-use Rattle.std.proofs.Common.{rules, arith, refl, sym, ap, ◌∙◌, chars, ◌≡◌, ◌<◌, ◌+◌, length, get_or, drop, true, false}
+use Rattle.std.proofs.Common.{arith, refl, ap, ◌∙◌, chars, ◌≡◌, ◌<◌, ◌+◌, length, get_or, drop, true, false}
 use Rattle.std.proofs.lemmas.Grind.{common_steps}
 use Rattle.std.proofs.lemmas.Str.{IsCharBoundary-start, IsCharBoundary-after_ascii}
 use Rattle.std.specs.List.{between}
@@ -16,7 +16,7 @@ overflow_add-line c = omega (arith, ended_lines-le c.ends.i c.args.text.now)
 
 pub ends-preserved : goal.ends-preserved
 ends-preserved c = elim c.if-ends_line.branch [
-    then-ends_line w ↦
+  | then-ends_line w ↦
       let lt : c.ends.i < length c.args.text.now = omega arith in
       let is : ends_line (get_or c.args.text.now c.ends.i 0) (drop (c.ends.i + 1) c.args.text.now) ≡ true = grind (arith, common_steps) in
       let t = turns_yes c.args.text.now c.ends.i lt is in
@@ -24,7 +24,7 @@ ends-preserved c = elim c.if-ends_line.branch [
         lines = rw t.ends (omega arith);
         start = rw t.start (omega arith);
         within = omega arith;
-        boundary = rw w.start-is (IsCharBoundary-after_ascii c.args.text.now c.ends.i c.utf8.text lt (ends_line-ascii (get_or c.args.text.now c.ends.i 0) (drop (c.ends.i + 1) c.args.text.now) is))
+        boundary = rw w.start-is (IsCharBoundary-after_ascii c.args.text.now c.ends.i c.utf8.text lt (ends_line-ascii (get_or c.args.text.now c.ends.i 0) (drop (c.ends.i + 1) c.args.text.now) is));
       }
   | else-ends_line w ↦
       let lt : c.ends.i < length c.args.text.now = omega arith in
@@ -34,8 +34,9 @@ ends-preserved c = elim c.if-ends_line.branch [
         lines = rw t.ends (omega arith);
         start = rw t.start (omega arith);
         within = omega arith;
-        boundary = rw w.start-is c.ends.invariant.boundary
-      } ]
+        boundary = rw w.start-is c.ends.invariant.boundary;
+      }
+]
 
 pub returns : goal.returns
 returns c =

@@ -7,5 +7,5 @@ invariant-ends l = record {
   lines : l.line ≡ 1 + ended_lines l.i l.text;
   start : l.start ≡ line_start l.i l.text;
   within : l.start ≤ l.i;
-  boundary : IsCharBoundary l.text l.start
+  boundary : IsCharBoundary l.text l.start;
 }

@@ -1,6 +1,6 @@
-use Rattle.std.proofs.Common.{◌≡◌, ◌+◌, Ok, ◌≤◌, arith, sym, ◌∙◌, length, IfOk, subst, Result, ℕ}
+use Rattle.std.proofs.Common.{◌≡◌, ◌+◌, Ok, arith, Result, ℕ}
 use Rattle.std.proofs.lemmas.Grind.{common_steps}
-use Rattle.gql_lex.proofs.Skips.{block_none, further_err, further_end}
+use Rattle.gql_lex.proofs.Skips.{block_none, further_err}
 use Rattle.gql_lex.proofs.Extents.{block_end-within}
 use Rattle.gql_lex.specs.Strings.{block_end}
 use Rattle.gql_lex.proofs.strings.block_end.Goals as goal

@@ -1,4 +1,4 @@
-use Rattle.std.proofs.Common.{arith, refl, sym, ◌∙◌}
+use Rattle.std.proofs.Common.{arith, sym, ◌∙◌}
 use Rattle.gql_lex.proofs.Skips.{block_quotes, block_escape, block_plain, block_bad}
 use Rattle.gql_lex.proofs.strings.block_step.Goals as goal
 

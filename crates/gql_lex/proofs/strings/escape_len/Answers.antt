@@ -1,6 +1,6 @@
-use Rattle.std.proofs.Common.{◌≡◌, arith, sym, ap, ◌∙◌, refl, get_or, drop, true, false, cond, Some, None}
+use Rattle.std.proofs.Common.{◌≡◌, arith, sym, ◌∙◌, get_or, true, false}
 use Rattle.std.proofs.lemmas.List.{take_rest}
-use Rattle.gql_lex.specs.Strings.{is_simple_escape, is_surrogate, is_four_hex, code_of_hex}
+use Rattle.gql_lex.specs.Strings.{is_simple_escape, is_surrogate}
 use Rattle.gql_lex.proofs.Escapes.{escape_none, escape_some}
 use Rattle.gql_lex.proofs.strings.escape_len.Goals as goal
 

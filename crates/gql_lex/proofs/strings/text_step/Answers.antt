@@ -1,4 +1,4 @@
-use Rattle.std.proofs.Common.{arith, refl, sym}
+use Rattle.std.proofs.Common.{arith}
 use Rattle.std.proofs.lemmas.Grind.{common_steps}
 use Rattle.std.proofs.lemmas.Result.{err_from_is_err_and}
 use Rattle.gql_lex.proofs.Skips.{text_quote, text_escape, text_escape_bad, text_plain, text_bad}

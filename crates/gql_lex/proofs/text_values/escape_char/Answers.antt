@@ -1,8 +1,7 @@
 use Rattle.std.proofs.Common.{◌≡◌, get_or, arith, sym, ap, ◌∙◌, ⊎_elim}
 use Rattle.std.proofs.lemmas.Bool.{eq-eqb, ne_eqb}
 use Rattle.std.proofs.lemmas.List.{take_rest}
-use Rattle.std.proofs.lemmas.Grind.{common_steps}
-use Rattle.gql_lex.specs.Values.{escape_char, simple_escape}
+use Rattle.gql_lex.specs.Values.{simple_escape}
 use Rattle.gql_lex.proofs.Escapes.{code_scalar, code_some}
 use Rattle.gql_lex.proofs.text_values.escape_char.Goals as goal
 

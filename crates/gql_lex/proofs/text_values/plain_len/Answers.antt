@@ -1,4 +1,4 @@
-use Rattle.std.proofs.Common.{◌≡◌, ◌<◌, true, false, length, drop, arith, sym, ap, ◌∙◌}
+use Rattle.std.proofs.Common.{◌≡◌, true, false, drop, arith, sym, ◌∙◌}
 use Rattle.std.proofs.lemmas.List.{take_rest}
 use Rattle.gql_lex.specs.Values.{stops_text}
 use Rattle.gql_lex.proofs.Runs.{run_more, run_stop, run_all}

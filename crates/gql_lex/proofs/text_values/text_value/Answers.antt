@@ -1,8 +1,6 @@
-use Rattle.std.proofs.Common.{◌≡◌, ◌+◌, ◌-◌, ◌<◌, ◌≤◌, ◌++◌, length, drop, get_or, string_bytes, ap, sym, ◌∙◌, refl, arith, IsCharBoundary, ⊎_elim}
+use Rattle.std.proofs.Common.{◌≡◌, ◌+◌, ◌-◌, ◌<◌, length, drop, get_or, refl, arith}
 use Rattle.std.proofs.lemmas.List.{get_or-drop, length-drop}
 use Rattle.std.proofs.lemmas.Str.{IsCharBoundary-after_ascii}
-use Rattle.std.specs.List.{between}
-use Rattle.gql_lex.specs.Values.{text_value, IsTextRest}
 use Rattle.gql_lex.proofs.Texts.{quote_ends}
 use Rattle.gql_lex.proofs.Extents.{stands_within}
 use Rattle.gql_lex.proofs.Pushes.{pushed_last, pushed_two}
@@ -17,7 +15,7 @@ text-init c =
       ended = k.1;
       value = rw c.new-value.ensures.bytes refl;
       boundary = IsCharBoundary-after_ascii c.as_bytes-bytes.result.now 0 c.as_bytes-bytes.ensures.utf8 l (omega (arith, k.0));
-      within = l
+      within = l;
     }
 
 pub returns-then-bytes-end-eq34 : goal.returns-then-bytes-end-eq34
@@ -26,8 +24,8 @@ returns-then-bytes-end-eq34 c =
     let z : c.plain_end-end.result + 0 ≡ c.plain_end-end.result = omega arith in
     let q : get_or (drop c.plain_end-end.result c.as_bytes-bytes.result.now) 0 0 ≡ 34 = rw (get_or-drop c.plain_end-end.result c.as_bytes-bytes.result.now 0 0, z) c.if-bytes-end-eq34.true in
     rw (← c.as_bytes-bytes.ensures.value)
-        (pushed_last _ _ _ _ _ _ c.text.invariant.value c.plain_end-end.ensures.value (quote_ends _ l q)
-            (rw (← c.as_bytes-bytes.ensures.value) at (rw c.range.ensures.value at c.in_ok-push_str.ensures.bytes)))
+    (pushed_last _ _ _ _ _ _ c.text.invariant.value c.plain_end-end.ensures.value (quote_ends _ l q)
+    (rw (← c.as_bytes-bytes.ensures.value) at (rw c.range.ensures.value at c.in_ok-push_str.ensures.bytes)))
 
 pub text-preserved : goal.text-preserved
 text-preserved c =
@@ -38,5 +36,5 @@ text-preserved c =
       value = pushed_two _ _ _ _ _ _ _ _ _ c.text.invariant.value c.plain_end-end.ensures.value c.unescaped-character.ensures.value
           (rw (← c.as_bytes-bytes.ensures.value) at (rw c.range.ensures.value at c.in_ok-push_str.ensures.bytes)) c.in_ok-push.ensures.bytes;
       boundary = rw i at (IsCharBoundary-after_ascii c.as_bytes-bytes.result.now (c.unescaped-character.result.1 - 1) c.as_bytes-bytes.ensures.utf8 l c.unescaped-character.ensures.ascii);
-      within = omega (arith, c.unescaped-character.ensures.within.1)
+      within = omega (arith, c.unescaped-character.ensures.within.1);
     }

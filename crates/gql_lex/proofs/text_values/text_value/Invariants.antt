@@ -7,7 +7,7 @@ invariant-text l = record {
   ended : IsTextRest (drop l.at l.bytes);
   value : text_value 0 (drop 1 l.bytes) ≡ string_bytes l.value ++ text_value 0 (drop l.at l.bytes);
   boundary : IsCharBoundary l.bytes l.at;
-  within : l.at ≤ length l.bytes
+  within : l.at ≤ length l.bytes;
 }
 
 abbrev pub decreases-text : goal.decreases-text

@@ -1,7 +1,6 @@
-use Rattle.std.proofs.Common.{◌≡◌, ◌+◌, ◌-◌, ◌<◌, length, drop, slice_index, ap, sym, ◌∙◌, refl, arith}
+use Rattle.std.proofs.Common.{◌≡◌, ◌+◌, ◌-◌, drop, ap, ◌∙◌, refl, arith}
 use Rattle.std.proofs.lemmas.List.{take_rest}
-use Rattle.gql_lex.specs.Values.{escaped_len, escape_char, text_value}
-use Rattle.std.specs.Char.{encode_utf8}
+use Rattle.gql_lex.specs.Values.{escaped_len, escape_char}
 use Rattle.gql_lex.proofs.Texts.{escaped_from}
 use Rattle.gql_lex.proofs.text_values.unescaped.Goals as goal
 

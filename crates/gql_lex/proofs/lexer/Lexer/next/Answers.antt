@@ -1,6 +1,5 @@
-use Rattle.std.proofs.Common.{◌≡◌, ◌+◌, ◌-◌, ◌<◌, length, drop, arith, sym, ap, ◌∙◌, refl, IsCharBoundary}
+use Rattle.std.proofs.Common.{◌≡◌, ◌+◌, ◌-◌, ◌<◌, length, drop, arith, sym, ◌∙◌, refl}
 use Rattle.std.proofs.lemmas.Str.{IsCharBoundary-after_ascii}
-use Rattle.gql_lex.specs.Sources.{lexed, Piece}
 use Rattle.std.proofs.lemmas.List.{length-drop}
 use Rattle.gql_lex.proofs.Whole.{found_token}
 use Rattle.gql_lex.proofs.Reading.{at_ignored, at_found, at_wrong, lexed_none}
@@ -10,14 +9,14 @@ pub ignored-preserved : goal.ignored-preserved
 ignored-preserved c = record {
   text = c.ignored.invariant.text;
   ahead = c.ignored.invariant.ahead ∙ at_ignored c.as_bytes-bytes.result.now c.ignored.at c.in-Ignored.more c.ignored-test.true c.in-Ignored.ensures.is;
-  within = omega (arith, c.in-Ignored.ensures.sound)
+  within = omega (arith, c.in-Ignored.ensures.sound);
 }
 
 pub range-requires-clause-end_boundary : goal.range-requires-clause-end_boundary
 range-requires-clause-end_boundary c =
     let e : c.ignored.at + (1 + c.in-Found.more) ≡ c.ignored.at + c.in-Found.more + 1 = omega arith in
     rw (e, ← c.as_bytes-bytes.ensures.value)
-        (IsCharBoundary-after_ascii c.as_bytes-bytes.result.now (c.ignored.at + c.in-Found.more) c.as_bytes-bytes.ensures.utf8 c.in-Found.ensures.sound.0 c.in-Found.ensures.sound.2)
+    (IsCharBoundary-after_ascii c.as_bytes-bytes.result.now (c.ignored.at + c.in-Found.more) c.as_bytes-bytes.ensures.utf8 c.in-Found.ensures.sound.0 c.in-Found.ensures.sound.2)
 
 pub returns-in-Found-clause-gives : goal.returns-in-Found-clause-gives
 returns-in-Found-clause-gives c =
@@ -34,8 +33,9 @@ returns-in-Wrong-clause-gives c =
 pub returns-clause-gives : goal.returns-clause-gives
 returns-clause-gives c =
     let n = lexed_none c.ignored.at c.ignored.at c.as_bytes-bytes.result.now c.ignored-test.false in
+    let m = lexed_none (length c.as_bytes-bytes.result.now) (length c.as_bytes-bytes.result.now) c.as_bytes-bytes.result.now (omega arith) in
     let p = c.ignored.invariant.ahead ∙ n in
-    rw (p, c.ignored.invariant.text) (refl, n)
+    rw (p, c.ignored.invariant.text) (refl, m)
 
 pub returns-in-Found-clause-form : goal.returns-in-Found-clause-form
 returns-in-Found-clause-form c =

@@ -6,7 +6,7 @@ abbrev pub invariant-ignored : goal.invariant-ignored
 invariant-ignored l = record {
   text : l.self-inside.text.now ≡ l.bytes;
   ahead : l.fn.self ≡ lexed l.at (drop l.at l.bytes);
-  within : l.at ≤ length l.bytes
+  within : l.at ≤ length l.bytes;
 }
 
 abbrev pub decreases-ignored : goal.decreases-ignored
