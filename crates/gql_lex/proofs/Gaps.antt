@@ -18,6 +18,7 @@ use Rattle.gql_lex.specs.Descriptions.{Describes}
 use Rattle.gql_lex.proofs.Extents.{or_below, same_below, head-sound_at}
 use Rattle.gql_lex.proofs.Breaks.{line_end_below}
 use Rattle.gql_lex.proofs.Reading.{at_ignored, at_found, at_wrong, lexed_none}
+use Rattle.gql_lex.proofs.Ignored.{gap_none, gap_more}
 use Rattle.gql_lex.proofs.Whole.{found_token}
 
 -- ---- a byte order mark
@@ -133,10 +134,22 @@ behind bs at n u b l e = ⊎_elim
 
 -- ---- the whole text
 
-weaker : (text : List ℕ) (from at : ℕ) (s : Source) → from ≤ at → Describes text at s → Describes text from s
-weaker text from at ended l d = tt
-weaker text from at (faulty code k) l d = (omega (arith, d.0), d.1, d.2)
-weaker text from at (token p rest) l d = (record { behind = omega (arith, d.0.behind); some = d.0.some; within = d.0.within; text = d.0.text; form = d.0.form; start = d.0.start; end = d.0.end }, d.1)
+further_back : (text : List ℕ) (at n : ℕ) (s : Source) → at + n < length text → Ignored n ≡ head (drop at text) → Describes text (at + (1 + n)) s → Describes text at s
+further_back text at n ended l e d = gap_more text at n (length text) l e (omega arith) (omega arith) d
+further_back text at n (faulty code k) l e d = (omega (arith, d.0), d.1, d.2)
+further_back text at n (token p rest) l e d = (
+  record {
+    behind = omega (arith, d.0.behind);
+    gap = gap_more text at n p.start l e d.0.behind (omega (arith, d.0.some, d.0.within)) d.0.gap;
+    some = d.0.some;
+    within = d.0.within;
+    text = d.0.text;
+    form = d.0.form;
+    start = d.0.start;
+    end = d.0.end;
+  },
+  d.1,
+)
 
 sound_of : (text : List ℕ) (at : ℕ) → at < length text → (h : Head) → h ≡ head (drop at text) → IsSoundAt text at h
 sound_of text at l h e = rw e (head-sound_at text at l)
@@ -149,7 +162,7 @@ described : (text : List ℕ) (at : ℕ) → IsUtf8 text → IsCharBoundary text
 described text at u b l (Ignored n) e more =
     let s = sound_of text at l (Ignored n) e in
     let i = behind text at n u b s (ends_of text at l (Ignored n) e) in
-    rw (at_ignored text at n l e) (weaker text at (at + (1 + n)) _ (omega arith) (more (at + (1 + n)) (omega arith) i))
+    rw (at_ignored text at n l e) (further_back text at n _ s e (more (at + (1 + n)) (omega arith) i))
 described text at u b l (Found kind n) e more =
     let s = sound_of text at l (Found kind n) e in
     let o : at + n + 1 ≡ at + (1 + n) = omega arith in
@@ -157,16 +170,16 @@ described text at u b l (Found kind n) e more =
     let i = rw o at (IsCharBoundary-after_ascii text (at + n) u s.0 s.2) in
     let t = found_token (drop at text) kind n (omega (arith, s.0, length-drop at text)) (sym e) in
     rw (at_found text at n kind l e)
-    (record { behind = omega arith; some = omega arith; within = omega (arith, s.0); text = refl; form = rw m t; start = b; end = i }, more (at + (1 + n)) (omega arith) i)
+    (record { behind = omega arith; gap = gap_none text at at (omega arith); some = omega arith; within = omega (arith, s.0); text = refl; form = rw m t; start = b; end = i }, more (at + (1 + n)) (omega arith) i)
 described text at u b l (Wrong code n) e more =
     let s = sound_of text at l (Wrong code n) e in
     rw (at_wrong text at n code l e) (omega arith, s.0, ⊎_elim (λ z. let i : at ≡ at + n = omega (arith, z) in rw i at b) (λ a. IsCharBoundary-before_ascii text (at + n) s.0 a) s.1)
 
 describes_by : (fuel : ℕ) (text : List ℕ) (at : ℕ) → IsUtf8 text → IsCharBoundary text at → length text ≤ at + fuel → Describes text at (lexed at (drop at text))
-describes_by zero text at u b l = rw (lexed_none at at text (omega arith)) tt
+describes_by zero text at u b l = rw (lexed_none at at text (omega arith)) (gap_none text at (length text) (omega arith))
 describes_by (suc fuel) text at u b l = ⊎_elim
     (λ w. described text at u b w (head (drop at text)) refl (λ k m c. describes_by fuel text k u c (omega arith)))
-    (λ w. rw (lexed_none at at text w) tt)
+    (λ w. rw (lexed_none at at text w) (gap_none text at (length text) w))
     (cases_lt at (length text))
 
 pub describes : (text : List ℕ) → IsUtf8 text → Describes text 0 (lexed 0 text)

@@ -6,6 +6,7 @@ pub mod Escapes
 mod Examples
 pub mod Extents
 pub mod Gaps
+pub mod Ignored
 pub mod Margins
 pub mod Pushes
 pub mod Reading

@@ -21,7 +21,7 @@ read_first at (c ∷ cs) h = refl
 read_on : (at n : ℕ) (bs : List ℕ) → read n (at + 1) (drop 1 bs) ≡ lexed (at + (1 + n)) (drop (1 + n) bs)
 read_on at n bs = let e : at + 1 + n ≡ at + (1 + n) = omega arith in rw (read-skip n (at + 1) (drop 1 bs), e, drop-drop n 1 bs) refl
 
-lexed_ignored : (at n : ℕ) (bs : List ℕ) → 0 < length bs → Ignored n ≡ head bs → lexed at bs ≡ lexed (at + (1 + n)) (drop (1 + n) bs)
+pub lexed_ignored : (at n : ℕ) (bs : List ℕ) → 0 < length bs → Ignored n ≡ head bs → lexed at bs ≡ lexed (at + (1 + n)) (drop (1 + n) bs)
 lexed_ignored at n bs h e = rw (read_first at bs h, ← e) (read_on at n bs)
 
 lexed_found : (at n : ℕ) (kind : TokenKind) (bs : List ℕ) → 0 < length bs → Found kind n ≡ head bs

@@ -17,11 +17,11 @@ use Rattle.gql_lex.proofs.Texts.{further_one, taken, not_unicode, is_simple, ok_
 
 -- ---- the same tests
 
-step_same : {A : Type 0} (b : Bool) (x x' y y' z : A) → (x ≡ z → x' ≡ z) → (y ≡ z → y' ≡ z) → cond b x y ≡ z → cond b x' y' ≡ z
+pub step_same : {A : Type 0} (b : Bool) (x x' y y' z : A) → (x ≡ z → x' ≡ z) → (y ≡ z → y' ≡ z) → cond b x y ≡ z → cond b x' y' ≡ z
 step_same true x x' y y' z h k e = h e
 step_same false x x' y y' z h k e = k e
 
-step_kept : {A : Type 0} (b b' : Bool) (x x' y y' z : A) → (b ≡ true → x ≡ z → (b' ≡ true) × (x' ≡ z)) → (b ≡ false → b' ≡ false) → (y ≡ z → y' ≡ z)
+pub step_kept : {A : Type 0} (b b' : Bool) (x x' y y' z : A) → (b ≡ true → x ≡ z → (b' ≡ true) × (x' ≡ z)) → (b ≡ false → b' ≡ false) → (y ≡ z → y' ≡ z)
     → cond b x y ≡ z → cond b' x' y' ≡ z
 step_kept true b' x x' y y' z h f k e = let p = h refl e in rw p.0 p.1
 step_kept false b' x x' y y' z h f k e = let p = f refl in rw p (k e)
@@ -37,7 +37,7 @@ same_byte bs n i k p e =
 three_of : (a b c : Bool) → a ≡ true → b ≡ true → c ≡ true → (a && b && c) ≡ true
 three_of a b c p q r = and_from (a && b) c (and_from a b p q) r
 
-three_shorter : (bs : List ℕ) (n i j k : ℕ) → 0 < i → 0 < j → 0 < k → (eqb (get_or bs 0 0) i && eqb (get_or bs 1 0) j && eqb (get_or bs 2 0) k) ≡ false
+pub three_shorter : (bs : List ℕ) (n i j k : ℕ) → 0 < i → 0 < j → 0 < k → (eqb (get_or bs 0 0) i && eqb (get_or bs 1 0) j && eqb (get_or bs 2 0) k) ≡ false
     → (eqb (get_or (take n bs) 0 0) i && eqb (get_or (take n bs) 1 0) j && eqb (get_or (take n bs) 2 0) k) ≡ false
 three_shorter bs n i j k p q r e = false_from_ne_true _ (λ t.
     let u = and_parts (eqb (get_or (take n bs) 0 0) i && eqb (get_or (take n bs) 1 0) j) (eqb (get_or (take n bs) 2 0) k) t in
