@@ -1,0 +1,11 @@
+pub mod Answers
+pub mod Characters
+pub mod Codes
+pub mod Descriptions
+pub mod Heads
+pub mod Lines
+pub mod Numbers
+pub mod Sources
+pub mod Strings
+pub mod Toks
+pub mod Values
