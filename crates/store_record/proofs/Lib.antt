@@ -1,0 +1,4 @@
+pub mod Kept
+pub mod KeyTexts
+pub mod Puts
+pub mod Readable
