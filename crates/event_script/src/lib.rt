@@ -1,0 +1,16 @@
+//! The events of a script (this project's own): what a line of bytes says, and why it says nothing.
+#![tactic(auto)]
+
+mod commands;
+pub mod event;
+pub mod fault;
+mod members;
+mod rows;
+mod values;
+
+pub use event::read_event;
+pub use fault::LineFault;
+pub use store_model::{Answer, Command, Commands, EdgeEdit, Event, Part, Target};
+
+#[cfg(test)]
+mod tests;

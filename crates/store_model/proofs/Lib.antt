@@ -1,0 +1,15 @@
+pub mod Least
+pub mod Led
+pub mod Rows
+pub mod Sorted
+pub mod EventRows
+pub mod AlikeReaches
+pub mod AlikeReads
+pub mod Kept
+pub mod LookedKeys
+pub mod SameItems
+pub mod SameReach
+pub mod SameRead
+pub mod SameSlots
+pub mod Seated
+pub mod WalkRows

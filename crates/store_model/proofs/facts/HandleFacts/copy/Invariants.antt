@@ -1,0 +1,5 @@
+use Rattle.std.proofs.Common.{◌≡◌, take}
+use Rattle.store_model.proofs.facts.HandleFacts.copy.Given as goal
+
+abbrev pub invariant-items : goal.invariant-items
+invariant-items l = l.items.items ≡ take l.handle-index l.handle-items

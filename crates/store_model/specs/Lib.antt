@@ -1,0 +1,14 @@
+pub mod FactOrder
+pub mod Said
+pub mod Records
+pub mod Merge
+pub mod Updates
+pub mod Entries
+pub mod Leads
+pub mod SameEvents
+pub mod Events
+pub mod Items
+pub mod Walks
+pub mod Reaches
+pub mod Agree
+pub mod Alike

@@ -1,0 +1,238 @@
+-- Reading: the data that a walk along records gives, and what the walk meets.
+use Rattle.std.specs.Prelude.{ℕ, zero, suc, Bool, true, false, ◌||◌, List, [], ◌∷◌, ◌++◌, codes, Option, Some, None, unwrap_or}
+use Rattle.std.specs.Cmp.Lexicographic.{slice_cmp}
+use Rattle.std.specs.FinMap as map
+use Rattle.std.specs.Ordering.{nat_cmp}
+use Rattle.gql_plain.specs.Order.{has_text}
+use Rattle.gql_plain.specs.Shown.{tree_of}
+use Rattle.gql_plain.specs.Tree.{Tree, null, text, list, object, trees_of, members_of}
+use Rattle.gql_plain.specs.declared.plain.Plain.{Plain}
+use Rattle.gql_plain.specs.declared.plain.Plain.TheVariants.{Null, Bool as Truth, Int, Text as Words, List as Listed, Tree as Object}
+use Rattle.store_record.specs.Keys.{Text, Arguments}
+use Rattle.store_record.specs.declared.field.Field.{Field}
+use Rattle.store_record.specs.declared.field.Field.TheVariants.{Leaf, Link, Links}
+use Rattle.store_record.specs.declared.record.Slot.{Slot}
+use Rattle.store_record.specs.declared.record.Slot.TheVariants.{Deleted, Alive}
+use Rattle.store_model.specs.Items.{Form, typename, leaf, one, many, Asked, Pointer, Group, parts, grouped, pointers, Collect, collect_all}
+use Rattle.store_model.specs.Records.{field_at}
+
+-- ---- slots
+
+-- the slot of each id, none where the id is absent
+abbrev pub Slots : Type 0
+Slots = Text → Option Slot
+
+-- the field under each key, none where the key is not stored
+abbrev pub Fields : Type 0
+Fields = Text → Option Field
+
+-- how an id stands: absent, deleted, or live with a type name
+pub data Standing : Type 0 where
+  absent : Standing
+  gone : Standing
+  lives : (type_name : Text) → Standing
+
+abbrev pub standing_of : Option Slot → Standing
+standing_of None = absent
+standing_of (Some Deleted) = gone
+standing_of (Some (Alive r)) = lives r.type_name
+
+-- the fields of a slot; an absent or a deleted record has none
+abbrev pub field_of : Option Slot → Fields
+field_of None key = None
+field_of (Some Deleted) key = None
+field_of (Some (Alive r)) key = field_at key r
+
+-- ---- what a walk meets
+
+-- a pointer that a read gives: its fragment, the id where it stands, and the values of the fragment's local variables
+pub record Issued : Type 0 where
+  pub fragment : Text
+  pub id : Text
+  pub scope : Arguments
+
+-- whether something was missing, the ids stood at, the fields looked at, and the pointers given, each as often as it was met
+pub record Trace : Type 0 where
+  pub missing : Bool
+  pub seen : List Text
+  pub looked : List (Text × Text)
+  pub issued : List Issued
+
+-- nothing met
+abbrev pub still : Trace
+still = record { missing = false; seen = []; looked = []; issued = [] }
+
+-- something missing
+abbrev pub lost : Trace
+lost = record { missing = true; seen = []; looked = []; issued = [] }
+
+-- one id stood at
+abbrev pub stood : Text → Trace
+stood id = record { missing = false; seen = id ∷ []; looked = []; issued = [] }
+
+-- one id stood at, and the record missing
+abbrev pub stood_lost : Text → Trace
+stood_lost id = record { missing = true; seen = id ∷ []; looked = []; issued = [] }
+
+-- one field looked at
+abbrev pub looked_at : Text → Text → Trace
+looked_at id key = record { missing = false; seen = []; looked = (id, key) ∷ []; issued = [] }
+
+-- one pointer given
+abbrev pub issue : {F : Type 0} → Text → Pointer F → Trace
+issue id p = record { missing = false; seen = []; looked = []; issued = record { fragment = p.fragment; id = id; scope = p.scope } ∷ [] }
+
+-- what two walks meet, one after the other
+abbrev pub joined : Trace → Trace → Trace
+joined s t = record { missing = s.missing || t.missing; seen = s.seen ++ t.seen; looked = s.looked ++ t.looked; issued = s.issued ++ t.issued }
+
+-- ---- what a read gives
+
+-- the data, none where it is missing, and what was met
+abbrev pub Found : Type 0
+Found = Option Tree × Trace
+
+-- the members of an object in byte order of their keys
+abbrev pub Shown : Type 0
+Shown = List (Text × Tree)
+
+abbrev pub shown_object : Shown → Tree
+shown_object ms = object (members_of ms)
+
+-- the members with a value under its key
+abbrev pub with_value : Text → Tree → Shown → Shown
+with_value key t ms = map.put (slice_cmp nat_cmp) key t ms
+
+-- the members with a value under its key; a missing value is left out
+abbrev pub with_found : Text → Option Tree → Shown → Shown
+with_found key None ms = ms
+with_found key (Some t) ms = with_value key t ms
+
+-- a missing element of a list, and missing data at the top, are null
+abbrev pub or_null : Option Tree → Tree
+or_null d = unwrap_or d null
+
+-- how parts are read at an id whose possible types are given
+abbrev pub Next : Type 0 → Type 0
+Next F = (types : List Text) → List F → (id : Text) → Found
+
+-- ---- fields
+
+-- the value of a leaf that stands under a field of objects: only null does
+abbrev pub null_alone : Plain → Found
+null_alone Null = (Some null, still)
+null_alone (Truth b) = (None, lost)
+null_alone (Int z) = (None, lost)
+null_alone (Words s) = (None, lost)
+null_alone (Listed ts) = (None, lost)
+null_alone (Object ms) = (None, lost)
+
+abbrev pub leaf_at : Option Field → Found
+leaf_at None = (None, lost)
+leaf_at (Some (Leaf value)) = (Some (tree_of value), still)
+leaf_at (Some (Link id)) = (None, lost)
+leaf_at (Some (Links ids)) = (None, lost)
+
+abbrev pub one_at : {F : Type 0} → Next F → List Text → List F → Option Field → Found
+one_at next types fs None = (None, lost)
+one_at next types fs (Some (Leaf value)) = null_alone value
+one_at next types fs (Some (Link id)) = next types fs id
+one_at next types fs (Some (Links ids)) = (None, lost)
+
+-- an element is null where the list has none, and where it is missing
+abbrev pub element_at : {F : Type 0} → Next F → List Text → List F → Option Text → Tree × Trace
+element_at next types fs None = (null, still)
+element_at next types fs (Some id) = (or_null (next types fs id).0, (next types fs id).1)
+
+abbrev pub elements_at : {F : Type 0} → Next F → List Text → List F → List (Option Text) → List Tree × Trace
+elements_at next types fs [] = ([], still)
+elements_at next types fs (e ∷ es) = (
+  (element_at next types fs e).0 ∷ (elements_at next types fs es).0,
+  joined (element_at next types fs e).1 (elements_at next types fs es).1,
+)
+
+abbrev pub listed : List Tree × Trace → Found
+listed r = (Some (list (trees_of r.0)), r.1)
+
+abbrev pub many_at : {F : Type 0} → Next F → List Text → List F → Option Field → Found
+many_at next types fs None = (None, lost)
+many_at next types fs (Some (Leaf value)) = null_alone value
+many_at next types fs (Some (Link id)) = (None, lost)
+many_at next types fs (Some (Links ids)) = listed (elements_at next types fs ids)
+
+-- a field by its form; the type name is that of the record
+abbrev pub value_at : {F : Type 0} → Next F → Text → List F → Form → Option Field → Found
+value_at next T fs typename field = (Some (text T), still)
+value_at next T fs leaf field = leaf_at field
+value_at next T fs (one types) field = one_at next types fs field
+value_at next T fs (many types) field = many_at next types fs field
+
+-- a connection is read under its handle key, any other field under its own
+abbrev pub read_key : {F : Type 0} → Asked F → Text
+read_key a = unwrap_or a.handle a.key
+
+-- the field that a form looks at; a type name looks at none
+abbrev pub looks_at : Form → Text → Text → Trace
+looks_at typename id key = still
+looks_at leaf id key = looked_at id key
+looks_at (one types) id key = looked_at id key
+looks_at (many types) id key = looked_at id key
+
+-- a group: the first field decides the key and the form, the parts of all are joined
+abbrev pub group_at : {F : Type 0} → Next F → Text → Fields → Group F → Found
+group_at next T fields g = value_at next T (parts g) g.first.form (fields (read_key g.first))
+
+abbrev pub fields_at : {F : Type 0} → Next F → Text → Text → Fields → Shown × Trace → List (Group F) → Shown × Trace
+fields_at next T id fields end [] = end
+fields_at next T id fields end (g ∷ groups) = (
+  with_found g.first.response (group_at next T fields g).0 (fields_at next T id fields end groups).0,
+  joined (joined (looks_at g.first.form id (read_key g.first)) (group_at next T fields g).1) (fields_at next T id fields end groups).1,
+)
+
+-- ---- pointers
+
+-- a pointer shows the values of the local variables; an inline one the data of its body, whose walk joins
+abbrev pub pointer_at : {F : Type 0} → Next F → Text → Text → Pointer F → Bool → Tree × Trace
+pointer_at next T id p false = (shown_object p.scope, issue id p)
+pointer_at next T id p true = (or_null (next (T ∷ []) (p.body ∷ []) id).0, joined (issue id p) (next (T ∷ []) (p.body ∷ []) id).1)
+
+abbrev pub pointers_at : {F : Type 0} → Next F → Text → Text → List (Pointer F) → Shown × Trace
+pointers_at next T id [] = ([], still)
+pointers_at next T id (p ∷ rest) = (
+  with_value p.fragment (pointer_at next T id p p.inline).0 (pointers_at next T id rest).0,
+  joined (pointer_at next T id p p.inline).1 (pointers_at next T id rest).1,
+)
+
+-- an object with a pointer tells its id, the name of its owner, and the pointers under the names of their fragments
+abbrev pub marked : Text → Text → Shown → Shown
+marked owner id [] = []
+marked owner id (m ∷ ms) =
+    with_value (codes "__fragments") (shown_object (m ∷ ms)) (with_value (codes "__id") (text id) (with_value (codes "__owner") (text owner) []))
+
+abbrev pub marks : Text → Text → Shown × Trace → Shown × Trace
+marks owner id r = (marked owner id r.0, r.1)
+
+-- ---- records
+
+-- the members of a live record of an object type
+abbrev pub object_at : {F : Type 0} → Collect F → Text → Next F → Text → List F → Text → Fields → Shown × Trace
+object_at collect owner next T fs id fields =
+    fields_at next T id fields (marks owner id (pointers_at next T id (pointers (collect_all collect T fs)))) (grouped (collect_all collect T fs))
+
+-- a live record is missing where its type is not possible
+abbrev pub where_possible : Bool → Text → Shown × Trace → Found
+where_possible true id r = (Some (shown_object r.0), joined (stood id) r.1)
+where_possible false id r = (None, stood_lost id)
+
+-- an absent record is missing, a deleted one null; typed gives a record's type from its type name
+abbrev pub stand_at : {F : Type 0} → Collect F → (Text → Text) → Text → Next F → List Text → List F → Text → Standing → Fields → Found
+stand_at collect typed owner next types fs id absent fields = (None, stood_lost id)
+stand_at collect typed owner next types fs id gone fields = (Some null, stood id)
+stand_at collect typed owner next types fs id (lives name) fields =
+    where_possible (has_text types (typed name)) id (object_at collect owner next (typed name) fs id fields)
+
+-- the read at an id, at most n records one below another
+abbrev pub read_at : {F : Type 0} → Collect F → (Text → Text) → Text → Slots → ℕ → Next F
+read_at collect typed owner m zero types fs id = (None, stood_lost id)
+read_at collect typed owner m (suc n) types fs id =
+    stand_at collect typed owner (read_at collect typed owner m n) types fs id (standing_of (m id)) (field_of (m id))

@@ -1,0 +1,262 @@
+use crate::{
+    Answer, Cause, Command, Commands, EdgeEdit, Entry, Event, Fact, FactList, Facts, HandleFact,
+    HandleFacts, Part, PathStep, PathSteps, PayloadFault, Target,
+};
+use gql_plain::{NoMemory, OptIds, Pairs, Plain, Words};
+use serde_json::Value;
+use std::alloc::Global;
+use std::test::Fail;
+use store_record::Field;
+
+fn word(alloc: Global, text: &str) -> Result<Words, NoMemory> {
+    Words::new(alloc, text)
+}
+
+fn edit(alloc: Global) -> Result<EdgeEdit, NoMemory> {
+    Ok(EdgeEdit {
+        id: word(alloc, "4")?,
+        key: word(alloc, "K_friends")?,
+        filters: Pairs::new(alloc),
+        node: word(alloc, "5")?,
+        edge_type: word(alloc, "UserEdge")?,
+        cursor: Plain::Null,
+    })
+}
+
+fn name_of(command: &Command) -> &'static str {
+    match command {
+        Command::Set { .. } => "set",
+        Command::Add { .. } => "add",
+        Command::Link { .. } => "link",
+        Command::Links { .. } => "links",
+        Command::Create { .. } => "create",
+        Command::Delete { .. } => "delete",
+        Command::AppendNode(_) => "append_node",
+        Command::PrependNode(_) => "prepend_node",
+        Command::DeleteEdge(_) => "delete_edge",
+    }
+}
+
+fn set(alloc: Global) -> Result<Command, NoMemory> {
+    Ok(Command::Set {
+        id: word(alloc, "4")?,
+        field: word(alloc, "name")?,
+        args: Pairs::new(alloc),
+        value: Plain::Null,
+    })
+}
+
+fn add(alloc: Global) -> Result<Command, NoMemory> {
+    Ok(Command::Add {
+        id: word(alloc, "4")?,
+        field: word(alloc, "age")?,
+        args: Pairs::new(alloc),
+        by: 1,
+    })
+}
+
+fn link(alloc: Global) -> Result<Command, NoMemory> {
+    Ok(Command::Link {
+        id: word(alloc, "4")?,
+        field: word(alloc, "friend")?,
+        args: Pairs::new(alloc),
+        to: Some(word(alloc, "5")?),
+    })
+}
+
+fn links(alloc: Global) -> Result<Command, NoMemory> {
+    Ok(Command::Links {
+        id: word(alloc, "4")?,
+        field: word(alloc, "friends")?,
+        args: Pairs::new(alloc),
+        to: OptIds::new(alloc),
+    })
+}
+
+fn create(alloc: Global) -> Result<Command, NoMemory> {
+    Ok(Command::Create {
+        id: word(alloc, "t1")?,
+        of: word(alloc, "User")?,
+    })
+}
+
+fn delete(alloc: Global) -> Result<Command, NoMemory> {
+    Ok(Command::Delete {
+        id: word(alloc, "4")?,
+    })
+}
+
+fn put_field_commands(alloc: Global, commands: &mut Commands) -> Result<(), NoMemory> {
+    commands.push(set(alloc)?)?;
+    commands.push(add(alloc)?)?;
+    Ok(())
+}
+
+fn put_link_commands(alloc: Global, commands: &mut Commands) -> Result<(), NoMemory> {
+    commands.push(link(alloc)?)?;
+    commands.push(links(alloc)?)?;
+    Ok(())
+}
+
+fn put_record_commands(alloc: Global, commands: &mut Commands) -> Result<(), NoMemory> {
+    commands.push(create(alloc)?)?;
+    commands.push(delete(alloc)?)?;
+    Ok(())
+}
+
+fn put_edge_commands(alloc: Global, commands: &mut Commands) -> Result<(), NoMemory> {
+    commands.push(Command::AppendNode(edit(alloc)?))?;
+    commands.push(Command::PrependNode(edit(alloc)?))?;
+    commands.push(Command::DeleteEdge(edit(alloc)?))?;
+    Ok(())
+}
+
+fn all_commands(alloc: Global) -> Result<Commands, NoMemory> {
+    let mut commands = Commands::new(alloc);
+    put_field_commands(alloc, &mut commands)?;
+    put_link_commands(alloc, &mut commands)?;
+    put_record_commands(alloc, &mut commands)?;
+    put_edge_commands(alloc, &mut commands)?;
+    Ok(commands)
+}
+
+#[test]
+fn entries_are_copied_whole(rt: HostRuntime) -> Result<(), Fail> {
+    let alloc = rt.alloc();
+    let entry = Entry {
+        facts: Facts::new(alloc),
+        commands: all_commands(alloc)?,
+    };
+    let names = [
+        "set",
+        "add",
+        "link",
+        "links",
+        "create",
+        "delete",
+        "append_node",
+        "prepend_node",
+        "delete_edge",
+    ];
+    let copy = entry.copy()?;
+    assert_eq!(rt; copy.commands.len(), 9);
+    for (command, name) in copy.commands.as_slice().iter().zip(names) {
+        assert_eq!(rt; name_of(command), name);
+    }
+    Ok(())
+}
+
+fn facts(alloc: Global) -> Result<FactList, NoMemory> {
+    let mut facts = FactList::new(alloc);
+    facts.push(Fact {
+        id: word(alloc, "4")?,
+        key: word(alloc, "name")?,
+        value: Field::Link(word(alloc, "5")?),
+    })?;
+    Ok(facts)
+}
+
+#[test]
+fn facts_are_copied_whole(rt: HostRuntime) -> Result<(), Fail> {
+    let alloc = rt.alloc();
+    let facts = facts(alloc)?;
+    assert_eq!(rt; facts.copy()?.len(), 1);
+    for fact in facts.copy()?.as_slice() {
+        assert!(rt; matches!(&fact.value, Field::Link(id) if id.as_str() == "5"));
+    }
+    Ok(())
+}
+
+fn page(alloc: Global) -> Result<HandleFact, NoMemory> {
+    Ok(HandleFact {
+        parent: word(alloc, "4")?,
+        handle_key: word(alloc, "__K_friends_connection")?,
+        field_key: word(alloc, "friends(first:2)")?,
+        after: Plain::Null,
+        before: Plain::Null,
+        page_type: word(alloc, "UserConnection")?,
+        info_type: word(alloc, "PageInfo")?,
+    })
+}
+
+#[test]
+fn pages_are_copied_whole(rt: HostRuntime) -> Result<(), Fail> {
+    let alloc = rt.alloc();
+    let mut handles = HandleFacts::new(alloc);
+    handles.push(page(alloc)?)?;
+    assert_eq!(rt; handles.copy()?.len(), 1);
+    Ok(())
+}
+
+#[test]
+fn events_are_copied_whole(rt: HostRuntime) -> Result<(), Fail> {
+    let alloc = rt.alloc();
+    let event = Event::Begin {
+        layer: word(alloc, "l")?,
+        answer: Some(Answer {
+            handle: word(alloc, "h")?,
+            response: Value::Bool(true),
+        }),
+        updates: Commands::new(alloc),
+    };
+    let begun = matches!(
+        event.copy()?,
+        Event::Begin {
+            answer: Some(Answer {
+                response: Value::Bool(true),
+                ..
+            }),
+            ..
+        }
+    );
+    assert!(rt; begun);
+    Ok(())
+}
+
+#[test]
+fn reads_are_copied_whole(rt: HostRuntime) -> Result<(), Fail> {
+    let alloc = rt.alloc();
+    let read = Event::Read {
+        target: Target {
+            handle: word(alloc, "h")?,
+            part: Some(Part {
+                fragment: word(alloc, "Friend")?,
+                id: word(alloc, "4")?,
+                args: Pairs::new(alloc),
+            }),
+        },
+    };
+    assert!(rt;
+        matches!(
+            read.copy()?,
+            Event::Read {
+                target: Target { part: Some(_), .. }
+            }
+        )
+    );
+    Ok(())
+}
+
+fn path(alloc: Global) -> Result<PathSteps, NoMemory> {
+    let mut path = PathSteps::new(alloc);
+    path.push(PathStep::Key(word(alloc, "friends")?))?;
+    path.push(PathStep::Index(1))?;
+    Ok(path)
+}
+
+#[test]
+fn faults_are_copied_whole(rt: HostRuntime) -> Result<(), Fail> {
+    let alloc = rt.alloc();
+    let fault = PayloadFault {
+        path: path(alloc)?,
+        cause: Cause::Conflict {
+            id: word(alloc, "4")?,
+            key: word(alloc, "name")?,
+            first: Field::Leaf(Plain::Null),
+            second: Field::Leaf(Plain::Int(1)),
+        },
+    };
+    let copy = fault.copy()?;
+    assert!(rt; copy.path.len() == 2 && matches!(copy.cause, Cause::Conflict { .. }));
+    Ok(())
+}
