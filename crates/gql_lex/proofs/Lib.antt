@@ -14,4 +14,5 @@ pub mod Runs
 pub mod Skips
 pub mod StringKinds
 pub mod Texts
+pub mod TokenTexts
 pub mod Whole

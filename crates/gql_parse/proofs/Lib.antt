@@ -1,0 +1,13 @@
+pub mod Fronts
+pub mod Standing
+pub mod Steps
+pub mod Lifts
+pub mod Complete
+pub mod Ends
+pub mod Mapped
+pub mod DocumentLaws
+pub mod Courses
+pub mod Heads
+pub mod SoFar
+pub mod Whole
+mod Rows

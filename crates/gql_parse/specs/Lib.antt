@@ -1,0 +1,5 @@
+pub mod Documents
+pub mod Trees
+pub mod Built
+pub mod Machine
+pub mod Going

@@ -1,0 +1,83 @@
+//! Documents are read (GraphQL, October 2021, sections 2.2 to 2.12).
+#![tactic(auto)]
+
+ghost use Rattle.std.specs.Prelude.{◌≡◌, ◌<◌, ◌-◌, ◌^◌, ◌⊎◌, ◌∷◌, ◌++◌, [], ℕ, List, Ok, Err, length, map, IfOk, IfErr, OnOk};
+ghost use Rattle.gql_ast.specs.declared.document.Document.{Document};
+ghost use Rattle.gql_ast.specs.declared.fault.ParseFault.TheVariants.{NoMemory, Syntax};
+ghost use Rattle.gql_ast.specs.declared.place.Placed.{Placed};
+ghost use Rattle.gql_parse.specs.Documents.{documents};
+ghost use Rattle.gql_parse.specs.Going.{DocumentRead, going};
+ghost use Rattle.gql_parse.specs.Machine.{between};
+ghost use Rattle.gql_parse.specs.Trees.{IsDocument};
+ghost use Rattle.gql_syntax.specs.Answers.{Tells};
+ghost use Rattle.gql_syntax.specs.Texts.{IsParseFault};
+
+mod definitions;
+mod selections;
+#[cfg(test)]
+mod tests;
+mod variables;
+
+use crate::definitions::read_definition;
+use gql_ast::{Definitions, Document, ParseFault, Placed, SyntaxFault};
+use gql_syntax::{Cursor, Fault};
+use std::alloc::Global;
+
+/// Reads a document.
+///
+/// The tree is the one that the text has by the grammar, with the places of its nodes in text
+/// order, outer nodes first. A text that is no document gives its first fault with its place: the
+/// fault of a token (codes 1 to 5), a token that may not stand where it stands or an end that comes
+/// too early (6), bytes that are no UTF-8 (7, told at the first line and column), or the 61st
+/// selection set, list or object, or list type in one another (8). Allocations that are refused
+/// give `NoMemory`. The text may have up to 2^32 - 2 bytes.
+pub fn parse_document(
+    alloc: Global,
+    file: u32,
+    bytes: &[u8],
+) -> Result<Placed<Document>, ParseFault>
+    requires { length bytes.now < 2 ^ 32 - 1 }
+    ensures found { IfOk result (IsDocument file bytes.now) }
+    ensures only { (p : Placed Document) → IsDocument file bytes.now p → (result ≡ Err NoMemory) ⊎ (result ≡ Ok p) }
+    ensures fault { IfErr result (IsParseFault documents file bytes.now) }
+{
+    let Ok(text) = str::from_utf8(bytes) else {
+        return Err(no_text(file));
+    };
+    let mut cursor = Cursor::new(alloc, file, text);
+    match read_definitions(alloc, &mut cursor) {
+        Ok(definitions) => Ok(Placed {
+            tree: Document { definitions },
+            places: cursor.into_places(),
+        }),
+        Err(fault) => Err(fault.in_text(file, text)),
+    }
+}
+
+/// The code of bytes that are no UTF-8.
+const NOT_UTF8: u8 = 7;
+
+/// The fault of bytes that are no text.
+fn no_text(file: u32) -> ParseFault
+    ensures { result ≡ Syntax (record { file = file; line = 1; column = 1; code = 7 }) }
+{
+    ParseFault::Syntax(SyntaxFault {
+        file,
+        line: 1,
+        column: 1,
+        code: NOT_UTF8,
+    })
+}
+
+/// Reads definitions up to the end, one at least.
+fn read_definitions(alloc: Global, cursor: &mut Cursor<'_>) -> Result<Definitions, Fault>
+    ensures found { IfOk result (DocumentRead (length cursor.old.text) cursor.old cursor.new) }
+    ensures fault { IfErr result (λ f. Tells f (going (length cursor.old.text) (between []) cursor.old.source)) }
+{
+    let mut definitions = Definitions::new(alloc);
+    definitions.push(read_definition(alloc, 1, cursor)?)?;
+    'definitions: while !cursor.is_at_end() {
+        definitions.push(read_definition(alloc, 0, cursor)?)?;
+    }
+    Ok(definitions)
+}

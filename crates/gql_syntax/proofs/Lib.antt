@@ -1,0 +1,24 @@
+pub mod Laws
+pub mod Tokens
+pub mod Moves
+pub mod ValueMoves
+pub mod Sources
+pub mod Counting
+pub mod Puncts
+pub mod Laying
+pub mod Spelled
+pub mod Reading
+pub mod Standing
+pub mod Marks
+pub mod ValueLaws
+pub mod Outcomes
+pub mod ArgumentLaws
+pub mod DirectiveLaws
+pub mod TypeLaws
+pub mod PartLaws
+mod Examples
+pub mod Embedded
+pub mod ArgumentMoves
+pub mod DirectiveMoves
+pub mod TypeMoves
+pub mod Lying

@@ -1,0 +1,14 @@
+pub mod Words
+pub mod Spelling
+pub mod Formed
+pub mod Run
+pub mod Machine
+pub mod Parts
+pub mod Places
+pub mod FirstFault
+pub mod Texts
+pub mod Counted
+pub mod Nexts
+pub mod Answers
+pub mod Codes
+pub mod Steps
