@@ -1,0 +1,21 @@
+pub mod Complete
+pub mod DefinitionReads
+pub mod Ends
+mod Examples
+pub mod Fits
+pub mod InputLists
+pub mod InputReads
+pub mod ListReads
+pub mod Loops
+pub mod Fronts
+pub mod Goings
+pub mod MemberReads
+pub mod Rises
+pub mod SchemaLaws
+pub mod SchemaReads
+pub mod Seats
+pub mod States
+pub mod Steps
+pub mod Wholes
+pub mod Separated
+pub mod Spellings

@@ -1,0 +1,66 @@
+//! Schemas are read (GraphQL, October 2021, section 3).
+#![tactic(auto)]
+
+mod definitions;
+mod inputs;
+mod lists;
+mod members;
+#[cfg(test)]
+mod tests;
+mod words;
+
+ghost use Rattle.std.specs.Prelude.{◌≡◌, ◌⊎◌, ◌<◌, ◌-◌, ◌^◌, ℕ, List, length, Err, Ok, IfErr, IfOk};
+ghost use Rattle.gql_ast.specs.declared.fault.ParseFault.TheVariants.{NoMemory};
+ghost use Rattle.gql_ast.specs.declared.place.Placed.{Placed};
+ghost use Rattle.gql_ast.specs.declared.schema.SchemaTree.{SchemaTree};
+ghost use Rattle.gql_sdl.specs.Schemas.{schemas};
+ghost use Rattle.gql_sdl.specs.Trees.{IsSchema};
+ghost use Rattle.gql_syntax.specs.Texts.{IsParseFault};
+
+use definitions::read_definitions;
+use gql_ast::{ParseFault, Placed, SchemaTree, SyntaxFault};
+use gql_syntax::Cursor;
+use std::alloc::Global;
+use std::str;
+
+/// The code of bytes that are no text.
+const NOT_UTF8: u8 = 7;
+
+/// Reads a schema: its one tree, with the places of its nodes in text order (GraphQL, October 2021,
+/// section 3; descriptions are passed over).
+///
+/// The bytes are the text of the file with this number. The first fault of a text is told with its
+/// place; at most 60 lists and objects, and at most 60 list types, stand in one another. Bytes that
+/// are not UTF-8 are told at the first line and column. NoMemory may come for any text.
+pub fn parse_schema(
+    alloc: Global,
+    file: u32,
+    bytes: &[u8],
+) -> Result<Placed<SchemaTree>, ParseFault>
+    requires { length bytes.now < 2 ^ 32 - 1 }
+    ensures found { IfOk result (IsSchema file bytes.now) }
+    ensures only { (p : Placed SchemaTree) → IsSchema file bytes.now p → (result ≡ Err NoMemory) ⊎ (result ≡ Ok p) }
+    ensures fault { IfErr result (IsParseFault schemas file bytes.now) }
+{
+    let Ok(text) = str::from_utf8(bytes) else {
+        return Err(ParseFault::Syntax(SyntaxFault {
+            file,
+            line: 1,
+            column: 1,
+            code: NOT_UTF8,
+        }));
+    };
+    let mut cursor = Cursor::new(alloc, file, text);
+    match read_definitions(alloc, &mut cursor) {
+        Ok(definitions) => Ok(Placed {
+            tree: SchemaTree { definitions },
+            places: cursor.into_places(),
+        }),
+        Err(fault) => Err(fault.in_text(file, text)),
+    }
+}
+
+/// A text has at most one tree, with one list of places.
+pub fn one_tree()
+    ensures { (file : ℕ) (text : List ℕ) (p q : Placed SchemaTree) → IsSchema file text p → IsSchema file text q → p ≡ q }
+{}
