@@ -22,3 +22,4 @@ pub mod ArgumentMoves
 pub mod DirectiveMoves
 pub mod TypeMoves
 pub mod Lying
+pub mod OneFault

@@ -12,11 +12,12 @@ use Rattle.store_record.specs.declared.field.Field.{Field}
 use Rattle.store_record.specs.declared.field.Field.TheVariants.{Leaf, Link, Links}
 use Rattle.store_record.specs.declared.record.Record.{Record}
 use Rattle.store_record.specs.declared.record.Slot.TheVariants.{Deleted, Alive}
-use Rattle.store_model.specs.Entries.{apply, looks, weight}
+use Rattle.store_model.specs.Entries.{apply, folded, looks, weight}
 use Rattle.store_model.specs.Leads.{leads_along, lives_of}
 use Rattle.store_model.specs.Merge.{merge}
 use Rattle.store_model.specs.Records.{Records, no_records, with_record, slot_at, live, field_at}
 use Rattle.store_model.specs.Updates.{act, act_all}
+use Rattle.store_model.specs.declared.command.Command.{Command}
 use Rattle.store_model.specs.declared.command.Command.TheVariants as C
 use Rattle.store_model.specs.declared.command.EdgeEdit.{EdgeEdit}
 use Rattle.store_model.specs.declared.entry.Entry.{Entry}
@@ -265,6 +266,38 @@ a_deleted_record_stays_as_deleted = simp (gets) refl
 pub links_keep_their_nulls : option_and_then (field_at (codes "friends")) (live (codes "4") (act (C.Links (codes "4") (codes "friends") [] (Some (codes "5") ∷ None ∷ Some (codes "5") ∷ [])) (aged Null)))
     ≡ Some (Links (Some (codes "5") ∷ None ∷ Some (codes "5") ∷ []))
 links_keep_their_nulls = simp (gets) refl
+
+-- ---- layers: each is an entry, applied in order of start; a revert leaves its entry out
+
+abbrev layer : Command → Entry
+layer c = record { facts = record { facts = []; handles = [] }; commands = c ∷ [] }
+
+abbrev made : Entry
+made = layer (C.Create (codes "t1") (codes "User"))
+
+abbrev befriended : Entry
+befriended = layer (C.Link (codes "4") (codes "friend") [] (Some (codes "t1")))
+
+abbrev called : Entry
+called = layer (C.Set (codes "t1") (codes "name") [] (Words (codes "Bo")))
+
+abbrev friendless : Records
+friendless = with_record (codes "4") (record { type_name = codes "User"; fields = (codes "friend", Leaf Null) ∷ [] }) no_records
+
+abbrev friend_of : Records → Option Field
+friend_of m = option_and_then (field_at (codes "friend")) (live (codes "4") m)
+
+pub a_layer_sees_those_before_it : live (codes "t1") (folded (made ∷ befriended ∷ called ∷ []) friendless) ≡ Some (user (codes "Bo"))
+a_layer_sees_those_before_it = simp (gets) refl
+
+pub live_layers_are_linked : friend_of (folded (made ∷ befriended ∷ called ∷ []) friendless) ≡ Some (Link (codes "t1"))
+live_layers_are_linked = simp (gets) refl
+
+pub a_reverted_link_leaves_what_was_confirmed : friend_of (folded (made ∷ called ∷ []) friendless) ≡ Some (Leaf Null)
+a_reverted_link_leaves_what_was_confirmed = simp (gets) refl
+
+pub a_reverted_record_is_not_there_for_later_layers : slot_at (codes "t1") (folded (called ∷ []) friendless) ≡ None
+a_reverted_record_is_not_there_for_later_layers = simp (gets) refl
 
 -- ---- entries: a record that was taken away comes back with the new fields alone
 
