@@ -1,0 +1,166 @@
+//! The first rule that a schema does not meet.
+ghost use Rattle.std.specs.Prelude.{◌≡◌, map, length, IfOk};
+ghost use Rattle.std.specs.List.{filter};
+ghost use Rattle.schema_types.specs.Checked as checked;
+ghost use Rattle.schema_types.specs.First.{first_rules, later_rules, last_rules};
+ghost use Rattle.schema_types.specs.LocatedView.{def_of};
+ghost use Rattle.schema_types.specs.Rules as rules;
+
+use crate::built_in::is_built_in_directive;
+use crate::fault::Rule;
+use crate::least::Least;
+use crate::located::{DefAt, located};
+use crate::rules::fields::interfaces_not_implemented;
+use crate::rules::interfaces::interfaces_wrong;
+use crate::rules::members::{defaults_wrong, members_missing};
+use crate::rules::names::{members_not_unique, names_reserved};
+use crate::rules::needs::inputs_need_themselves;
+use crate::rules::roots::{names_not_unique, root_types_wrong};
+use crate::rules::types::{composites_in_lists, kinds_wrong, types_not_defined};
+use crate::tables::{Tables, is_built_in_scalar};
+use gql_ast::SchemaTree;
+use gql_plain::NoMemory;
+use std::alloc::Global;
+
+/// The first rule that a schema does not meet, and the number of the node where it does not.
+pub(crate) fn broken(
+    alloc: Global,
+    tables: &Tables,
+    schema: &SchemaTree,
+) -> Result<Option<(Rule, usize)>, NoMemory>
+    requires { tables.now ≡ schema.now.definitions }
+    ensures { IfOk result (λ found. found ≡ checked.broken tables.now) }
+{
+    let mut definitions = located(alloc, schema)?;
+    keep_with_effect(&mut definitions);
+    first_broken(alloc, tables, schema.definitions.len(), &definitions)
+}
+
+/// Keeps the definitions that have an effect.
+fn keep_with_effect(definitions: &mut Vec<DefAt<'_>>)
+    ensures { map def_of definitions.new.items ≡ filter rules.has_effect (map def_of definitions.old.items) }
+{
+    definitions.retain(|definition| has_effect(definition));
+}
+
+/// Whether a definition has an effect: one of a built-in scalar or directive is taken and has none.
+fn has_effect(definition: &DefAt<'_>) -> bool
+    ensures { result ≡ rules.has_effect (def_of definition.now) }
+{
+    match definition {
+        DefAt::Scalar { name } => !is_built_in_scalar(name.name),
+        DefAt::Directive { name, .. } => !is_built_in_directive(name.name),
+        DefAt::Schema { .. } => true,
+        DefAt::Object { .. } => true,
+        DefAt::Interface { .. } => true,
+        DefAt::Union { .. } => true,
+        DefAt::Enum { .. } => true,
+        DefAt::Input { .. } => true,
+    }
+}
+
+/// The first rule that these definitions do not meet, which are those of the tables that have an
+/// effect. `steps` is the number of all definitions.
+fn first_broken(
+    alloc: Global,
+    tables: &Tables,
+    steps: usize,
+    definitions: &[DefAt<'_>],
+) -> Result<Option<(Rule, usize)>, NoMemory>
+    requires { steps ≡ length tables.now }
+    ensures { IfOk result (λ found. found ≡ rules.first_broken (rules.rules tables.now (map def_of definitions.now))) }
+{
+    if let Some(found) = first_of_names(alloc, tables, definitions)? {
+        return Ok(Some(found));
+    }
+    if let Some(found) = first_of_members(alloc, tables, definitions)? {
+        return Ok(Some(found));
+    }
+    first_of_values(alloc, tables, steps, definitions)
+}
+
+/// The first of the rules S1 to S4 that does not hold, and the number of the node where it does not.
+fn first_of_names(
+    alloc: Global,
+    tables: &Tables,
+    definitions: &[DefAt<'_>],
+) -> Result<Option<(Rule, usize)>, NoMemory>
+    ensures { IfOk result (λ found. found ≡ rules.first_broken (first_rules tables.now (map def_of definitions.now))) }
+{
+    let mut least = Least::new();
+    names_not_unique(alloc, &mut least, definitions)?;
+    if let Some(at) = least.at {
+        return Ok(Some((Rule::S1, at)));
+    }
+    types_not_defined(alloc, tables, &mut least, definitions)?;
+    if let Some(at) = least.at {
+        return Ok(Some((Rule::S2, at)));
+    }
+    root_types_wrong(alloc, tables, &mut least, definitions)?;
+    if let Some(at) = least.at {
+        return Ok(Some((Rule::S3, at)));
+    }
+    names_reserved(alloc, &mut least, definitions)?;
+    if let Some(at) = least.at {
+        return Ok(Some((Rule::S4, at)));
+    }
+    Ok(None)
+}
+
+/// The first of the rules S5 to S8 that does not hold, and the number of the node where it does not.
+fn first_of_members(
+    alloc: Global,
+    tables: &Tables,
+    definitions: &[DefAt<'_>],
+) -> Result<Option<(Rule, usize)>, NoMemory>
+    ensures { IfOk result (λ found. found ≡ rules.first_broken (later_rules tables.now (map def_of definitions.now))) }
+{
+    let mut least = Least::new();
+    members_not_unique(alloc, &mut least, definitions)?;
+    if let Some(at) = least.at {
+        return Ok(Some((Rule::S5, at)));
+    }
+    kinds_wrong(alloc, tables, &mut least, definitions)?;
+    if let Some(at) = least.at {
+        return Ok(Some((Rule::S6, at)));
+    }
+    interfaces_wrong(alloc, tables, &mut least, definitions)?;
+    if let Some(at) = least.at {
+        return Ok(Some((Rule::S7, at)));
+    }
+    interfaces_not_implemented(alloc, tables, &mut least, definitions)?;
+    if let Some(at) = least.at {
+        return Ok(Some((Rule::S8, at)));
+    }
+    Ok(None)
+}
+
+/// The first of the rules S9 to S12 that does not hold, and the number of the node where it does not.
+fn first_of_values(
+    alloc: Global,
+    tables: &Tables,
+    steps: usize,
+    definitions: &[DefAt<'_>],
+) -> Result<Option<(Rule, usize)>, NoMemory>
+    requires { steps ≡ length tables.now }
+    ensures { IfOk result (λ found. found ≡ rules.first_broken (last_rules tables.now (map def_of definitions.now))) }
+{
+    let mut least = Least::new();
+    members_missing(tables, &mut least, definitions);
+    if let Some(at) = least.at {
+        return Ok(Some((Rule::S9, at)));
+    }
+    inputs_need_themselves(alloc, tables, steps, &mut least, definitions)?;
+    if let Some(at) = least.at {
+        return Ok(Some((Rule::S10, at)));
+    }
+    defaults_wrong(alloc, tables, &mut least, definitions)?;
+    if let Some(at) = least.at {
+        return Ok(Some((Rule::S11, at)));
+    }
+    composites_in_lists(tables, &mut least, definitions);
+    if let Some(at) = least.at {
+        return Ok(Some((Rule::S12, at)));
+    }
+    Ok(None)
+}
