@@ -1,12 +1,17 @@
 -- Worked rows, computed from the definitions.
-use Rattle.std.proofs.Common.{◌≡◌, refl, [], ◌∷◌, true, false, Some, None, codes}
+use Rattle.std.proofs.Common.{◌≡◌, refl, ℕ, List, [], ◌∷◌, true, false, Some, None, codes}
 use Rattle.std.specs.Fmt.{digits}
 use Rattle.serde_json.proofs.OnLiterals.{serde_json_on_literals}
 use Rattle.serde_json.specs.Data as J
 use Rattle.gql_plain.specs.Tree.{text, object, member, no_members}
 use Rattle.gql_ast.specs.Sels.{Sels, end, field}
+use Rattle.gql_ast.specs.Ty.{named}
+use Rattle.gql_ast.specs.declared.member.FieldTree.{FieldTree}
+use Rattle.gql_ast.specs.declared.schema.SchemaDef.TheVariants as S
+use Rattle.gql_ast.specs.declared.type_tree.TypeTree.{TypeTree}
+use Rattle.gql_ast.specs.declared.type_tree.TypeTree.TheVariants as T
 use Rattle.relay_model.specs.Keys.{root, client_id}
-use Rattle.relay_model.specs.Schema.{Schema, schema_of}
+use Rattle.relay_model.specs.Schema.{Schema}
 use Rattle.relay_model.specs.Records.{leaf, link, no_records, put_all}
 use Rattle.relay_model.specs.Payload.{says}
 use Rattle.relay_model.specs.Read.{read_root}
@@ -14,9 +19,13 @@ use Rattle.relay_model.specs.Events.{retain, payload, read, not_json as no_json,
 use Rattle.relay_model.specs.Machine.{Project, State, beginning, accept, refuse, step_event, step_line}
 use Rattle.relay_model.specs.Script.{lines_of}
 
+abbrev field_of : List ℕ → TypeTree → FieldTree
+field_of name of = record { name = name; arguments = []; of = of; directives = [] }
+
+-- type Query{me:User} type User{id:ID! name:String}
 abbrev schema : Schema
-schema = schema_of (record { name = codes "Query"; fields = (codes "me", record { of = codes "User"; required = false }) ∷ [] }
-    ∷ record { name = codes "User"; fields = (codes "id", record { of = codes "ID"; required = true }) ∷ (codes "name", record { of = codes "String"; required = false }) ∷ [] } ∷ [])
+schema = S.Object (codes "Query") [] [] (field_of (codes "me") (T.Named (codes "User")) ∷ [])
+    ∷ S.Object (codes "User") [] [] (field_of (codes "id") (T.NonNull (named (codes "ID"))) ∷ field_of (codes "name") (T.Named (codes "String")) ∷ []) ∷ []
 
 -- query Q{me{name}}
 abbrev selections : Sels
@@ -54,17 +63,17 @@ pub an_unfinished_line_is_none_before_the_end : lines_of (97 ∷ 10 ∷ 98 ∷ [
 an_unfinished_line_is_none_before_the_end = refl
 
 abbrev project : Project
-project = record { schema = schema; operation = codes "Q"; selections = selections }
+project = record { schema = schema; operations = (codes "Q", selections) ∷ [] }
 
 abbrev paid : State
-paid = record { entries = (says schema selections response).facts ∷ []; handles = codes "h" ∷ [] }
+paid = record { entries = (says schema selections response).facts ∷ []; handles = (codes "h", selections) ∷ [] }
 
 pub an_operation_is_retained : step_event project beginning 1 (retain (codes "h") (codes "Q"))
-    ≡ accept (codes "{\"n\":1,\"ok\":\"retain\"}\n") (record { entries = []; handles = codes "h" ∷ [] })
+    ≡ accept (codes "{\"n\":1,\"ok\":\"retain\"}\n") (record { entries = []; handles = (codes "h", selections) ∷ [] })
 unfolding serde_json_on_literals digits
 an_operation_is_retained = refl
 
-pub a_payload_is_confirmed : step_event project (record { entries = []; handles = codes "h" ∷ [] }) 2 (payload (codes "h") response)
+pub a_payload_is_confirmed : step_event project (record { entries = []; handles = (codes "h", selections) ∷ [] }) 2 (payload (codes "h") response)
     ≡ accept (codes "{\"n\":2,\"ok\":\"payload\"}\n") paid
 unfolding serde_json_on_literals digits
 a_payload_is_confirmed = refl

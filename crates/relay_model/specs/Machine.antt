@@ -1,7 +1,8 @@
 -- The machine: at each line it folds what was confirmed into fresh records, and reads them along the
 -- selections of the operation.
-use Rattle.std.specs.Prelude.{ℕ, ◌+◌, List, [], ◌∷◌, ◌++◌, length, Bool, true, false, ◌||◌, ◌==◌, cond, codes, bytes_eq}
-use Rattle.std.specs.List.{list_any}
+use Rattle.std.specs.Prelude.{ℕ, ◌+◌, List, [], ◌∷◌, ◌++◌, length, Bool, true, false, ◌||◌, ◌==◌, cond, codes, bytes_eq, Option, Some, None, is_some}
+use Rattle.std.specs.Map.{lookup}
+use Rattle.serde_json.specs.Data as J
 use Rattle.gql_ast.specs.Sels.{Sels}
 use Rattle.relay_model.specs.Keys.{Text}
 use Rattle.relay_model.specs.Schema.{Schema}
@@ -11,16 +12,19 @@ use Rattle.relay_model.specs.Read.{read_root}
 use Rattle.relay_model.specs.Events.{Event, retain, payload, read, Line, too_long, not_json as no_json, other, event, line_of}
 use Rattle.relay_model.specs.Printed.{done, shown, not_json, unknown_operation, unknown_handle, not_yet}
 
--- an accepted project: its schema, and its one operation
+-- an accepted project: its schema, and its operations by their names, which differ
 pub record Project : Type 0 where
   pub schema : Schema
-  pub operation : Text
-  pub selections : Sels
+  pub operations : List (Text × Sels)
 
--- what was confirmed, and the live handles, each in order
+-- what was confirmed, and the live handles, each with the selections of its operation, in order
 pub record State : Type 0 where
   pub entries : List (List Fact)
-  pub handles : List Text
+  pub handles : List (Text × Sels)
+
+-- what stands under a name
+abbrev pub under : Text → List (Text × Sels) → Option Sels
+under name held = lookup (bytes_eq name) held
 
 abbrev pub beginning : State
 beginning = record { entries = []; handles = [] }
@@ -35,7 +39,7 @@ base s = folded s.entries no_records
 
 -- whether the handle is live
 abbrev pub is_live : Text → State → Bool
-is_live handle s = list_any (bytes_eq handle) s.handles
+is_live handle s = is_some (under handle s.handles)
 
 abbrev pub max_handles : ℕ
 max_handles = 10000
@@ -57,19 +61,28 @@ confirm s n said =
     cond said.plain (accept (done (codes "payload") n) (record { entries = s.entries ++ said.facts ∷ []; handles = s.handles }))
     (refuse (not_yet n) s)
 
+abbrev pub retain_with : Option Sels → State → ℕ → Text → Text → Step
+retain_with None s n handle operation = refuse (unknown_operation n operation) s
+retain_with (Some selections) s n handle operation =
+    accept (done (codes "retain") n) (record { entries = s.entries; handles = s.handles ++ (handle, selections) ∷ [] })
+
 abbrev pub step_retain : Project → State → ℕ → Text → Text → Step
 step_retain p s n handle operation =
     cond (is_live handle s || (length s.handles == max_handles)) (refuse (not_yet n) s)
-    (cond (bytes_eq operation p.operation)
-    (accept (done (codes "retain") n) (record { entries = s.entries; handles = s.handles ++ handle ∷ [] }))
-    (refuse (unknown_operation n operation) s))
+    (retain_with (under operation p.operations) s n handle operation)
+
+abbrev pub payload_with : Project → Option Sels → State → ℕ → Text → J.Data → Step
+payload_with p None s n handle response = refuse (unknown_handle n handle) s
+payload_with p (Some selections) s n handle response = confirm s n (says p.schema selections response)
+
+abbrev pub read_with : Project → Option Sels → State → ℕ → Text → Step
+read_with p None s n handle = refuse (unknown_handle n handle) s
+read_with p (Some selections) s n handle = accept (shown n (read_root p.schema (base s) selections)) s
 
 abbrev pub step_event : Project → State → ℕ → Event → Step
 step_event p s n (retain handle operation) = step_retain p s n handle operation
-step_event p s n (payload handle response) =
-    cond (is_live handle s) (confirm s n (says p.schema p.selections response)) (refuse (unknown_handle n handle) s)
-step_event p s n (read handle) =
-    cond (is_live handle s) (accept (shown n (read_root p.schema (base s) p.selections)) s) (refuse (unknown_handle n handle) s)
+step_event p s n (payload handle response) = payload_with p (under handle s.handles) s n handle response
+step_event p s n (read handle) = read_with p (under handle s.handles) s n handle
 
 abbrev pub step_line : Project → State → ℕ → Line → Step
 step_line p s n too_long = refuse (not_yet n) s

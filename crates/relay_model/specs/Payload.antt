@@ -100,7 +100,7 @@ fields_said schema end of id given = silent
 fields_said schema (field a n xs ds subs rest) of id given =
     both
     (cond (is_set subs)
-    (value_said schema (type_of (schema of n)) (λ child below. fields_said schema subs (type_of (schema of n)) child below) subs id n (get_member n given))
+    (value_said schema (type_of schema of n) (λ child below. fields_said schema subs (type_of schema of n) child below) subs id n (get_member n given))
     (leaf_said id n (get_member n given)))
     (fields_said schema rest of id given)
 fields_said schema (spread n ds rest) of id given = fields_said schema rest of id given
@@ -127,7 +127,7 @@ data_said schema selections (Some (J.number n)) = unclear
 data_said schema selections (Some (J.string s)) = unclear
 data_said schema selections (Some (J.array ds)) = unclear
 data_said schema selections (Some (J.object ms)) =
-    distinct_said (both (fact root typename (leaf (text root_type))) (fields_said schema selections query_type root ms))
+    distinct_said (both (fact root typename (leaf (text root_type))) (fields_said schema selections (query_type schema) root ms))
 
 -- what a response says to an operation with these selections
 abbrev pub says : Schema → Sels → J.Data → Said

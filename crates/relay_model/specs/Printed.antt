@@ -50,7 +50,7 @@ unknown_handle n name = refusal_of 7 (codes "UnknownHandle") n name
 abbrev pub not_yet : ℕ → Text
 not_yet n = refusal 90 (codes "NotYet") n
 
--- a project that is refused: the first file at fault, and the rule
-abbrev pub project_fault : Text → Text → Text
-project_fault file rule =
-    line ((codes "column", number 1) ∷ (codes "file", text file) ∷ (codes "line", number 1) ∷ (codes "rule", text rule) ∷ [])
+-- a project that is refused: the file at fault with the line and the column, and the rule
+abbrev pub project_fault : (file : Text) → (line column : ℕ) → (rule : Text) → Text
+project_fault file at_line column rule =
+    line ((codes "column", number column) ∷ (codes "file", text file) ∷ (codes "line", number at_line) ∷ (codes "rule", text rule) ∷ [])

@@ -55,26 +55,26 @@ leaf_at (Some (leaf value)) = (Some value, still)
 leaf_at (Some (link id)) = (None, lost)
 
 -- the type of a record: the root's is the root type of a query
-abbrev pub typed : Text → Text
-typed of = cond (bytes_eq of root_type) query_type of
+abbrev pub typed : Schema → Text → Text
+typed schema of = cond (bytes_eq of root_type) (query_type schema) of
 
 -- an object, where the type of its record is the one that is asked for
-abbrev pub typed_at : Text → (Text → Fields × Trace) → Text → Option Stored → Answer
-typed_at of fields id None = (None, record { missing = true; seen = id ∷ [] })
-typed_at of fields id (Some (leaf (text name))) =
-    cond {A = Answer} (bytes_eq (typed name) of)
+abbrev pub typed_at : Schema → Text → (Text → Fields × Trace) → Text → Option Stored → Answer
+typed_at schema of fields id None = (None, record { missing = true; seen = id ∷ [] })
+typed_at schema of fields id (Some (leaf (text name))) =
+    cond {A = Answer} (bytes_eq (typed schema name) of)
     (Some (object_of (fields id).0), joined (standing id) (fields id).1)
     (None, record { missing = true; seen = id ∷ [] })
-typed_at of fields id (Some (leaf null)) = (None, record { missing = true; seen = id ∷ [] })
-typed_at of fields id (Some (leaf (truth b))) = (None, record { missing = true; seen = id ∷ [] })
-typed_at of fields id (Some (leaf (whole n))) = (None, record { missing = true; seen = id ∷ [] })
-typed_at of fields id (Some (leaf (list ts))) = (None, record { missing = true; seen = id ∷ [] })
-typed_at of fields id (Some (leaf (object ms))) = (None, record { missing = true; seen = id ∷ [] })
-typed_at of fields id (Some (link j)) = (None, record { missing = true; seen = id ∷ [] })
+typed_at schema of fields id (Some (leaf null)) = (None, record { missing = true; seen = id ∷ [] })
+typed_at schema of fields id (Some (leaf (truth b))) = (None, record { missing = true; seen = id ∷ [] })
+typed_at schema of fields id (Some (leaf (whole n))) = (None, record { missing = true; seen = id ∷ [] })
+typed_at schema of fields id (Some (leaf (list ts))) = (None, record { missing = true; seen = id ∷ [] })
+typed_at schema of fields id (Some (leaf (object ms))) = (None, record { missing = true; seen = id ∷ [] })
+typed_at schema of fields id (Some (link j)) = (None, record { missing = true; seen = id ∷ [] })
 
 -- standing at an id: a record that is absent, or of another type, is missing
-abbrev pub stand_at : Records → Text → (Text → Fields × Trace) → Text → Answer
-stand_at records of fields id = typed_at of fields id (records id typename)
+abbrev pub stand_at : Schema → Records → Text → (Text → Fields × Trace) → Text → Answer
+stand_at schema records of fields id = typed_at schema of fields id (records id typename)
 
 -- a field with a set of its own: null, or the record that it links to; another kind of field is missing
 abbrev pub object_at : (Text → Answer) → Option Stored → Answer
@@ -97,7 +97,7 @@ fields_at schema records end of id = ([], still)
 fields_at schema records (field a n xs ds subs rest) of id =
     before n
     (cond {A = Answer} (is_set subs)
-    (object_at (stand_at records (type_of (schema of n)) (λ j. fields_at schema records subs (type_of (schema of n)) j)) (records id n))
+    (object_at (stand_at schema records (type_of schema of n) (λ j. fields_at schema records subs (type_of schema of n) j)) (records id n))
     (leaf_at (records id n)))
     (fields_at schema records rest of id)
 fields_at schema records (spread n ds rest) of id = fields_at schema records rest of id
@@ -106,4 +106,4 @@ fields_at schema records (inline o ds subs rest) of id = fields_at schema record
 -- what an operation with these selections reads at the root
 abbrev pub read_root : Schema → Records → Sels → Answer
 read_root schema records selections =
-    stand_at records query_type (λ id. fields_at schema records selections query_type id) root
+    stand_at schema records (query_type schema) (λ id. fields_at schema records selections (query_type schema) id) root

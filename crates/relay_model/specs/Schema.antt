@@ -1,44 +1,28 @@
--- What is asked of a schema: the type of a field (GraphQL, October 2021, section 3.6).
-use Rattle.std.specs.Prelude.{List, [], ◌∷◌, Bool, false, ◌&&◌, cond, codes, bytes_eq, Option, Some, None}
+-- What is asked of a schema: the named type of a field, whether objects of a type have an id, and the root type of a query
+-- (GraphQL, October 2021, sections 3.3 and 3.6).
+use Rattle.std.specs.Prelude.{[], Bool, Option, Some, None, unwrap_or}
+use Rattle.gql_ast.specs.TypeView.{ty_of}
+use Rattle.gql_ast.specs.declared.document.Kind.TheVariants.{Query}
+use Rattle.gql_ast.specs.declared.member.FieldTree.{FieldTree}
+use Rattle.schema_types.specs.Types as types
+use Rattle.schema_types.specs.Types.{Defs, base_of, field_on, root}
 use Rattle.relay_model.specs.Keys.{Text}
 
--- the named type of a field, and whether it is non-null
-pub record FieldType : Type 0 where
-  pub of : Text
-  pub required : Bool
-
--- the field of that name on the type of that name, where there is one
 abbrev pub Schema : Type 0
-Schema = Text → Text → Option FieldType
+Schema = Defs
 
 -- the named type of a field; no type has the empty name
-abbrev pub type_of : Option FieldType → Text
-type_of None = []
-type_of (Some f) = f.of
+abbrev pub named_type : Option FieldTree → Text
+named_type None = []
+named_type (Some f) = base_of (ty_of f.of)
 
--- whether this is a field `id` of type `ID!`
-abbrev pub is_identity : Option FieldType → Bool
-is_identity None = false
-is_identity (Some f) = bytes_eq f.of (codes "ID") && f.required
+abbrev pub type_of : Schema → (of name : Text) → Text
+type_of schema of name = named_type (field_on schema of name)
 
 -- whether objects of the type have an id of their own
 abbrev pub has_id : Schema → Text → Bool
-has_id schema of = is_identity (schema of (codes "id"))
+has_id schema of = types.has_id schema of
 
--- the root type of a query, where the schema names none
-abbrev pub query_type : Text
-query_type = codes "Query"
-
--- an object type as it is defined: its name, and its fields with their types
-pub record TypeDefinition : Type 0 where
-  pub name : Text
-  pub fields : List (Text × FieldType)
-
-abbrev pub field_named : Text → List (Text × FieldType) → Option FieldType
-field_named name [] = None
-field_named name (f ∷ fs) = cond (bytes_eq f.0 name) (Some f.1) (field_named name fs)
-
--- the schema of these types
-abbrev pub schema_of : List TypeDefinition → Schema
-schema_of [] of name = None
-schema_of (t ∷ ts) of name = cond (bytes_eq t.name of) (field_named name t.fields) (schema_of ts of name)
+-- the root type of a query
+abbrev pub query_type : Schema → Text
+query_type schema = unwrap_or (root schema Query) []

@@ -108,12 +108,12 @@ not_done status sink form d = elim form [
 ]
 
 -- the line of the project's fault is put, as far as it is
-pub ran_refused : (file rule : Text) (status : Status) (sink : Type 0) (left : Option Text) (reads : ℕ) (held held_now : Option Text) (puts puts_now : ℕ)
+pub ran_refused : (file : Text) (line column : ℕ) (rule : Text) (status : Status) (sink : Type 0) (left : Option Text) (reads : ℕ) (held held_now : Option Text) (puts puts_now : ℕ)
     → IsRefused status sink
     → (added : Text) × (held_now ≡ appended held added) × (puts_now ≤ puts + length added + 1) × ((status ≡ WriteFault) ⊎ EndsLine added)
-    × (more : Text) × (added ++ more ≡ project_fault file rule) × (status ≡ ProjectRefused → more ≡ [])
-    → Ran (refused file rule) status left left reads reads held held_now puts puts_now
-ran_refused file rule status sink left reads held held_now puts puts_now form w = record {
+    × (more : Text) × (added ++ more ≡ project_fault file line column rule) × (status ≡ ProjectRefused → more ≡ [])
+    → Ran (refused file line column rule) status left left reads reads held held_now puts puts_now
+ran_refused file line column rule status sink left reads held held_now puts puts_now form w = record {
   taken = [];
   ended = false;
   took = record {

@@ -1,31 +1,18 @@
 -- Handles as texts, and the records that confirmed entries give.
-use Rattle.std.proofs.Common.{◌≡◌, List, [], ◌∷◌, ◌++◌, length, Bool, true, false, ◌||◌, cond, codes, Option, None, Some, is_some, string_bytes, String as Str, Global, suc, refl, sym, ap, ◌∙◌}
-use Rattle.std.specs.List.{list_any}
-use Rattle.std.specs.Map.{keys_of}
+use Rattle.std.proofs.Common.{◌==◌, ◌≡◌, List, [], ◌∷◌, ◌++◌, length, Bool, true, false, ◌||◌, cond, codes, Option, None, Some, is_some, String as Str, Global, suc, refl, sym, ap, ◌∙◌}
 use Rattle.std.specs.Prelude.{ℕ}
 use Rattle.relay_model.specs.Keys.{Text}
-use Rattle.relay_model.specs.Machine.{State, accept, refuse, confirm, folded, base}
+use Rattle.relay_model.specs.Machine.{Project, State, accept, refuse, confirm, folded, base, under, is_live, max_handles, retain_with, step_retain}
 use Rattle.relay_model.specs.Payload.{Said}
-use Rattle.relay_model.specs.Printed.{done, not_yet}
+use Rattle.relay_model.specs.Printed.{done, not_yet, unknown_operation}
 use Rattle.relay_model.specs.Records as model
 use Rattle.relay_model.specs.Records.{Records, no_records, put_all}
-use Rattle.relay_run.specs.Stored.{texts_of}
+use Rattle.gql_ast.specs.Sels.{Sels}
+use Rattle.relay_run.specs.Shown.{named}
 
-pub list_any-texts_of : {X : Type 0} (test : Text → Bool) (es : List (Str Global × X)) → list_any (λ k. test (string_bytes k)) (keys_of es) ≡ list_any test (texts_of es)
-list_any-texts_of test [] = refl
-list_any-texts_of test (e ∷ es) = ap (λ b. test (string_bytes e.0) || b) (list_any-texts_of test es)
-
-pub length-texts_of : {X : Type 0} (es : List (Str Global × X)) → length (texts_of es) ≡ length es
-length-texts_of [] = refl
-length-texts_of (e ∷ es) = ap (λ n. suc n) (length-texts_of es)
-
-pub texts_of-append : {X : Type 0} (es fs : List (Str Global × X)) → texts_of (es ++ fs) ≡ texts_of es ++ texts_of fs
-texts_of-append [] fs = refl
-texts_of-append (e ∷ es) fs = ap (λ ts. string_bytes e.0 ∷ ts) (texts_of-append es fs)
-
-pub none-from_absent : {X : Type 0} (o : Option X) → is_some o ≡ false → o ≡ None
-none-from_absent None h = refl
-none-from_absent (Some x) h = absurd (cc)
+pub length-named : (es : List (Str Global × Sels)) → length (named es) ≡ length es
+length-named [] = refl
+length-named (e ∷ es) = ap (λ n. suc n) (length-named es)
 
 pub confirm-plain : (s : State) (n : ℕ) (said : Said) → said.plain ≡ true → confirm s n said ≡ accept (done (codes "payload") n) (record { entries = s.entries ++ said.facts ∷ []; handles = s.handles })
 confirm-plain s n said plain =
@@ -36,7 +23,7 @@ folded-push [] entry records = refl
 folded-push (e ∷ entries) entry records = folded-push entries entry (put_all e records)
 
 -- the records with the facts of one more entry
-pub base-confirmed : (old now : Records) (s : State) (facts entry : List model.Fact) (handles : List Text) → ((id key : Text) → old id key ≡ base s id key)
+pub base-confirmed : (old now : Records) (s : State) (facts entry : List model.Fact) (handles : List (Text × Sels)) → ((id key : Text) → old id key ≡ base s id key)
     → ((id key : Text) → now id key ≡ put_all facts old id key) → facts ≡ entry
     → (id key : Text) → now id key ≡ base (record { entries = s.entries ++ entry ∷ []; handles = handles }) id key
 base-confirmed old now s facts entry handles before told same id key =
@@ -45,4 +32,16 @@ base-confirmed old now s facts entry handles before told same id key =
     ∙ (λ i. put_all (same i) (all i) id key)
     ∙ (λ i. sym (folded-push s.entries entry no_records) i id key)
 
-pub ruleset lengths = (length-texts_of)
+-- an operation starts under a handle
+pub step-started : (p : Project) (s : State) (n : ℕ) (handle operation : Text) (selections : Sels) → (is_live handle s || (length s.handles == max_handles)) ≡ false
+    → under operation p.operations ≡ Some selections
+    → step_retain p s n handle operation ≡ accept (done (codes "retain") n) (record { entries = s.entries; handles = s.handles ++ (handle, selections) ∷ [] })
+step-started p s n handle operation selections h found =
+    ap (λ b. cond b (refuse (not_yet n) s) (retain_with (under operation p.operations) s n handle operation)) h ∙ ap (λ o. retain_with o s n handle operation) found
+
+-- whether the handle is live, or as many are as may be, as the engine sees it
+pub taken-so : (held now : List (Text × Sels)) (handle : Text) (b : Bool) → held ≡ now → b ≡ (is_some (under handle held) || (length held == max_handles))
+    → (is_some (under handle now) || (length now == max_handles)) ≡ b
+taken-so held now handle b same is = sym (is ∙ ap (λ h. is_some (under handle h) || (length h == max_handles)) same)
+
+pub ruleset lengths = (length-named)

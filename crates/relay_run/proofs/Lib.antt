@@ -2,7 +2,6 @@ pub mod Pieces
 pub mod FirstLine
 pub mod Written
 pub mod Courses
-pub mod OneSchema
 pub mod Owed
 pub mod Storing
 pub mod LineLaws
@@ -12,10 +11,9 @@ pub mod ReadingLaws
 pub mod PrintingLaws
 pub mod EngineLaws
 pub mod Truths
-pub mod Tokens
-pub mod Types
-pub mod Sets
-pub mod Named
-pub mod Schemas
-pub mod Documents
-pub mod Projects
+pub mod PlainFields
+pub mod PlainDocuments
+pub mod Codes
+pub mod ProjectLaws
+pub mod DocumentLaws
+pub mod FileLaws

@@ -23,7 +23,7 @@ or-true : (b : Bool) → (b || true) ≡ true
 or-true true = refl
 or-true false = refl
 
-or-false : (b : Bool) → (b || false) ≡ b
+pub or-false : (b : Bool) → (b || false) ≡ b
 or-false true = refl
 or-false false = refl
 
@@ -63,7 +63,7 @@ regrouped true true q d = refl
 regrouped true false q d = refl
 regrouped false n q d = refl
 
-differs_where : (t : Bool) (has now : Text → Bool) (id : Text) (ids : List Text) (new : Bool) → new ≡ not (t && has id)
+pub differs_where : (t : Bool) (has now : Text → Bool) (id : Text) (ids : List Text) (new : Bool) → new ≡ not (t && has id)
     → ((q : Text) → now q ≡ (has q || (t && bytes_eq id q)))
     → (none_of has (cond t (id ∷ ids) ids) && all_differ (cond t (id ∷ ids) ids)) ≡ (new && (none_of now ids && all_differ ids))
 differs_where true has now id ids new is noted =
@@ -82,7 +82,7 @@ rest_differs-step has now xs i x new within is new_is noted =
     ap (rest_differs has) (drop_cons_at xs i x within is)
     ∙ differs_where (bytes_eq x.key typename) has now x.id (object_ids (facts_shown (drop (i + 1) xs))) new new_is noted
 
-none_of-nothing : (has : Text → Bool) → ((q : Text) → has q ≡ false) → (ids : List Text) → none_of has ids ≡ true
+pub none_of-nothing : (has : Text → Bool) → ((q : Text) → has q ≡ false) → (ids : List Text) → none_of has ids ≡ true
 none_of-nothing has nothing [] = refl
 none_of-nothing has nothing (x ∷ xs) = λ i. not (nothing x i) && none_of-nothing has nothing xs i
 

@@ -1,5 +1,5 @@
 -- What the top call owes, from the course that it took.
-use Rattle.std.proofs.Common.{◌≡◌, ◌⊎◌, ◌↔◌, ◌≤◌, ◌+◌, ◌++◌, ℕ, [], length, take, Bool, true, IsTrue, Option, None, Some, sym, ap, subst, inl, inr, ◌∙◌, arith, length-append}
+use Rattle.std.proofs.Common.{◌≡◌, ◌⊎◌, ◌↔◌, ◌≤◌, ◌+◌, ◌++◌, ℕ, [], length, take, Bool, true, IsTrue, Option, None, Some, refl, sym, ap, subst, inl, inr, ◌∙◌, arith, length-append}
 use Rattle.std.specs.Io.KnownBytes.{IsAtEnd}
 use Rattle.std.proofs.lemmas.Bool.{cases_eq}
 use Rattle.std.proofs.lemmas.List.{append-nil, take_all}
@@ -7,14 +7,13 @@ use Rattle.relay_io.specs.Streams.{appended, prepended}
 use Rattle.relay_model.specs.Keys.{Text}
 use Rattle.relay_model.specs.Machine.{Project}
 use Rattle.relay_model.specs.Printed.{project_fault}
-use Rattle.relay_run.specs.Answers.{Course, unknown, refused, accepted, IsCourse, IsTheProjectOf, Answering, Ran, Took, due}
-use Rattle.relay_run.specs.Files.{Files, Given, absent, given, IsProject, IsProjectOf, IsFault, IsFirstAbsent}
+use Rattle.relay_run.specs.Answers.{Course, unknown, refused, accepted, IsCourse, IsTheProjectOf, IsTheFaultOf, Answering, Ran, Took, due}
+use Rattle.relay_run.specs.Files.{Files, Given, absent, given, IsProject, IsProjectOf, IsFault, IsFaultOf, IsFirstAbsent}
 use Rattle.relay_run.specs.Output.{max_script, written, has_refusal, IsDone}
 use Rattle.relay_run.specs.Words.{Form}
 use Rattle.relay_run.specs.declared.status.Status.{Status}
-use Rattle.relay_run.specs.declared.status.Status.TheVariants.{DoneWithRefusals, ProjectRefused, ReadFault, WriteFault, NoMemory}
+use Rattle.relay_run.specs.declared.status.Status.TheVariants.{DoneWithRefusals, ProjectRefused, ReadFault, WriteFault, NoMemory, ScriptTooLong}
 use Rattle.relay_run.proofs.Courses.{not_done}
-use Rattle.relay_run.proofs.OneSchema.{no_fault, one_fault}
 
 all_given : (bytes taken : Text) (after : Option Text) → Some bytes ≡ prepended taken after → IsAtEnd after → (after ≡ Some []) × (taken ≡ bytes)
 all_given bytes taken None is at_end = absurd (cc)
@@ -30,8 +29,8 @@ given_within bytes taken (Some xs) is =
 no_course : (given : Given) (project : Project) → given ≡ absent → IsProject given project → ⊥
 no_course given project e is = let P : Given → Type 0 = λ x. IsProject x project in subst P e is
 
-no_faults : (form : Form) (given : Given) (file rule : Text) → given ≡ absent → IsFault form given file rule → ⊥
-no_faults form given file rule e is = let P : Given → Type 0 = λ x. IsFault form x file rule in subst P e is
+no_faults : (form : Form) (given : Given) (file : Text) (line column : ℕ) (rule : Text) → given ≡ absent → IsFault form given file line column rule → ⊥
+no_faults form given file line column rule e is = let P : Given → Type 0 = λ x. IsFault form x file line column rule in subst P e is
 
 -- a course that is answered so, with what it comes by
 module _ (status : Status) (script sink : Type 0) (left left_now : Option Text) (reads reads_now : ℕ) (held held_now : Option Text) (puts puts_now : ℕ) where
@@ -80,7 +79,7 @@ module _ (status : Status) (script sink : Type 0) (left left_now : Option Text) 
     | inl e ↦ let d : ⊥ = subst IsDone e.0 done in d
     | inr e ↦ let d : ⊥ = subst IsDone e done in d
   ])
-  whole_in files form vault (refused f g) is answering r done = absurd (not_done status sink answering done)
+  whole_in files form vault (refused f l k g) is answering r done = absurd (not_done status sink answering done)
   whole_in files form vault (accepted p) is answering r done = let w = whole_of p r done in (p, is, w.0, w.1)
 
   pub owed_whole : (files : Option Files) (form : Form) (vault : Type 0) → Called files form vault → IsDone status
@@ -108,7 +107,7 @@ module _ (status : Status) (script sink : Type 0) (left left_now : Option Text) 
     | inl e ↦ let d : ⊥ = subst IsDone e.0 done in d
     | inr e ↦ let d : ⊥ = subst IsDone e done in d
   ])
-  done_in files form vault project bytes (refused f g) is answering r has told done = absurd (not_done status sink answering done)
+  done_in files form vault project bytes (refused f l k g) is answering r has told done = absurd (not_done status sink answering done)
   done_in files form vault project bytes (accepted p) is answering r has told done =
       let P : Project → Type 0 = λ q. (left_now ≡ Some []) × (held_now ≡ appended held (written q bytes true)) × ((status ≡ DoneWithRefusals) ↔ IsTrue (has_refusal q bytes)) in
       subst P (sym (is.1 project has)) (done_of p bytes told r done)
@@ -128,7 +127,7 @@ module _ (status : Status) (script sink : Type 0) (left left_now : Option Text) 
     | inl e ↦ absurd (elim e.1 [ inl v ↦ a v | inr none ↦ no_course (given form files) project none has ])
     | inr e ↦ inl e
   ]
-  complete_in files form vault project bytes (refused f g) is answering r has told within a b c = absurd (no_fault form (given form files) f g project is has)
+  complete_in files form vault project bytes (refused f l k g) is answering r has told within a b c = absurd (is.2 project has)
   complete_in files form vault project bytes (accepted p) is answering r has told within a b c = elim answering [
     | inl done ↦ let d = done_in files form vault project bytes (accepted p) is (inl done) r has told done in inr (done, d.0, d.1)
     | inr f ↦ elim f [
@@ -149,31 +148,72 @@ module _ (status : Status) (script sink : Type 0) (left left_now : Option Text) 
       → IsProject (given form files) project → left ≡ Some bytes → length bytes ≤ max_script → (vault → ⊥) → (script → ⊥) → (sink → ⊥) → IsComplete project bytes
   owed_complete files form vault project bytes w has told within a b c = complete_in files form vault project bytes w.0 w.1 w.2 w.3 has told within a b c
 
-  abbrev IsFaulty : Text → Text → Type 0 → Type 0
-  IsFaulty file rule vault =
-      ((status ≡ ProjectRefused) × (held_now ≡ appended held (project_fault file rule)))
+  abbrev IsFaulty : (file : Text) → (line column : ℕ) → (rule : Text) → Type 0 → Type 0
+  IsFaulty file line column rule vault =
+      ((status ≡ ProjectRefused) × (held_now ≡ appended held (project_fault file line column rule)))
       ⊎ (((status ≡ ReadFault) × vault) ⊎ ((status ≡ WriteFault) ⊎ (status ≡ NoMemory)))
 
-  refused_whole : (f g file rule : Text) → f ≡ file → g ≡ rule → Ran (refused f g) status left left_now reads reads_now held held_now puts puts_now → status ≡ ProjectRefused
-      → held_now ≡ appended held (project_fault file rule)
-  refused_whole f g file rule x y r e =
-      let added_is : r.added ≡ project_fault f g = sym (append-nil r.added) ∙ ap (λ m. r.added ++ m) (sym (r.whole (inr e))) ∙ r.part in
-      r.adds ∙ ap (appended held) (added_is ∙ ap (λ t. project_fault t g) x ∙ ap (project_fault file) y)
+  abbrev Fault : Type 0
+  Fault = Text × ℕ × ℕ × Text
 
-  faulty_in : (files : Files) (form : Form) (vault : Type 0) (file rule : Text) (course : Course) → IsCourse (Some files) form course
+  abbrev fault_text : Fault → Text
+  fault_text x = project_fault x.0 x.1 x.2 x.3
+
+  refused_whole : (x y : Fault) → x ≡ y → Ran (refused y.0 y.1 y.2 y.3) status left left_now reads reads_now held held_now puts puts_now → status ≡ ProjectRefused
+      → held_now ≡ appended held (fault_text x)
+  refused_whole x y same r e =
+      let added_is : r.added ≡ fault_text y = sym (append-nil r.added) ∙ ap (λ m. r.added ++ m) (sym (r.whole (inr e))) ∙ r.part in
+      r.adds ∙ ap (appended held) (added_is ∙ sym (ap fault_text same))
+
+  faulty_in : (files : Files) (form : Form) (vault : Type 0) (file : Text) (line column : ℕ) (rule : Text) (course : Course) → IsCourse (Some files) form course
       → Answering course status (vault ⊎ IsFirstAbsent (Some files) form) script sink → Ran course status left left_now reads reads_now held held_now puts puts_now
-      → IsFault form (given form files) file rule → IsFaulty file rule vault
-  faulty_in files form vault file rule unknown is answering r fault = elim answering [
-    | inl e ↦ elim e.1 [ inl v ↦ inr (inl (e.0, v)) | inr none ↦ absurd (no_faults form (given form files) file rule none fault) ]
+      → IsFault form (given form files) file line column rule → IsFaulty file line column rule vault
+  faulty_in files form vault file line column rule unknown is answering r fault = elim answering [
+    | inl e ↦ elim e.1 [ inl v ↦ inr (inl (e.0, v)) | inr none ↦ absurd (no_faults form (given form files) file line column rule none fault) ]
     | inr e ↦ inr (inr (inr e))
   ]
-  faulty_in files form vault file rule (refused f g) is answering r fault =
-      let same = one_fault form (given form files) f file g rule is fault in
+  faulty_in files form vault file line column rule (refused f l k g) is answering r fault =
       elim answering [
-        | inl e ↦ inl (e, refused_whole f g file rule same.0 same.1 r e)
+        | inl e ↦ inl (e, refused_whole (file, line, column, rule) (f, l, k, g) (is.1 file line column rule fault) r e)
         | inr h ↦ elim h [ inl e ↦ inr (inr (inl e.0)) | inr e ↦ inr (inr (inr e)) ]
       ]
-  faulty_in files form vault file rule (accepted p) is answering r fault = absurd (no_fault form (given form files) file rule p fault is.0)
+  faulty_in files form vault file line column rule (accepted p) is answering r fault = absurd (is.2 file line column rule fault)
 
-  pub owed_faulty : (files : Files) (form : Form) (vault : Type 0) (file rule : Text) → Called (Some files) form vault → IsFault form (given form files) file rule → IsFaulty file rule vault
-  owed_faulty files form vault file rule w fault = faulty_in files form vault file rule w.0 w.1 w.2 w.3 fault
+  pub owed_faulty : (files : Files) (form : Form) (vault : Type 0) (file : Text) (line column : ℕ) (rule : Text) → Called (Some files) form vault
+      → IsFault form (given form files) file line column rule → IsFaulty file line column rule vault
+  owed_faulty files form vault file line column rule w fault = faulty_in files form vault file line column rule w.0 w.1 w.2 w.3 fault
+
+  other_than : (other : Status) → (ProjectRefused ≡ other → ⊥) → status ≡ other → status ≡ ProjectRefused → ⊥
+  other_than other differs e r = differs (sym r ∙ e)
+
+  fault_of : (files : Option Files) (form : Form) (file : Text) (line column : ℕ) (rule : Text) → IsTheFaultOf files form file line column rule → IsFaultOf files form file line column rule
+  fault_of None form file line column rule is = tt
+  fault_of (Some files) form file line column rule is = is.0
+
+  abbrev HasFault : Option Files → Form → Type 0
+  HasFault files form =
+      (file : Text) × (line : ℕ) × (column : ℕ) × (rule : Text) × IsFaultOf files form file line column rule × (held_now ≡ appended held (project_fault file line column rule))
+
+  refused_in : (files : Option Files) (form : Form) (vault : Type 0) (course : Course) → IsCourse files form course
+      → Answering course status (vault ⊎ IsFirstAbsent files form) script sink → Ran course status left left_now reads reads_now held held_now puts puts_now
+      → status ≡ ProjectRefused → HasFault files form
+  refused_in files form vault unknown is answering r e = absurd (elim answering [
+    | inl f ↦ other_than ReadFault (λ x. cc) f.0 e
+    | inr f ↦ other_than NoMemory (λ x. cc) f e
+  ])
+  refused_in files form vault (refused f l k g) is answering r e =
+      (f, l, k, g, fault_of files form f l k g is, refused_whole (f, l, k, g) (f, l, k, g) refl r e)
+  refused_in files form vault (accepted p) is answering r e = absurd (elim answering [
+    | inl done ↦ let d : ⊥ = subst IsDone e done in d
+    | inr f ↦ elim f [
+      | inl g ↦ other_than ReadFault (λ x. cc) g.0 e
+      | inr f ↦ elim f [
+        | inl g ↦ other_than WriteFault (λ x. cc) g.0 e
+        | inr f ↦ elim f [ inl g ↦ other_than NoMemory (λ x. cc) g e | inr g ↦ other_than ScriptTooLong (λ x. cc) g e ]
+      ]
+    ]
+  ])
+
+  pub owed_refused : (files : Option Files) (form : Form) (vault : Type 0) → Called files form vault → status ≡ ProjectRefused
+      → (file : Text) × (line : ℕ) × (column : ℕ) × (rule : Text) × IsFaultOf files form file line column rule × (held_now ≡ appended held (project_fault file line column rule))
+  owed_refused files form vault w e = refused_in files form vault w.0 w.1 w.2 w.3 e

@@ -93,25 +93,25 @@ fields_at-step schema records xs i x of id now new start within is before told =
     ∙ before
 
 -- a record of the type that is asked for, and any other
-pub typed_at-is : (of : Text) (fields : Text → Fields × Trace) (id : Text) (found : Option Stored) → is_typed of found ≡ true
-    → typed_at of fields id found ≡ (Some (object_of (fields id).0), joined (standing id) (fields id).1)
-typed_at-is of fields id None is = absurd (cc)
-typed_at-is of fields id (Some (leaf (text name))) is =
+pub typed_at-is : (schema : Schema) (of : Text) (fields : Text → Fields × Trace) (id : Text) (found : Option Stored) → is_typed schema of found ≡ true
+    → typed_at schema of fields id found ≡ (Some (object_of (fields id).0), joined (standing id) (fields id).1)
+typed_at-is schema of fields id None is = absurd (cc)
+typed_at-is schema of fields id (Some (leaf (text name))) is =
     ap (λ b. cond {A = Answer} b (Some (object_of (fields id).0), joined (standing id) (fields id).1) (None, record { missing = true; seen = id ∷ [] })) is
-typed_at-is of fields id (Some (leaf null)) is = absurd (cc)
-typed_at-is of fields id (Some (leaf (truth b))) is = absurd (cc)
-typed_at-is of fields id (Some (leaf (whole n))) is = absurd (cc)
-typed_at-is of fields id (Some (leaf (list ts))) is = absurd (cc)
-typed_at-is of fields id (Some (leaf (object ms))) is = absurd (cc)
-typed_at-is of fields id (Some (link j)) is = absurd (cc)
+typed_at-is schema of fields id (Some (leaf null)) is = absurd (cc)
+typed_at-is schema of fields id (Some (leaf (truth b))) is = absurd (cc)
+typed_at-is schema of fields id (Some (leaf (whole n))) is = absurd (cc)
+typed_at-is schema of fields id (Some (leaf (list ts))) is = absurd (cc)
+typed_at-is schema of fields id (Some (leaf (object ms))) is = absurd (cc)
+typed_at-is schema of fields id (Some (link j)) is = absurd (cc)
 
 -- an object that was read at an id
-pub object_read : (of : Text) (fields : Text → Fields × Trace) (id : Text) (found : Option Stored) (old first second : Trace) (none done : J.Members)
-    → is_typed of found ≡ true → none ≡ J.no_members → first ≡ joined old (standing id)
+pub object_read : (schema : Schema) (of : Text) (fields : Text → Fields × Trace) (id : Text) (found : Option Stored) (old first second : Trace) (none done : J.Members)
+    → is_typed schema of found ≡ true → none ≡ J.no_members → first ≡ joined old (standing id)
     → record { members = done; trace = second } ≡ read_on (record { members = none; trace = first }) (fields id)
-    → (Some (J.object done) ≡ option_map data_of (typed_at of fields id found).0) × (second ≡ joined old (typed_at of fields id found).1)
-object_read of fields id found old first second none done typed_so empty stood read =
-    let at = typed_at-is of fields id found typed_so in (
+    → (Some (J.object done) ≡ option_map data_of (typed_at schema of fields id found).0) × (second ≡ joined old (typed_at schema of fields id found).1)
+object_read schema of fields id found old first second none done typed_so empty stood read =
+    let at = typed_at-is schema of fields id found typed_so in (
       ap (λ ms. Some (J.object ms)) (ap (λ (p : Progress). p.members) read ∙ ap (λ ms. members_put ms (fields id).0) empty ∙ data_of-put_members [] (fields id).0)
           ∙ ap (λ (a : Answer). option_map data_of a.0) (sym at),
       ap (λ (p : Progress). p.trace) read ∙ ap (λ t. joined t (fields id).1) stood ∙ joined_assoc old (standing id) (fields id).1

@@ -1,12 +1,14 @@
 -- What is written for the lines of a script, one after the other.
-use Rattle.std.proofs.Common.{◌≡◌, ℕ, ◌+◌, List, [], ◌∷◌, ◌++◌, length, take, drop, cond, Bool, true, false, ◌||◌, ◌==◌, codes, map, bytes_eq, refl, sym, ap, subst, inl, inr, ◌∙◌, arith, append_assoc}
+use Rattle.std.proofs.Common.{◌≡◌, ℕ, ◌+◌, List, [], ◌∷◌, ◌++◌, length, take, drop, cond, Bool, true, false, ◌||◌, ◌==◌, codes, map, Option, None, Some, refl, sym, ap, subst, inl, inr, ◌∙◌, arith, append_assoc}
 use Rattle.std.specs.Prelude.{unwrap_or}
 use Rattle.std.proofs.lemmas.List.{append-nil, take-append-drop}
 use Rattle.gql_plain.specs.Tree.{Tree, null, truth, text, list, object, trees_of, members_of}
 use Rattle.gql_plain.specs.ToJson.{compact}
 use Rattle.relay_model.specs.Events.{Event, retain, payload, read, Line, too_long, not_json as no_json, other, event, line_of, max_line}
 use Rattle.relay_model.specs.Keys.{Text}
-use Rattle.relay_model.specs.Machine.{Project, State, Step, step, step_line, step_event, confirm, output, some_refused, accept, refuse, is_live, max_handles, base}
+use Rattle.gql_ast.specs.Sels.{Sels}
+use Rattle.serde_json.specs.Data as J
+use Rattle.relay_model.specs.Machine.{Project, State, Step, step, step_line, step_event, confirm, output, some_refused, accept, refuse, is_live, max_handles, base, under, retain_with, payload_with, read_with}
 use Rattle.relay_model.specs.Payload.{Said, says}
 use Rattle.relay_model.specs.Read.{Answer, read_root}
 use Rattle.relay_model.specs.Order.{in_order}
@@ -32,8 +34,8 @@ refusal_of_ends : (code : ℕ) (error : Text) (n : ℕ) (name : Text) → EndsLi
 refusal_of_ends code error n name = line_ends ((codes "code", number code) ∷ (codes "error", text error) ∷ (codes "n", number n) ∷ (codes "name", text name) ∷ [])
 
 -- the fault of a project is a whole line
-pub project_fault_ends : (file rule : Text) → EndsLine (project_fault file rule)
-project_fault_ends file rule = line_ends ((codes "column", number 1) ∷ (codes "file", text file) ∷ (codes "line", number 1) ∷ (codes "rule", text rule) ∷ [])
+pub project_fault_ends : (file : Text) (at_line column : ℕ) (rule : Text) → EndsLine (project_fault file at_line column rule)
+project_fault_ends file at_line column rule = line_ends ((codes "column", number column) ∷ (codes "file", text file) ∷ (codes "line", number at_line) ∷ (codes "rule", text rule) ∷ [])
 
 not_yet_ends : (n : ℕ) → EndsLine (not_yet n)
 not_yet_ends n = refusal_ends 90 (codes "NotYet") n
@@ -54,15 +56,24 @@ cond_ends false a b x y = y
 confirm_ends : (s : State) (n : ℕ) (said : Said) → EndsLine (confirm s n said).text
 confirm_ends s n said = cond_ends said.plain (accept (done (codes "payload") n) (record { entries = s.entries ++ said.facts ∷ []; handles = s.handles })) (refuse (not_yet n) s) (done_ends (codes "payload") n) (not_yet_ends n)
 
+retain_ends : (operation_is : Option Sels) (s : State) (n : ℕ) (handle operation : Text) → EndsLine (retain_with operation_is s n handle operation).text
+retain_ends None s n handle operation = unknown_operation_ends n operation
+retain_ends (Some selections) s n handle operation = done_ends (codes "retain") n
+
+payload_ends : (p : Project) (handle_is : Option Sels) (s : State) (n : ℕ) (handle : Text) (response : J.Data) → EndsLine (payload_with p handle_is s n handle response).text
+payload_ends p None s n handle response = unknown_handle_ends n handle
+payload_ends p (Some selections) s n handle response = confirm_ends s n (says p.schema selections response)
+
+read_ends : (p : Project) (handle_is : Option Sels) (s : State) (n : ℕ) (handle : Text) → EndsLine (read_with p handle_is s n handle).text
+read_ends p None s n handle = unknown_handle_ends n handle
+read_ends p (Some selections) s n handle = shown_ends n (read_root p.schema (base s) selections)
+
 event_ends : (p : Project) (s : State) (n : ℕ) (e : Event) → EndsLine (step_event p s n e).text
 event_ends p s n (retain handle operation) =
-    let known = cond (bytes_eq operation p.operation) (accept (done (codes "retain") n) (record { entries = s.entries; handles = s.handles ++ handle ∷ [] })) (refuse (unknown_operation n operation) s) in
-    let known_ends : EndsLine known.text = cond_ends (bytes_eq operation p.operation) (accept (done (codes "retain") n) (record { entries = s.entries; handles = s.handles ++ handle ∷ [] })) (refuse (unknown_operation n operation) s) (done_ends (codes "retain") n) (unknown_operation_ends n operation) in
-    cond_ends (is_live handle s || (length s.handles == max_handles)) (refuse (not_yet n) s) known (not_yet_ends n) known_ends
-event_ends p s n (payload handle response) =
-    cond_ends (is_live handle s) (confirm s n (says p.schema p.selections response)) (refuse (unknown_handle n handle) s) (confirm_ends s n (says p.schema p.selections response)) (unknown_handle_ends n handle)
-event_ends p s n (read handle) =
-    cond_ends (is_live handle s) (accept (shown n (read_root p.schema (base s) p.selections)) s) (refuse (unknown_handle n handle) s) (shown_ends n (read_root p.schema (base s) p.selections)) (unknown_handle_ends n handle)
+    cond_ends (is_live handle s || (length s.handles == max_handles)) (refuse (not_yet n) s) (retain_with (under operation p.operations) s n handle operation)
+    (not_yet_ends n) (retain_ends (under operation p.operations) s n handle operation)
+event_ends p s n (payload handle response) = payload_ends p (under handle s.handles) s n handle response
+event_ends p s n (read handle) = read_ends p (under handle s.handles) s n handle
 
 line_step_ends : (p : Project) (s : State) (n : ℕ) (l : Line) → EndsLine (step_line p s n l).text
 line_step_ends p s n too_long = not_yet_ends n

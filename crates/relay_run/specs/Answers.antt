@@ -1,17 +1,13 @@
 -- What the answers of a run owe.
-use Rattle.std.specs.Prelude.{◌≡◌, ◌⊎◌, ◌↔◌, ℕ, ◌+◌, ◌≤◌, [], ◌∷◌, ◌++◌, length, take, Bool, false, codes, Option, Some, None, Result, Ok, Err, Vec, ⊤, IsTrue, IsFalse}
+use Rattle.std.specs.Prelude.{List, ◌≡◌, ◌⊎◌, ◌↔◌, ℕ, ◌+◌, ◌≤◌, [], ◌∷◌, ◌++◌, length, take, Bool, false, Option, Some, None, Result, Ok, Err, Vec, ⊤, IsTrue, IsFalse}
 use Rattle.std.specs.Io.KnownBytes.{IsAtEnd}
 use Rattle.relay_io.specs.Streams.{appended, prepended}
 use Rattle.relay_model.specs.Keys.{Text}
 use Rattle.relay_model.specs.Machine.{Project}
 use Rattle.relay_model.specs.Printed.{project_fault}
-use Rattle.relay_run.specs.Files.{Files, given, IsProject, IsFaultOf}
+use Rattle.relay_run.specs.Files.{Files, given, IsProject, IsFault}
 use Rattle.relay_run.specs.Output.{max_script, written, has_refusal, IsDone}
 use Rattle.relay_run.specs.Words.{Form}
-use Rattle.relay_run.specs.declared.files.File.{File}
-use Rattle.relay_run.specs.declared.files.File.TheVariants.{Schema, Document}
-use Rattle.relay_run.specs.declared.files.Rule.{Rule}
-use Rattle.relay_run.specs.declared.files.Rule.TheVariants.{F1, N1}
 use Rattle.relay_run.specs.declared.script.ScriptFault.{ScriptFault}
 use Rattle.relay_run.specs.declared.script.ScriptFault.TheVariants.{Failed, TooLong, NoMemory as NoRoom}
 use Rattle.relay_run.specs.declared.status.Status.{Status}
@@ -19,22 +15,23 @@ use Rattle.relay_run.specs.declared.status.Status.TheVariants.{DoneWithRefusals,
 
 -- ---- words and files
 
-abbrev pub the_form : Text → Text → Form
-the_form schema document = record { schema = schema; document = document }
+abbrev pub the_form : Text → List Text → Form
+the_form schema documents = record { schema = schema; documents = documents }
 
-abbrev pub name_of : Form → File → Text
-name_of form Schema = form.schema
-name_of form Document = form.document
-
-abbrev pub rule_text : Rule → Text
-rule_text F1 = codes "F1"
-rule_text N1 = codes "N1"
-
--- the project that the files are, where they are told: they are this one and no other
+-- the project that the files are, where they are told: they are this one and no other, and have no fault
 abbrev pub IsTheProjectOf : Option Files → Form → Project → Type 0
 IsTheProjectOf None form project = ⊤
 IsTheProjectOf (Some files) form project =
     IsProject (given form files) project × ((other : Project) → IsProject (given form files) other → other ≡ project)
+    × ((file : Text) (line column : ℕ) (rule : Text) → IsFault form (given form files) file line column rule → ⊥)
+
+-- the fault of the files, where they are told: they have this one and no other, and are no project
+abbrev pub IsTheFaultOf : Option Files → Form → (file : Text) → (line column : ℕ) → (rule : Text) → Type 0
+IsTheFaultOf None form file line column rule = ⊤
+IsTheFaultOf (Some files) form file line column rule =
+    IsFault form (given form files) file line column rule
+    × ((f : Text) (l c : ℕ) (r : Text) → IsFault form (given form files) f l c r → ◌≡◌ {A = Text × ℕ × ℕ × Text} (f, l, c, r) (file, line, column, rule))
+    × ((project : Project) → IsProject (given form files) project → ⊥)
 
 -- ---- the script
 
@@ -58,31 +55,31 @@ EndsLine text = (text ≡ []) ⊎ ((before : Text) × (text ≡ before ++ 10 ∷
 -- what came to be known of the project: nothing, its fault, or that it is accepted
 pub data Course : Type 0 where
   unknown : Course
-  refused : (file rule : Text) → Course
+  refused : (file : Text) (line column : ℕ) (rule : Text) → Course
   accepted : (project : Project) → Course
 
 -- the files, where they are told, give the course
 abbrev pub IsCourse : Option Files → Form → Course → Type 0
 IsCourse files form unknown = ⊤
-IsCourse files form (refused file rule) = IsFaultOf files form file rule
+IsCourse files form (refused file line column rule) = IsTheFaultOf files form file line column rule
 IsCourse files form (accepted project) = IsTheProjectOf files form project
 
 -- what is due where the script gave these bytes, and has ended or not; only the first 2^30 bytes count
 abbrev pub due : Course → Text → Bool → Text
 due unknown taken ended = []
-due (refused file rule) taken ended = project_fault file rule
+due (refused file line column rule) taken ended = project_fault file line column rule
 due (accepted project) taken ended = written project (take max_script taken) ended
 
 -- whether one of the lines is refused
 abbrev pub refuses : Course → Text → Bool
 refuses unknown taken = false
-refuses (refused file rule) taken = false
+refuses (refused file line column rule) taken = false
 refuses (accepted project) taken = has_refusal project taken
 
 -- the script is read only where the project is accepted
 abbrev pub IsReadIn : Course → Text → Type 0
 IsReadIn unknown taken = taken ≡ []
-IsReadIn (refused file rule) taken = taken ≡ []
+IsReadIn (refused file line column rule) taken = taken ≡ []
 IsReadIn (accepted project) taken = ⊤
 
 -- what the script, which had `before` and has `after`, gave in a call that is answered so
@@ -99,7 +96,7 @@ pub record Took (course : Course) (status : Status) (before after : Option Text)
 -- which answers come in a course, each with what it comes by
 abbrev pub Answering : Course → Status → (vault script sink : Type 0) → Type 0
 Answering unknown status vault script sink = ((status ≡ ReadFault) × vault) ⊎ (status ≡ NoMemory)
-Answering (refused file rule) status vault script sink = (status ≡ ProjectRefused) ⊎ (((status ≡ WriteFault) × sink) ⊎ (status ≡ NoMemory))
+Answering (refused file line column rule) status vault script sink = (status ≡ ProjectRefused) ⊎ (((status ≡ WriteFault) × sink) ⊎ (status ≡ NoMemory))
 Answering (accepted project) status vault script sink =
     IsDone status ⊎ (((status ≡ ReadFault) × script) ⊎ (((status ≡ WriteFault) × sink) ⊎ ((status ≡ NoMemory) ⊎ (status ≡ ScriptTooLong))))
 

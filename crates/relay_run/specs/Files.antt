@@ -1,10 +1,12 @@
 -- What the files that the words name hold, and what is at fault in them.
-use Rattle.std.specs.Prelude.{◌≡◌, ◌⊎◌, ℕ, ◌^◌, List, length, codes, cond, nat_le, Option, Some, None, ⊤}
+use Rattle.std.specs.Prelude.{◌≡◌, ◌⊎◌, ℕ, ◌-◌, ◌^◌, List, [], ◌∷◌, ◌++◌, length, min, codes, cond, nat_le, slice_index_or, Option, Some, None, ⊤}
 use Rattle.relay_io.specs.Files.{file_of}
 use Rattle.relay_model.specs.Keys.{Text}
 use Rattle.relay_model.specs.Machine.{Project}
-use Rattle.relay_run.specs.Thin.{IsThinProject, HasNoSchema, HasNoDocument}
+use Rattle.relay_run.specs.Projects.{IsPlainProject, IsTextFault, IsSchemaFault, IsNotTaken}
+use Rattle.relay_run.specs.Rules.{rule_text}
 use Rattle.relay_run.specs.Words.{Form}
+use Rattle.schema_types.specs.declared.fault.ProjectFault.{ProjectFault}
 
 abbrev pub Files : Type 0
 Files = List (Text × Text)
@@ -13,23 +15,33 @@ Files = List (Text × Text)
 abbrev pub max_file : ℕ
 max_file = 2 ^ 22
 
--- the bytes of the schema and of the document; or, of the two, the first that is absent or too long
+-- all files hold at most 64 MiB
+abbrev pub max_all : ℕ
+max_all = 2 ^ 26
+
+-- the bytes of the schema and of the documents; or, of all files, the first that is absent or too long
 pub data Given : Type 0 where
   absent : Given
   too_long : (file : Text) → Given
-  told : (schema document : Text) → Given
+  told : (schema : Text) → (texts : List Text) → Given
 
-abbrev pub within : Text → Text → (Text → Given) → Given
-within name bytes next = cond (nat_le (length bytes) max_file) (next bytes) (too_long name)
+-- a file of which so many bytes are left of all that are taken
+abbrev pub within : (name : Text) → (left : ℕ) → Text → (Text → Given) → Given
+within name left bytes next = cond (nat_le (length bytes) (min max_file left)) (next bytes) (too_long name)
 
-abbrev pub found : Text → Option Text → (Text → Given) → Given
-found name None next = absent
-found name (Some bytes) next = within name bytes next
+abbrev pub found : (name : Text) → (left : ℕ) → Option Text → (Text → Given) → Given
+found name left None next = absent
+found name left (Some bytes) next = within name left bytes next
+
+-- the documents of these names, after those that were read before
+abbrev pub documents_from : Files → (schema : Text) → (before : List Text) → (left : ℕ) → (names : List Text) → Given
+documents_from files schema before left [] = told schema before
+documents_from files schema before left (name ∷ names) =
+    found name left (file_of name files) (λ bytes. documents_from files schema (before ++ bytes ∷ []) (left - length bytes) names)
 
 abbrev pub given : Form → Files → Given
 given form files =
-    found form.schema (file_of form.schema files) (λ schema.
-    found form.document (file_of form.document files) (λ document. told schema document))
+    found form.schema max_all (file_of form.schema files) (λ schema. documents_from files schema [] (max_all - length schema) form.documents)
 
 -- the first that is absent or too long is absent
 abbrev pub IsFirstAbsent : Option Files → Form → Type 0
@@ -40,19 +52,42 @@ IsFirstAbsent (Some files) form = given form files ≡ absent
 abbrev pub IsProject : Given → Project → Type 0
 IsProject absent project = ⊥
 IsProject (too_long file) project = ⊥
-IsProject (told schema document) project = IsThinProject schema document project
+IsProject (told schema texts) project = IsPlainProject schema texts project
 
 abbrev pub IsProjectOf : Option Files → Form → Project → Type 0
 IsProjectOf None form project = ⊤
 IsProjectOf (Some files) form project = IsProject (given form files) project
 
--- the fault of the project, by the file at fault and the rule
-abbrev pub IsFault : Form → Given → Text → Text → Type 0
-IsFault form absent file rule = ⊥
-IsFault form (too_long name) file rule = (file ≡ name) × (rule ≡ codes "F1")
-IsFault form (told schema document) file rule =
-    (rule ≡ codes "N1") × ((file ≡ form.schema) × HasNoSchema schema ⊎ (file ≡ form.document) × HasNoDocument schema document)
+-- the name of a file by its number: the schema is 0, documents are numbered from 1
+abbrev pub name_of : Form → ℕ → Text
+name_of form n = slice_index_or (form.schema ∷ form.documents) n []
 
-abbrev pub IsFaultOf : Option Files → Form → Text → Text → Type 0
-IsFaultOf None form file rule = ⊤
-IsFaultOf (Some files) form file rule = IsFault form (given form files) file rule
+-- a rule is not met at a place of a file; the first that is told of a text, else of the schema
+pub record BreaksRule (schema : Text) (texts : List Text) (n line column : ℕ) (rule : Text) : Type 0 where
+  pub fault : ProjectFault
+  pub first : IsTextFault schema texts fault ⊎ IsSchemaFault schema texts fault
+  pub file_is : n ≡ fault.file
+  pub line_is : line ≡ fault.line
+  pub column_is : column ≡ fault.column
+  pub rule_is : rule ≡ rule_text fault.rule
+
+-- a document is of no form that is taken, which is told at its beginning
+pub record IsOfNoForm (schema : Text) (texts : List Text) (n line column : ℕ) (rule : Text) : Type 0 where
+  pub first : IsNotTaken schema texts n
+  pub line_is : line ≡ 1
+  pub column_is : column ≡ 1
+  pub rule_is : rule ≡ codes "N1"
+
+-- the fault of these texts, by the number of the file
+abbrev pub IsFaultIn : (schema : Text) → (texts : List Text) → (n line column : ℕ) → (rule : Text) → Type 0
+IsFaultIn schema texts n line column rule = BreaksRule schema texts n line column rule ⊎ IsOfNoForm schema texts n line column rule
+
+-- the fault of the project: the name of the file, the line and the column in it, and the rule
+abbrev pub IsFault : Form → Given → (file : Text) → (line column : ℕ) → (rule : Text) → Type 0
+IsFault form absent file line column rule = ⊥
+IsFault form (too_long name) file line column rule = (file ≡ name) × (line ≡ 1) × (column ≡ 1) × (rule ≡ codes "F1")
+IsFault form (told schema texts) file line column rule = (n : ℕ) × (file ≡ name_of form n) × IsFaultIn schema texts n line column rule
+
+abbrev pub IsFaultOf : Option Files → Form → (file : Text) → (line column : ℕ) → (rule : Text) → Type 0
+IsFaultOf None form file line column rule = ⊤
+IsFaultOf (Some files) form file line column rule = IsFault form (given form files) file line column rule

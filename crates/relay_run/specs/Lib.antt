@@ -1,6 +1,5 @@
 pub mod Shown
 pub mod Stands
-pub mod Thin
 pub mod Words
 pub mod Files
 pub mod Output
@@ -10,9 +9,9 @@ pub mod Stored
 pub mod Lines
 pub mod Said
 pub mod Reading
-pub mod ThinTokens
-pub mod ThinShown
-pub mod ThinTypes
-pub mod ThinSets
-pub mod ThinSchema
-pub mod ThinDocument
+pub mod Plain
+pub mod Projects
+pub mod Rules
+pub mod PlainParts
+pub mod Verdicts
+pub mod Reads

@@ -1,7 +1,6 @@
 -- What a run writes.
-use Rattle.std.specs.Prelude.{◌≡◌, ℕ, ◌^◌, ◌<◌, List, [], ◌∷◌, ◌++◌, Bool, true, false, Option}
-use Rattle.std.specs.Io.KnownBytes.{IsAtEnd}
-use Rattle.relay_io.specs.Streams.{appended, prepended}
+use Rattle.std.specs.Prelude.{◌≡◌, ℕ, ◌^◌, ◌++◌, Bool, true, Option}
+use Rattle.relay_io.specs.Streams.{appended}
 use Rattle.relay_model.specs.Keys.{Text}
 use Rattle.relay_model.specs.Machine as machine
 use Rattle.relay_model.specs.Script.{lines_of, cut}

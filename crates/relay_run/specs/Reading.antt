@@ -29,21 +29,21 @@ abbrev pub IsReading : Reading → model.Answer → Type 0
 IsReading r answer = (option_map view r.value ≡ option_map data_of answer.0) × (trace_shown r.trace ≡ answer.1)
 
 -- whether the field is the name of the type that is asked for
-abbrev pub is_typed : Text → Option Stored → Bool
-is_typed of None = false
-is_typed of (Some (leaf (text name))) = bytes_eq (model.typed name) of
-is_typed of (Some (leaf null)) = false
-is_typed of (Some (leaf (truth b))) = false
-is_typed of (Some (leaf (whole n))) = false
-is_typed of (Some (leaf (list ts))) = false
-is_typed of (Some (leaf (object ms))) = false
-is_typed of (Some (link j)) = false
+abbrev pub is_typed : Schema → Text → Option Stored → Bool
+is_typed schema of None = false
+is_typed schema of (Some (leaf (text name))) = bytes_eq (model.typed schema name) of
+is_typed schema of (Some (leaf null)) = false
+is_typed schema of (Some (leaf (truth b))) = false
+is_typed schema of (Some (leaf (whole n))) = false
+is_typed schema of (Some (leaf (list ts))) = false
+is_typed schema of (Some (leaf (object ms))) = false
+is_typed schema of (Some (link j)) = false
 
 -- what a field with this set of its own shows
 abbrev pub field_answer : Schema → Records → Sels → Text → Text → Text → model.Answer
 field_answer schema records subs of id name =
     cond {A = model.Answer} (is_set subs)
-    (model.object_at (model.stand_at records (type_of (schema of name)) (λ j. model.fields_at schema records subs (type_of (schema of name)) j)) (records id name))
+    (model.object_at (model.stand_at schema records (type_of schema of name) (λ j. model.fields_at schema records subs (type_of schema of name) j)) (records id name))
     (model.leaf_at (records id name))
 
 -- an object and a trace, as far as they were read

@@ -29,7 +29,7 @@ allowed plain = record { plain = plain; facts = [] }
 abbrev pub field_said : Schema → Sels → Text → Text → Text → J.Members → model.Said
 field_said schema subs of id name given =
     cond (model.is_set subs)
-    (model.value_said schema (type_of (schema of name)) (λ child below. model.fields_said schema subs (type_of (schema of name)) child below) subs id name (get_member name given))
+    (model.value_said schema (type_of schema of name) (λ child below. model.fields_said schema subs (type_of schema of name) child below) subs id name (get_member name given))
     (model.leaf_said id name (get_member name given))
 
 -- the facts, where all is of the plain form

@@ -1,11 +1,11 @@
 -- When an engine stands for a state of the machine.
-use Rattle.std.specs.Prelude.{◌≡◌, ℕ, List, map, string_bytes, Option, option_map, option_and_then}
+use Rattle.std.specs.Prelude.{◌≡◌, ℕ, Option, option_map, option_and_then}
 use Rattle.std.specs.BTreeMap.{get_by_text}
 use Rattle.relay_model.specs.Keys.{Text}
 use Rattle.relay_model.specs.Records.{Stored, leaf, link}
 use Rattle.relay_model.specs.Machine.{Project, State, base, step}
 use Rattle.gql_plain.specs.Shown.{tree_of}
-use Rattle.relay_run.specs.Shown.{project_shown}
+use Rattle.relay_run.specs.Shown.{named, project_shown}
 use Rattle.relay_run.specs.declared.engine.Engine.{Engine}
 use Rattle.relay_run.specs.declared.engine.Answer.{Answer}
 use Rattle.relay_run.specs.declared.engine.Field.{Field}
@@ -19,14 +19,11 @@ field_shown (Link id) = link id
 abbrev pub stored : Engine → Text → Text → Option Stored
 stored e id key = option_map field_shown (option_and_then (λ fields. get_by_text fields key) (get_by_text e.records id))
 
-abbrev pub handles_of : Engine → List Text
-handles_of e = map (λ h. string_bytes h.0) e.handles.entries
-
--- the engine has the project, the records that the state's entries give, and its live handles in order
+-- the engine has the project, the records that the state's entries give, and its live handles in order, each with its selections
 pub record StandsFor (e : Engine) (p : Project) (s : State) : Type 0 where
   pub project : project_shown e.project ≡ p
   pub records : (id key : Text) → stored e id key ≡ base s id key
-  pub handles : handles_of e ≡ s.handles
+  pub handles : named e.handles.entries ≡ s.handles
 
 -- the answer is the step's, and the engine stands for the state after it
 pub record Answers (p : Project) (s : State) (n : ℕ) (line : Text) (a : Answer) (e : Engine) : Type 0 where

@@ -1,112 +1,133 @@
 //! Reading the files of the project.
-ghost use Rattle.std.specs.Prelude.{◌≡◌, ◌⊎◌, ◌≤◌, ◌+◌, ℕ, List, Some, Ok, Err, IfOk, IsOkAnd, IsErrOf, vec_len};
+ghost use Rattle.std.specs.Prelude.{◌≡◌, ◌≤◌, ◌+◌, map, min, length, IfOk, IfErr};
 ghost use Rattle.gql_plain.specs.Counted.{next_count};
 ghost use Rattle.relay_io.specs.Causes.{Rose};
-ghost use Rattle.relay_io.specs.Files.{GivesFile, IsAbsent, IsTooLong};
-ghost use Rattle.relay_model.specs.Machine as machine;
-ghost use Rattle.relay_run.specs.Answers.{the_form, name_of, rule_text, IsTheProjectOf};
-ghost use Rattle.relay_run.specs.Files.{Files, given, max_file, IsFault, IsFaultOf, IsFirstAbsent, IsProject};
+ghost use Rattle.relay_io.specs.Files.{GivesFile};
+ghost use Rattle.relay_run.specs.Answers.{the_form, IsTheProjectOf};
+ghost use Rattle.relay_run.specs.Files.{max_file, name_of, told};
+ghost use Rattle.relay_run.specs.Reads.{GivesDocuments, IsClosedBy, AreClosedBy, IsFileClosedBy};
 ghost use Rattle.relay_run.specs.Shown.{project_shown};
+ghost use Rattle.relay_run.specs.Words.{max_documents};
 
+use crate::file_text::FileText;
 use crate::project::{Project, ProjectRefusal, read_project};
 use relay_io::{Vault, VaultFault};
+use schema_types::ProjectFault;
 use std::alloc::Global;
 
 /// The most bytes that a file holds: 4 MiB.
-const MAX_FILE: u64 = 1 << 22;
+const MAX_FILE: usize = 1 << 22;
 
-/// One of the files that the words name.
-#[derive(Clone, Copy, Debug, Drop)]
-pub enum File {
-    Schema,
-    Document,
-}
-
-/// What a file is at fault by.
-#[derive(Clone, Copy, Debug, Drop)]
-pub enum Rule {
-    /// It holds more bytes than are taken.
-    F1,
-    /// It is of no form that is taken.
-    N1,
-}
-
-impl Rule {
-    /// The rule's name, as it is printed.
-    pub fn text(self) -> &'static str
-        ensures { result.now ≡ rule_text self }
-    {
-        match self {
-            Rule::F1 => "F1",
-            Rule::N1 => "N1",
-        }
-    }
-}
+/// The most bytes that all files hold: 64 MiB.
+const MAX_ALL: usize = 1 << 26;
 
 /// Why there is no project.
 #[derive(Clone, Copy, Debug, Drop)]
-pub enum Closed {
+pub enum Closed<'a> {
     /// A file could not be read, or there is none of its name.
     Unread,
-    /// The project is refused.
-    Fault(File, Rule),
+    /// The file of this name holds more bytes than are taken of it.
+    TooLong(&'a str),
+    /// The project does not meet a rule.
+    Fault(ProjectFault),
+    /// The document of this number, from 1, is of no form that is taken.
+    NotTaken(u32),
     NoMemory,
 }
 
-/// The project of the schema and the document of these names, which are read in this order.
-pub fn open_project<V: Vault>(
+/// The project of the schema and the documents of these names, which are read in this order.
+pub fn open_project<'a, V: Vault>(
     alloc: Global,
     vault: &mut V,
-    schema: &str,
-    document: &str,
-) -> Result<Project, Closed>
+    schema: &'a str,
+    documents: &[&'a str],
+) -> Result<Project, Closed<'a>>
+    requires { length documents.now ≤ max_documents }
     ensures same { V.files vault.new ≡ V.files vault.old }
-    ensures project { IfOk result (λ p. IsTheProjectOf (V.files vault.old) (the_form schema.now document.now) (project_shown p)) }
-    ensures fault { (file : File) (rule : Rule) → result ≡ Err (Closed.Fault file rule)
-        → IsFaultOf (V.files vault.old) (the_form schema.now document.now) (name_of (the_form schema.now document.now) file) (rule_text rule) }
-    ensures unread { result ≡ Err Closed.Unread
-        → Rose (V.faults vault.old) (V.faults vault.new) ⊎ IsFirstAbsent (V.files vault.old) (the_form schema.now document.now) }
-    ensures accepted { (files : Files) (project : machine.Project) → V.files vault.old ≡ Some files
-        → IsProject (given (the_form schema.now document.now) files) project
-        → (result ≡ Err Closed.Unread) ⊎ ((result ≡ Err Closed.NoMemory) ⊎ IsOkAnd result (λ p. project_shown p ≡ project)) }
+    ensures project { IfOk result (λ p. IsTheProjectOf (V.files vault.old) (the_form schema.now (map (λ w. w.now) documents.now)) (project_shown p)) }
+    ensures closed { IfErr result (λ closed. IsClosedBy (V.files vault.old) (the_form schema.now (map (λ w. w.now) documents.now)) closed
+        (Rose (V.faults vault.old) (V.faults vault.new))) }
     ensures later { V.faults vault.old ≤ V.faults vault.new }
-    ensures calls { V.calls vault.new ≤ V.calls vault.old + 2 }
+    ensures calls { V.calls vault.new ≤ V.calls vault.old + (length documents.now + 1) }
 {
-    let schema_bytes = match read_file(alloc, vault, schema, File::Schema) {
-        Ok(bytes) => bytes,
+    let text = match read_file(alloc, vault, schema, MAX_ALL) {
+        Ok(text) => text,
         Err(closed) => return Err(closed),
     };
-    let document_bytes = match read_file(alloc, vault, document, File::Document) {
-        Ok(bytes) => bytes,
+    let texts = match read_documents(alloc, vault, documents, MAX_ALL - text.len()) {
+        Ok(texts) => texts,
         Err(closed) => return Err(closed),
     };
-    match read_project(alloc, &schema_bytes, &document_bytes) {
+    match read_project(alloc, &text, &texts) {
         Ok(project) => Ok(project),
-        Err(ProjectRefusal::Schema) => Err(Closed::Fault(File::Schema, Rule::N1)),
-        Err(ProjectRefusal::Document) => Err(Closed::Fault(File::Document, Rule::N1)),
+        Err(ProjectRefusal::Fault(fault)) => Err(Closed::Fault(fault)),
+        Err(ProjectRefusal::NotTaken(file)) => Err(Closed::NotTaken(file)),
         Err(ProjectRefusal::NoMemory) => Err(Closed::NoMemory),
     }
 }
 
-/// The bytes of a file. Two files of the most bytes each are within what is taken of all files.
-fn read_file<V: Vault>(
+/// The bytes of the documents of these names, of which at most `left` are taken in all.
+fn read_documents<'a, V: Vault>(
     alloc: Global,
     vault: &mut V,
-    name: &str,
-    file: File,
-) -> Result<Vec<u8>, Closed>
+    names: &[&'a str],
+    left: usize,
+) -> Result<Vec<FileText>, Closed<'a>>
     ensures same { V.files vault.new ≡ V.files vault.old }
-    ensures bytes { IfOk result (λ bytes. GivesFile (V.files vault.old) name.now bytes.items × (vec_len bytes ≤ max_file)) }
-    ensures unread { result ≡ Err Closed.Unread → Rose (V.faults vault.old) (V.faults vault.new) ⊎ IsAbsent (V.files vault.old) name.now }
-    ensures fault { (other : File) (rule : Rule) → result ≡ Err (Closed.Fault other rule)
-        → (other ≡ file) × (rule ≡ Rule.F1) × IsTooLong (V.files vault.old) name.now max_file }
+    ensures texts { IfOk result (λ texts. GivesDocuments (V.files vault.old) left (map (λ w. w.now) names.now) (λ schema. told schema texts.items)
+        × (length texts.items ≡ length names.now)) }
+    ensures closed { IfErr result (λ closed. AreClosedBy (V.files vault.old) left (map (λ w. w.now) names.now) closed
+        (Rose (V.faults vault.old) (V.faults vault.new))) }
+    ensures later { V.faults vault.old ≤ V.faults vault.new }
+    ensures calls { V.calls vault.new ≤ V.calls vault.old + length names.now }
+{
+    let mut texts = Vec::new(alloc);
+    let mut left = left;
+    'names: for name in names {
+        let text = match read_file(alloc, vault, name, left) {
+            Ok(text) => text,
+            Err(closed) => return Err(closed),
+        };
+        let taken = text.len();
+        left -= taken;
+        if texts.push(text).is_err() {
+            return Err(Closed::NoMemory);
+        }
+    }
+    Ok(texts)
+}
+
+/// The bytes of a file, of which at most 4 MiB and at most `left` are taken.
+fn read_file<'a, V: Vault>(
+    alloc: Global,
+    vault: &mut V,
+    name: &'a str,
+    left: usize,
+) -> Result<FileText, Closed<'a>>
+    ensures same { V.files vault.new ≡ V.files vault.old }
+    ensures bytes { IfOk result (λ text. GivesFile (V.files vault.old) name.now text × (length text ≤ min max_file left)) }
+    ensures closed { IfErr result (λ closed. IsFileClosedBy (V.files vault.old) left name.now closed (Rose (V.faults vault.old) (V.faults vault.new))) }
     ensures later { V.faults vault.old ≤ V.faults vault.new }
     ensures counted { V.calls vault.new ≡ next_count (V.calls vault.old) }
 {
-    match vault.read(alloc, name, MAX_FILE) {
-        Ok(bytes) => Ok(bytes),
+    match vault.read(alloc, name, left.min(MAX_FILE) as u64) {
+        Ok(bytes) => Ok(FileText::new(bytes)),
         Err(VaultFault::Absent | VaultFault::Failed) => Err(Closed::Unread),
-        Err(VaultFault::TooLong) => Err(Closed::Fault(file, Rule::F1)),
+        Err(VaultFault::TooLong) => Err(Closed::TooLong(name)),
         Err(VaultFault::NoMemory) => Err(Closed::NoMemory),
+    }
+}
+
+/// The name of a file by its number: the schema is 0, documents are numbered from 1. The empty text
+/// where there is none; takes no memory.
+pub fn name_at<'a>(schema: &'a str, documents: &[&'a str], file: u32) -> &'a str
+    ensures { result.now ≡ name_of (the_form schema.now (map (λ w. w.now) documents.now)) file }
+{
+    if file == 0 {
+        return schema;
+    }
+    match documents.get(file as usize - 1) {
+        Some(name) => name,
+        None => "",
     }
 }

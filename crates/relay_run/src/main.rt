@@ -3,30 +3,28 @@
 
 mod engine;
 mod event;
+mod field_types;
+mod file_text;
 mod files;
 mod lines;
 mod members;
 mod object_id;
+mod operations;
 mod payload;
+mod plain;
+mod plain_fields;
 mod printed;
 mod project;
 mod put;
 mod reading;
 mod records;
 mod refusal;
+mod rules;
 mod said;
-mod schema;
 mod script;
 mod status;
 #[cfg(test)]
 mod tests;
-mod thin_document;
-mod thin_schema;
-mod thin_sets;
-#[cfg(test)]
-mod thin_tests;
-mod thin_tokens;
-mod thin_types;
 mod top;
 mod trace;
 mod words;

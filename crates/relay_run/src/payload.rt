@@ -8,40 +8,20 @@ ghost use Rattle.relay_model.specs.Records.{leaf, link};
 ghost use Rattle.relay_model.specs.Schema as types;
 ghost use Rattle.gql_plain.specs.Tree.{text};
 ghost use Rattle.relay_run.specs.Said.{said_shown, field_said, allowed, has_text, AreFacts};
-ghost use Rattle.relay_run.specs.Shown.{schema_shown};
 ghost use Rattle.relay_run.specs.Stored.{facts_shown};
 
 use crate::engine::Field;
+use crate::field_types::{query_type, type_of};
 use crate::members::member_at;
 use crate::object_id::{ObjectId, object_id};
 use crate::records::Fact;
 use crate::said::Said;
-use crate::schema::Schema;
 use gql_ast::{Selection, Selections};
 use gql_plain::{NoMemory, Plain, Words};
+use schema_types::Schema;
 use serde_json::{Map, Value};
 use std::alloc::Global;
 use std::collections::BTreeMap;
-
-/// The named type of a field; the empty text where there is no such field. Takes no memory.
-pub fn type_of<'a>(schema: &'a Schema, of: &str, name: &str) -> &'a str
-    ensures { result.now ≡ types.type_of (schema_shown schema.now of.now name.now) }
-{
-    match schema.field(of, name) {
-        Some(field) => field.of.as_str(),
-        None => "",
-    }
-}
-
-/// Whether objects of the type have an id of their own; takes no memory.
-fn has_id(schema: &Schema, of: &str) -> bool
-    ensures { result ≡ types.has_id (schema_shown schema.now) of.now }
-{
-    match schema.field(of, "id") {
-        Some(field) => field.of.as_str() == "ID" && field.required,
-        None => false,
-    }
-}
 
 /// Whether the selection is a field of this name.
 fn is_field(selection: &Selection, name: &str) -> bool
@@ -78,7 +58,7 @@ fn tell_fields(
     said: &mut Said,
 ) -> Result<(), NoMemory>
     ensures { OnOk result (said_shown said.new ≡ model.both (said_shown said.old)
-        (model.fields_said (schema_shown schema.now) selections.now of.now id.now (members_view given.now.entries))) }
+        (model.fields_said schema.now selections.now of.now id.now (members_view given.now.entries))) }
 {
     'selections: for selection in &selections.items {
         tell_selection(alloc, schema, selection, of, id, given, said)?;
@@ -97,7 +77,7 @@ fn tell_selection(
     said: &mut Said,
 ) -> Result<(), NoMemory>
     ensures { OnOk result (said_shown said.new ≡ model.both (said_shown said.old)
-        (model.fields_said (schema_shown schema.now) (sel_of selection.now) of.now id.now (members_view given.now.entries))) }
+        (model.fields_said schema.now (sel_of selection.now) of.now id.now (members_view given.now.entries))) }
 {
     match selection {
         Selection::Field {
@@ -134,7 +114,7 @@ fn tell_field(
     said: &mut Said,
 ) -> Result<(), NoMemory>
     ensures { OnOk result (said_shown said.new ≡ model.both (said_shown said.old)
-        (field_said (schema_shown schema.now) subs.now of.now id.now name.now (members_view given.now.entries))) }
+        (field_said schema.now subs.now of.now id.now name.now (members_view given.now.entries))) }
 {
     let value = member_at(given, name);
     if subs.is_empty() {
@@ -165,8 +145,8 @@ fn tell_value(
     said: &mut Said,
 ) -> Result<(), NoMemory>
     ensures { OnOk result (said_shown said.new ≡ model.both (said_shown said.old)
-        (model.value_said (schema_shown schema.now) of.now
-        (λ child below. model.fields_said (schema_shown schema.now) subs.now of.now child below)
+        (model.value_said schema.now of.now
+        (λ child below. model.fields_said schema.now subs.now of.now child below)
         subs.now parent.now key.now (option_map (λ v. view v.now) given.entry))) }
 {
     match given {
@@ -209,13 +189,13 @@ fn tell_object(
     said: &mut Said,
 ) -> Result<(), NoMemory>
     ensures { OnOk result (said_shown said.new ≡ model.both (said_shown said.old)
-        (model.object_said (schema_shown schema.now) of.now
-        (λ child below. model.fields_said (schema_shown schema.now) subs.now of.now child below)
+        (model.object_said schema.now of.now
+        (λ child below. model.fields_said schema.now subs.now of.now child below)
         subs.now parent.now key.now
-        (model.object_id (types.has_id (schema_shown schema.now) of.now) (keys.client_id parent.now key.now) (members_view given.now.entries))
+        (model.object_id (types.has_id schema.now of.now) (keys.client_id parent.now key.now) (members_view given.now.entries))
         (members_view given.now.entries))) }
 {
-    let own = object_id(alloc, has_id(schema, of), parent, key, given)?;
+    let own = object_id(alloc, schema.has_id(of), parent, key, given)?;
     tell_link(alloc, of, parent, key, &own, said)?;
     tell_fields(alloc, schema, subs, of, own.id.as_str(), given, said)?;
     tell_added(alloc, schema, subs, of, own.id.as_str(), given, said)
@@ -256,9 +236,9 @@ fn tell_added(
     said: &mut Said,
 ) -> Result<(), NoMemory>
     ensures { OnOk result (said_shown said.new ≡ model.both (said_shown said.old)
-        (model.added_said (schema_shown schema.now) of.now id.now (members_view given.now.entries) subs.now)) }
+        (model.added_said schema.now of.now id.now (members_view given.now.entries) subs.now)) }
 {
-    if has_id(schema, of) && !selects(subs, "id") {
+    if schema.has_id(of) && !selects(subs, "id") {
         return said.tell_leaf(alloc, id, "id", member_at(given, "id"));
     }
     Ok(())
@@ -272,7 +252,7 @@ pub fn facts_of(
     selections: &Selections,
     response: &Value,
 ) -> Result<Option<Vec<Fact>>, NoMemory>
-    ensures { IfOk result (λ facts. AreFacts facts (model.says (schema_shown schema.now) selections.now (view response.now))) }
+    ensures { IfOk result (λ facts. AreFacts facts (model.says schema.now selections.now (view response.now))) }
 {
     match response {
         Value::Null => Ok(None),
@@ -294,7 +274,7 @@ fn facts_of_data(
     given: Option<&Value>,
 ) -> Result<Option<Vec<Fact>>, NoMemory>
     ensures { IfOk result (λ facts. AreFacts facts
-        (model.data_said (schema_shown schema.now) selections.now (option_map (λ v. view v.now) given.entry))) }
+        (model.data_said schema.now selections.now (option_map (λ v. view v.now) given.entry))) }
 {
     match given {
         None => Ok(None),
@@ -318,7 +298,7 @@ fn facts_of_root(
 ) -> Result<Option<Vec<Fact>>, NoMemory>
     ensures { IfOk result (λ facts. AreFacts facts (model.distinct_said
         (model.both (model.fact keys.root keys.typename (leaf (text keys.root_type)))
-        (model.fields_said (schema_shown schema.now) selections.now types.query_type keys.root (members_view given.now.entries))))) }
+        (model.fields_said schema.now selections.now (types.query_type schema.now) keys.root (members_view given.now.entries))))) }
 {
     let mut said = Said::new(alloc);
     let name = Words::new(alloc, "__Root")?;
@@ -332,7 +312,7 @@ fn facts_of_root(
         alloc,
         schema,
         selections,
-        "Query",
+        query_type(schema),
         "client:root",
         given,
         &mut said,

@@ -6,18 +6,17 @@ ghost use Rattle.gql_plain.specs.ToJson.{data_of};
 ghost use Rattle.serde_json.specs.View.{view, members_view};
 ghost use Rattle.relay_model.specs.Read as model;
 ghost use Rattle.relay_run.specs.Reading.{IsAnswer, IsReading, is_typed, field_answer, members_put, progress, read_on, under};
-ghost use Rattle.relay_run.specs.Shown.{schema_shown};
 ghost use Rattle.relay_run.specs.Stands.{field_shown};
 ghost use Rattle.relay_run.specs.Stored.{stored_in};
 
 use crate::engine::Field;
+use crate::field_types::{query_type, type_of};
 use crate::members::put_member;
-use crate::payload::type_of;
 use crate::records::{Records, field_at};
-use crate::schema::Schema;
 use crate::trace::Trace;
 use gql_ast::{Selection, Selections};
 use gql_plain::{NoMemory, Plain, value_of};
+use schema_types::Schema;
 use serde_json::{Map, Value};
 use std::alloc::Global;
 
@@ -29,22 +28,26 @@ pub struct Reading {
 }
 
 /// The type of a record: the root's is the root type of a query. Takes no memory.
-fn typed(name: &str) -> &str
-    ensures { result.now ≡ model.typed name.now }
+fn typed<'a>(schema: &'a Schema, name: &'a str) -> &'a str
+    ensures { result.now ≡ model.typed schema.now name.now }
 {
-    if name == "__Root" { "Query" } else { name }
+    if name == "__Root" {
+        query_type(schema)
+    } else {
+        name
+    }
 }
 
 /// Whether the field is the name of the type that is asked for; takes no memory.
-fn is_of(field: Option<&Field>, of: &str) -> bool
-    ensures { result ≡ is_typed of.now (option_map (λ f. field_shown f.now) field.entry) }
+fn is_of(schema: &Schema, field: Option<&Field>, of: &str) -> bool
+    ensures { result ≡ is_typed schema.now of.now (option_map (λ f. field_shown f.now) field.entry) }
 {
     match field {
         None => false,
         Some(stored) => match stored {
             Field::Link(_) => false,
             Field::Leaf(plain) => match plain {
-                Plain::Text(name) => typed(name.as_str()) == of,
+                Plain::Text(name) => typed(schema, name.as_str()) == of,
                 Plain::Null => false,
                 Plain::Bool(_) => false,
                 Plain::Int(_) => false,
@@ -93,11 +96,11 @@ fn read_at(
     trace: &mut Trace,
 ) -> Result<Option<Value>, NoMemory>
     ensures { IfOk result (λ value. IsAnswer value trace.old trace.new
-        (model.stand_at (stored_in records.now) of.now
-        (λ j. model.fields_at (schema_shown schema.now) (stored_in records.now) subs.now of.now j) id.now)) }
+        (model.stand_at schema.now (stored_in records.now) of.now
+        (λ j. model.fields_at schema.now (stored_in records.now) subs.now of.now j) id.now)) }
 {
     trace.stand(alloc, id)?;
-    if !is_of(field_at(records, id, "__typename"), of) {
+    if !is_of(schema, field_at(records, id, "__typename"), of) {
         return Ok(missing(trace));
     }
     let mut members = Map::new(alloc);
@@ -118,7 +121,7 @@ fn read_fields(
     trace: &mut Trace,
 ) -> Result<(), NoMemory>
     ensures { OnOk result (progress members.new trace.new ≡ read_on (progress members.old trace.old)
-        (model.fields_at (schema_shown schema.now) (stored_in records.now) selections.now of.now id.now)) }
+        (model.fields_at schema.now (stored_in records.now) selections.now of.now id.now)) }
 {
     'selections: for selection in &selections.items {
         read_selection(alloc, schema, records, selection, of, id, members, trace)?;
@@ -138,7 +141,7 @@ fn read_selection(
     trace: &mut Trace,
 ) -> Result<(), NoMemory>
     ensures { OnOk result (progress members.new trace.new ≡ read_on (progress members.old trace.old)
-        (model.fields_at (schema_shown schema.now) (stored_in records.now) (sel_of selection.now) of.now id.now)) }
+        (model.fields_at schema.now (stored_in records.now) (sel_of selection.now) of.now id.now)) }
 {
     match selection {
         Selection::Field {
@@ -175,7 +178,7 @@ fn read_field(
     trace: &mut Trace,
 ) -> Result<(), NoMemory>
     ensures { OnOk result (progress members.new trace.new ≡ read_on (progress members.old trace.old)
-        (under name.now (field_answer (schema_shown schema.now) (stored_in records.now) subs.now of.now id.now name.now))) }
+        (under name.now (field_answer schema.now (stored_in records.now) subs.now of.now id.now name.now))) }
 {
     let value = read_value(alloc, schema, records, subs, of, id, name, trace)?;
     put_found(alloc, members, name, value)
@@ -194,7 +197,7 @@ fn read_value(
     trace: &mut Trace,
 ) -> Result<Option<Value>, NoMemory>
     ensures { IfOk result (λ value. IsAnswer value trace.old trace.new
-        (field_answer (schema_shown schema.now) (stored_in records.now) subs.now of.now id.now name.now)) }
+        (field_answer schema.now (stored_in records.now) subs.now of.now id.now name.now)) }
 {
     let field = field_at(records, id, name);
     if subs.is_empty() {
@@ -224,8 +227,8 @@ fn read_object(
 ) -> Result<Option<Value>, NoMemory>
     ensures { IfOk result (λ value. IsAnswer value trace.old trace.new
         (model.object_at
-        (model.stand_at (stored_in records.now) of.now
-        (λ j. model.fields_at (schema_shown schema.now) (stored_in records.now) subs.now of.now j))
+        (model.stand_at schema.now (stored_in records.now) of.now
+        (λ j. model.fields_at schema.now (stored_in records.now) subs.now of.now j))
         (option_map (λ f. field_shown f.now) field.entry))) }
 {
     match field {
@@ -267,7 +270,7 @@ pub fn read_root(
     records: &Records,
     selections: &Selections,
 ) -> Result<Reading, NoMemory>
-    ensures { IfOk result (λ r. IsReading r (model.read_root (schema_shown schema.now) (stored_in records.now) selections.now)) }
+    ensures { IfOk result (λ r. IsReading r (model.read_root schema.now (stored_in records.now) selections.now)) }
 {
     let mut trace = Trace::new(alloc);
     let value = read_at(
@@ -275,7 +278,7 @@ pub fn read_root(
         schema,
         records,
         selections,
-        "Query",
+        query_type(schema),
         "client:root",
         &mut trace,
     )?;

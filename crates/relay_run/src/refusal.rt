@@ -3,46 +3,59 @@ ghost use Rattle.std.specs.Prelude.{◌≡◌, ◌⊎◌, ◌≤◌, ◌+◌, �
 ghost use Rattle.relay_io.specs.Causes.{Rose};
 ghost use Rattle.relay_io.specs.Streams.{appended};
 ghost use Rattle.relay_model.specs.Printed.{project_fault};
-ghost use Rattle.relay_run.specs.Answers.{EndsLine, rule_text};
+ghost use Rattle.relay_run.specs.Answers.{EndsLine};
 
-use crate::files::Rule;
 use crate::put::put_all;
 use crate::status::Status;
 use gql_plain::{NoMemory, Pairs, Plain, Words, text_of};
 use relay_io::Sink;
 use std::alloc::Global;
 
-/// Puts the line of a project that is refused: the file at fault, and the rule.
-pub fn refuse<K: Sink>(alloc: Global, file: &str, rule: Rule, out: &mut K) -> Status
+/// Puts the line of a project that is refused: the file at fault with the line and the column, and
+/// the rule.
+pub fn refuse<K: Sink>(
+    alloc: Global,
+    file: &str,
+    line: u32,
+    column: u32,
+    rule: &str,
+    out: &mut K,
+) -> Status
     ensures added { (added : List ℕ) × (K.held out.new ≡ appended (K.held out.old) added)
         × (K.calls out.new ≤ K.calls out.old + length added + 1)
         × ((result ≡ Status.WriteFault) ⊎ EndsLine added)
-        × (more : List ℕ) × (added ++ more ≡ project_fault file.now (rule_text rule)) × (result ≡ Status.ProjectRefused → more ≡ []) }
+        × (more : List ℕ) × (added ++ more ≡ project_fault file.now line column rule.now) × (result ≡ Status.ProjectRefused → more ≡ []) }
     ensures form { (result ≡ Status.ProjectRefused) ⊎ (((result ≡ Status.WriteFault) × Rose (K.faults out.old) (K.faults out.new)) ⊎ (result ≡ Status.NoMemory)) }
 {
-    let Ok(line) = fault_line(alloc, file, rule) else {
+    let Ok(text) = fault_line(alloc, file, line, column, rule) else {
         return Status::NoMemory;
     };
-    let Ok(()) = put_all(out, line.as_str().as_bytes()) else {
+    let Ok(()) = put_all(out, text.as_str().as_bytes()) else {
         return Status::WriteFault;
     };
     Status::ProjectRefused
 }
 
 /// The line: compact JSON with its keys in byte order, ended by LF.
-fn fault_line(alloc: Global, file: &str, rule: Rule) -> Result<Words, NoMemory>
-    ensures { IfOk result (λ line. line ≡ project_fault file.now (rule_text rule)) }
+fn fault_line(
+    alloc: Global,
+    file: &str,
+    line: u32,
+    column: u32,
+    rule: &str,
+) -> Result<Words, NoMemory>
+    ensures { IfOk result (λ text. text ≡ project_fault file.now line column rule.now) }
 {
     let mut members = Pairs::new(alloc);
-    members.push(Words::new(alloc, "column")?, Plain::Int(1))?;
+    members.push(Words::new(alloc, "column")?, Plain::Int(column as i64))?;
     members.push(
         Words::new(alloc, "file")?,
         Plain::Text(Words::new(alloc, file)?),
     )?;
-    members.push(Words::new(alloc, "line")?, Plain::Int(1))?;
+    members.push(Words::new(alloc, "line")?, Plain::Int(line as i64))?;
     members.push(
         Words::new(alloc, "rule")?,
-        Plain::Text(Words::new(alloc, rule.text())?),
+        Plain::Text(Words::new(alloc, rule)?),
     )?;
     let mut text = text_of(alloc, &Plain::Tree(members))?.into_string();
     text.push('\n')?;

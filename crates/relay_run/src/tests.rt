@@ -15,12 +15,33 @@ fn answer_of(alloc: Global, words: &[&str]) -> Result<Status, Fail> {
     Ok(relay_top(alloc, words, &mut vault, &mut script, &mut out, &mut steps))
 }
 
+// The words of a project of so many documents.
+fn words_of(alloc: Global, documents: usize) -> Result<Vec<&'static str>, Fail> {
+    let mut words = Vec::new(alloc);
+    words.push("run")?;
+    words.push("10")?;
+    words.push("s")?;
+    for _ in 0..documents {
+        words.push("d")?;
+    }
+    Ok(words)
+}
+
 #[test]
 fn words_are_a_form_or_usage(rt: HostRuntime) -> Result<(), Fail> {
     let alloc = rt.alloc();
     assert_eq!(rt; answer_of(alloc, &[])?, Status::Usage);
     assert_eq!(rt; answer_of(alloc, &["run", "10", "s"])?, Status::Usage);
     assert_eq!(rt; answer_of(alloc, &["ran", "10", "s", "d"])?, Status::Usage);
+    assert_eq!(rt;
+        answer_of(alloc, &["run", "10", "s", "d", "e"])?,
+        Status::ReadFault
+    );
+    assert_eq!(rt;
+        answer_of(alloc, &words_of(alloc, 1_000)?)?,
+        Status::ReadFault
+    );
+    assert_eq!(rt; answer_of(alloc, &words_of(alloc, 1_001)?)?, Status::Usage);
     for buffer in [
         "",
         "0",
@@ -47,7 +68,7 @@ fn words_are_a_form_or_usage(rt: HostRuntime) -> Result<(), Fail> {
     Ok(())
 }
 
-const SCHEMA: &str = "type Query{me:User} type User{id:ID! name:String}";
+const SCHEMA: &str = "type Query{me:User} type User{id:ID! name:String age:Int friend:User}";
 
 const QUERY: &str = "query Q{me{name}}";
 
@@ -60,27 +81,31 @@ const ANSWERS: &str = "{\"n\":1,\"ok\":\"retain\"}\n{\"n\":2,\"ok\":\"payload\"}
 
 const FIRST_ANSWER: &str = "{\"n\":1,\"ok\":\"retain\"}\n";
 
-// A vault of the schema and a document.
-fn vault_of(alloc: Global, document: Vec<u8>) -> Result<MemVault, Fail> {
+// A vault of a schema and two documents.
+fn vault_of(alloc: Global, schema: &str, first: &[u8], second: &str) -> Result<MemVault, Fail> {
     let mut files = Vec::new(alloc);
     files.push((
-        Words::new(alloc, "schema.graphql")?,
-        SCHEMA.as_bytes().to_vec(alloc)?,
+        Words::new(alloc, "s.graphql")?,
+        schema.as_bytes().to_vec(alloc)?,
     ))?;
-    files.push((Words::new(alloc, "q.graphql")?, document))?;
+    files.push((Words::new(alloc, "d.graphql")?, first.to_vec(alloc)?))?;
+    files.push((
+        Words::new(alloc, "e.graphql")?,
+        second.as_bytes().to_vec(alloc)?,
+    ))?;
     Ok(MemVault::new(files, Vec::new(alloc)))
 }
 
-// What a script over a document is answered, from a source that gives so many bytes a call, to a
-// sink of which these calls fail; and what the sink then holds.
+// What a script is answered over the files of a vault, from a source that gives so many bytes a
+// call, to a sink of which these calls fail; and what the sink then holds.
 fn run_of(
     alloc: Global,
-    document: Vec<u8>,
+    words: &[&str],
+    mut vault: MemVault,
     script: &str,
     piece: usize,
     failing: Vec<u64>,
 ) -> Result<(Status, Vec<u8>), Fail> {
-    let mut vault = vault_of(alloc, document)?;
     let mut source = MemSource::new(
         script.as_bytes().to_vec(alloc)?,
         piece.max(1),
@@ -88,22 +113,20 @@ fn run_of(
     );
     let mut out = MemSink::new(alloc, 4096, 65_536, failing)?;
     let mut steps = Counts::new();
-    let words = ["run", "10", "schema.graphql", "q.graphql"];
-    let status = relay_top(alloc, &words, &mut vault, &mut source, &mut out, &mut steps);
+    let status = relay_top(alloc, words, &mut vault, &mut source, &mut out, &mut steps);
     Ok((status, out.held().to_vec(alloc)?))
 }
+
+const ONE: [&str; 4] = ["run", "10", "s.graphql", "d.graphql"];
+
+const TWO: [&str; 5] = ["run", "10", "s.graphql", "d.graphql", "e.graphql"];
 
 #[test]
 fn a_query_is_retained_paid_and_read_in_pieces_of_any_size(rt: HostRuntime) -> Result<(), Fail> {
     let alloc = rt.alloc();
     for piece in [1usize, 2, 60, 65_536] {
-        let (status, text) = run_of(
-            alloc,
-            QUERY.as_bytes().to_vec(alloc)?,
-            SCRIPT,
-            piece,
-            Vec::new(alloc),
-        )?;
+        let vault = vault_of(alloc, SCHEMA, QUERY.as_bytes(), "")?;
+        let (status, text) = run_of(alloc, &ONE, vault, SCRIPT, piece, Vec::new(alloc))?;
         assert_eq!(rt; status, Status::Done, "at {piece}");
         assert_eq!(rt; text.as_slice(), ANSWERS.as_bytes(), "at {piece}");
     }
@@ -111,12 +134,31 @@ fn a_query_is_retained_paid_and_read_in_pieces_of_any_size(rt: HostRuntime) -> R
 }
 
 #[test]
-fn projects_and_lines_are_refused_by_name(rt: HostRuntime) -> Result<(), Fail> {
+fn handles_have_operations_of_their_own(rt: HostRuntime) -> Result<(), Fail> {
+    let alloc = rt.alloc();
+    let script = "{\"do\":\"retain\",\"handle\":\"h\",\"op\":\"R\"}\n\
+        {\"do\":\"retain\",\"handle\":\"i\",\"op\":\"Q\"}\n\
+        {\"do\":\"retain\",\"handle\":\"h\",\"op\":\"Q\"}\n\
+        {\"do\":\"payload\",\"handle\":\"h\",\"response\":{\"data\":{\"me\":{\"id\":\"4\",\"age\":7}}}}\n\
+        {\"do\":\"read\",\"handle\":\"h\"}\n\
+        {\"do\":\"read\",\"handle\":\"i\"}\n";
+    let lines = "{\"n\":1,\"ok\":\"retain\"}\n{\"n\":2,\"ok\":\"retain\"}\n\
+        {\"code\":90,\"error\":\"NotYet\",\"n\":3}\n{\"n\":4,\"ok\":\"payload\"}\n\
+        {\"data\":{\"me\":{\"age\":7}},\"missing\":false,\"n\":5,\"ok\":\"read\",\"seen\":[\"4\",\"client:root\"]}\n\
+        {\"data\":{\"me\":{}},\"missing\":true,\"n\":6,\"ok\":\"read\",\"seen\":[\"4\",\"client:root\"]}\n";
+    let vault = vault_of(alloc, SCHEMA, QUERY.as_bytes(), "query R{me{age}}")?;
+    let (status, text) = run_of(alloc, &TWO, vault, script, 60, Vec::new(alloc))?;
+    assert_eq!(rt; status, Status::DoneWithRefusals);
+    assert_eq!(rt; text.as_slice(), lines.as_bytes());
+    Ok(())
+}
+
+#[test]
+fn lines_are_refused_by_name(rt: HostRuntime) -> Result<(), Fail> {
     let alloc = rt.alloc();
     let rows = [
-        (QUERY, "", Status::Done, ""),
+        ("", Status::Done, ""),
         (
-            QUERY,
             "x\n{\"do\":\"read\",\"handle\":\"z\"}\n{\"do\":\"collect\"}",
             Status::DoneWithRefusals,
             "{\"code\":1,\"error\":\"NotJson\",\"n\":1}\n\
@@ -124,29 +166,69 @@ fn projects_and_lines_are_refused_by_name(rt: HostRuntime) -> Result<(), Fail> {
              {\"code\":90,\"error\":\"NotYet\",\"n\":3}\n",
         ),
         (
-            QUERY,
             "{\"do\":\"retain\",\"handle\":\"h\",\"op\":\"X\"}\n",
             Status::DoneWithRefusals,
             "{\"code\":5,\"error\":\"UnknownOperation\",\"n\":1,\"name\":\"X\"}\n",
         ),
-        (
-            "query Q{me{...P}}",
-            SCRIPT,
-            Status::ProjectRefused,
-            "{\"column\":1,\"file\":\"q.graphql\",\"line\":1,\"rule\":\"N1\"}\n",
-        ),
     ];
-    for (document, script, status, text) in rows {
-        let (answer, held) = run_of(
-            alloc,
-            document.as_bytes().to_vec(alloc)?,
-            script,
-            60,
-            Vec::new(alloc),
-        )?;
+    for (script, status, text) in rows {
+        let vault = vault_of(alloc, SCHEMA, QUERY.as_bytes(), "")?;
+        let (answer, held) = run_of(alloc, &ONE, vault, script, 60, Vec::new(alloc))?;
         assert_eq!(rt; answer, status, "at {script}");
         assert_eq!(rt; held.as_slice(), text.as_bytes(), "at {script}");
     }
+    Ok(())
+}
+
+// The line of a project with these documents.
+fn fault_of(alloc: Global, schema: &str, first: &str, second: &str) -> Result<Vec<u8>, Fail> {
+    let vault = vault_of(alloc, schema, first.as_bytes(), second)?;
+    let (status, text) = run_of(alloc, &TWO, vault, SCRIPT, 60, Vec::new(alloc))?;
+    if status != Status::ProjectRefused {
+        return Ok(Vec::new(alloc));
+    }
+    Ok(text)
+}
+
+#[test]
+fn projects_are_refused_at_their_first_fault(rt: HostRuntime) -> Result<(), Fail> {
+    let alloc = rt.alloc();
+    let rows = [
+        (
+            "query Q{me{name}",
+            "",
+            "{\"column\":17,\"file\":\"d.graphql\",\"line\":1,\"rule\":\"L6\"}\n",
+        ),
+        (
+            "query Q{team(size:1.5){name}}",
+            "{",
+            "{\"column\":19,\"file\":\"d.graphql\",\"line\":1,\"rule\":\"L3\"}\n",
+        ),
+        (
+            "query Q{me{...P}}",
+            "{\n{",
+            "{\"column\":1,\"file\":\"e.graphql\",\"line\":2,\"rule\":\"L6\"}\n",
+        ),
+        (
+            "query Q{me{...P}}",
+            "query R{me}",
+            "{\"column\":1,\"file\":\"d.graphql\",\"line\":1,\"rule\":\"N1\"}\n",
+        ),
+        (
+            QUERY,
+            "query Q{me{id}}",
+            "{\"column\":1,\"file\":\"e.graphql\",\"line\":1,\"rule\":\"N1\"}\n",
+        ),
+    ];
+    for (first, second, line) in rows {
+        let held = fault_of(alloc, SCHEMA, first, second)?;
+        assert_eq!(rt; held.as_slice(), line.as_bytes(), "at {first}");
+    }
+    let held = fault_of(alloc, "type Query{me:Uzer}", "query Q{me{...P}}", QUERY)?;
+    assert_eq!(rt;
+        held.as_slice(),
+        b"{\"column\":15,\"file\":\"s.graphql\",\"line\":1,\"rule\":\"S2\"}\n".as_slice()
+    );
     Ok(())
 }
 
@@ -158,17 +240,12 @@ fn spaces(alloc: Global, count: usize) -> Result<Vec<u8>, Fail> {
 #[test]
 fn a_file_of_more_than_4_mib_is_refused(rt: HostRuntime) -> Result<(), Fail> {
     let alloc = rt.alloc();
-    let (status, text) = run_of(
-        alloc,
-        spaces(alloc, 4_194_305)?,
-        SCRIPT,
-        60,
-        Vec::new(alloc),
-    )?;
+    let vault = vault_of(alloc, SCHEMA, &spaces(alloc, 4_194_305)?, "")?;
+    let (status, text) = run_of(alloc, &ONE, vault, SCRIPT, 60, Vec::new(alloc))?;
     assert_eq!(rt; status, Status::ProjectRefused);
     assert_eq!(rt;
         text.as_slice(),
-        b"{\"column\":1,\"file\":\"q.graphql\",\"line\":1,\"rule\":\"F1\"}\n".as_slice()
+        b"{\"column\":1,\"file\":\"d.graphql\",\"line\":1,\"rule\":\"F1\"}\n".as_slice()
     );
     Ok(())
 }
@@ -178,22 +255,90 @@ fn what_fails_outside_has_its_status(rt: HostRuntime) -> Result<(), Fail> {
     let alloc = rt.alloc();
     let mut failing = Vec::new(alloc);
     failing.push(2)?;
-    let (status, text) = run_of(
-        alloc,
-        QUERY.as_bytes().to_vec(alloc)?,
-        SCRIPT,
-        65_536,
-        failing,
-    )?;
+    let vault = vault_of(alloc, SCHEMA, QUERY.as_bytes(), "")?;
+    let (status, text) = run_of(alloc, &ONE, vault, SCRIPT, 65_536, failing)?;
     assert_eq!(rt; status, Status::WriteFault);
     assert_eq!(rt; text.as_slice(), FIRST_ANSWER.as_bytes());
-    let words = ["run", "10", "schema.graphql", "absent.graphql"];
-    let mut vault = vault_of(alloc, QUERY.as_bytes().to_vec(alloc)?)?;
-    let mut source = MemSource::new(SCRIPT.as_bytes().to_vec(alloc)?, 60, Vec::new(alloc));
-    let mut out = MemSink::new(alloc, 4096, 65_536, Vec::new(alloc))?;
-    let mut steps = Counts::new();
-    let status = relay_top(alloc, &words, &mut vault, &mut source, &mut out, &mut steps);
+    let vault = vault_of(alloc, SCHEMA, QUERY.as_bytes(), "")?;
+    let words = ["run", "10", "s.graphql", "d.graphql", "absent.graphql"];
+    let (status, text) = run_of(alloc, &words, vault, SCRIPT, 60, Vec::new(alloc))?;
     assert_eq!(rt; status, Status::ReadFault);
-    assert_eq!(rt; out.held(), b"".as_slice());
+    assert_eq!(rt; text.as_slice(), b"".as_slice());
+    Ok(())
+}
+
+// Documents at fault on their first line: the rule, the column, and the text.
+const FAULTY_TEXTS: &str = "L6 1 \n\
+    L6 4 # c\n\
+    L6 18 query Q\u{FEFF}{me{name}\n\
+    L6 9 query Q(\n\
+    L1 11 query Q{me\u{1}{name}}\n\
+    L1 10 query Q{#\u{2}\n\
+    L1 11 query Q{me?{name}}\n\
+    L2 13 query Q{a(b:9223372036854775808)}\n\
+    L2 13 query Q{a(b:-)}\n\
+    L2 13 query Q{a(b:01)}\n\
+    L3 13 query Q{a(b:1.5)}\n\
+    L3 13 query Q{a(b:1e3)}\n\
+    L4 13 query Q{a(b:\"x)}\n\
+    L4 13 query Q{a(b:\"\"\"x)}\n\
+    L4 13 query Q{a(b:\"\\q\")}\n\
+    L5 13 query Q{a(b:\"\\uD800\")}";
+
+// The line that refuses the first document at a column of its first line.
+fn refusal_of(alloc: Global, rule: &str, column: &str) -> Result<String, Fail> {
+    Ok(format!(in alloc;
+        "{{\"column\":{column},\"file\":\"d.graphql\",\"line\":1,\"rule\":\"{rule}\"}}\n"
+    )?)
+}
+
+#[test]
+fn texts_are_refused_at_their_first_fault(rt: HostRuntime) -> Result<(), Fail> {
+    let alloc = rt.alloc();
+    for row in FAULTY_TEXTS.lines() {
+        if let Some((rule, row)) = row.split_once(' ') {
+            if let Some((column, text)) = row.split_once(' ') {
+                let held = fault_of(alloc, SCHEMA, text, QUERY)?;
+                let wanted = refusal_of(alloc, rule, column)?;
+                assert_eq!(rt; held.as_slice(), wanted.as_bytes(), "at {text}");
+            }
+        }
+    }
+    Ok(())
+}
+
+// A text, and then another one 61 times.
+fn sixty_one_times(alloc: Global, front: &str, text: &str) -> Result<String, Fail> {
+    let mut all = String::new(alloc);
+    all.push_str(front)?;
+    for _ in 0..61 {
+        all.push_str(text)?;
+    }
+    Ok(all)
+}
+
+#[test]
+fn the_sixty_first_of_each_kind_is_refused(rt: HostRuntime) -> Result<(), Fail> {
+    let alloc = rt.alloc();
+    for (front, text, column) in [
+        ("query Q", "{a", "128"),
+        ("query Q{a(b:", "[", "73"),
+        ("query Q($x:", "[", "72"),
+    ] {
+        let document = sixty_one_times(alloc, front, text)?;
+        let held = fault_of(alloc, SCHEMA, document.as_str(), QUERY)?;
+        let wanted = refusal_of(alloc, "L8", column)?;
+        assert_eq!(rt; held.as_slice(), wanted.as_bytes(), "at {text}");
+    }
+    Ok(())
+}
+
+#[test]
+fn bytes_that_are_no_text_are_refused(rt: HostRuntime) -> Result<(), Fail> {
+    let alloc = rt.alloc();
+    let vault = vault_of(alloc, SCHEMA, b"query Q{me{name}}\xFF", "")?;
+    let (status, text) = run_of(alloc, &ONE, vault, SCRIPT, 60, Vec::new(alloc))?;
+    assert_eq!(rt; status, Status::ProjectRefused);
+    assert_eq!(rt; text.as_slice(), refusal_of(alloc, "L7", "1")?.as_bytes());
     Ok(())
 }

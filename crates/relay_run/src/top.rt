@@ -9,12 +9,13 @@ ghost use Rattle.relay_run.specs.Answers.{Course, IsCourse, IsTheProjectOf, Took
 ghost use Rattle.relay_run.specs.Files.{Files, given, IsProject, IsProjectOf, IsFault, IsFaultOf, IsFirstAbsent};
 ghost use Rattle.relay_run.specs.Output.{max_script, written, has_refusal, IsDone, AddsPartOf};
 ghost use Rattle.relay_run.specs.Shown.{project_shown};
-ghost use Rattle.relay_run.specs.Words.{Form, form_of};
+ghost use Rattle.relay_run.specs.Words.{Form, form_of, max_documents};
 
-use crate::files::{Closed, File, open_project};
+use crate::files::{Closed, name_at, open_project};
 use crate::lines::answer_lines;
 use crate::project::Project;
 use crate::refusal::refuse;
+use crate::rules::rule_text;
 use crate::script::{ScriptFault, read_script};
 use crate::status::Status;
 use crate::words::form;
@@ -65,18 +66,18 @@ pub fn relay_top<V: Vault, S: Source, K: Sink>(
         × AddsPartOf (K.held out.old) (K.held out.new) (due course taken ended) }
     ensures ends { (result ≡ Status.WriteFault) ⊎ ((added : List ℕ) × (K.held out.new ≡ appended (K.held out.old) added) × EndsLine added) }
     // How often the outside is called.
-    ensures vault_calls { V.calls vault.new ≤ V.calls vault.old + 2 }
+    ensures vault_calls { (form : Form) → form_of (map (λ w. w.now) words.now) ≡ Some form → V.calls vault.new ≤ V.calls vault.old + (length form.documents + 1) }
     ensures script_calls { (taken : List ℕ) × (S.left script.old ≡ prepended taken (S.left script.new)) × (S.calls script.new ≤ S.calls script.old + length taken + 1) }
     ensures unread { result ≡ Status.ProjectRefused → S.calls script.new ≡ S.calls script.old }
     ensures sink_calls { (added : List ℕ) × (K.held out.new ≡ appended (K.held out.old) added) × (K.calls out.new ≤ K.calls out.old + length added + 1) }
     // Each other answer has its cause.
     ensures refused { (form : Form) → form_of (map (λ w. w.now) words.now) ≡ Some form → result ≡ Status.ProjectRefused
-        → (file : List ℕ) × (rule : List ℕ) × IsFaultOf (V.files vault.old) form file rule
-        × (K.held out.new ≡ appended (K.held out.old) (project_fault file rule)) }
-    ensures faulty { (files : Files) (form : Form) (file rule : List ℕ)
+        → (file : List ℕ) × (line : ℕ) × (column : ℕ) × (rule : List ℕ) × IsFaultOf (V.files vault.old) form file line column rule
+        × (K.held out.new ≡ appended (K.held out.old) (project_fault file line column rule)) }
+    ensures faulty { (files : Files) (form : Form) (file : List ℕ) (line column : ℕ) (rule : List ℕ)
         → form_of (map (λ w. w.now) words.now) ≡ Some form
-        → V.files vault.old ≡ Some files → IsFault form (given form files) file rule
-        → ((result ≡ Status.ProjectRefused) × (K.held out.new ≡ appended (K.held out.old) (project_fault file rule)))
+        → V.files vault.old ≡ Some files → IsFault form (given form files) file line column rule
+        → ((result ≡ Status.ProjectRefused) × (K.held out.new ≡ appended (K.held out.old) (project_fault file line column rule)))
         ⊎ (((result ≡ Status.ReadFault) × Rose (V.faults vault.old) (V.faults vault.new)) ⊎ ((result ≡ Status.WriteFault) ⊎ (result ≡ Status.NoMemory))) }
     ensures read_fault { (form : Form) → form_of (map (λ w. w.now) words.now) ≡ Some form → result ≡ Status.ReadFault
         → Rose (V.faults vault.old) (V.faults vault.new) ⊎ Rose (S.faults script.old) (S.faults script.new)
@@ -87,32 +88,40 @@ pub fn relay_top<V: Vault, S: Source, K: Sink>(
 {
     let _ = steps;
     match form(words) {
-        Some((schema, document)) => run(alloc, schema, document, vault, script, out),
+        Some((schema, documents)) => run(alloc, schema, documents, vault, script, out),
         None => Status::Usage,
     }
 }
 
-/// Runs the script against the project of these two files.
+/// Runs the script against the project of these files.
 fn run<V: Vault, S: Source, K: Sink>(
     alloc: Global,
     schema: &str,
-    document: &str,
+    documents: &[&str],
     vault: &mut V,
     script: &mut S,
     out: &mut K,
 ) -> Status
-    ensures ran { (course : Course) × IsCourse (V.files vault.old) (the_form schema.now document.now) course
-        × Answering course result (Rose (V.faults vault.old) (V.faults vault.new) ⊎ IsFirstAbsent (V.files vault.old) (the_form schema.now document.now))
+    requires { length documents.now ≤ max_documents }
+    ensures ran { (course : Course) × IsCourse (V.files vault.old) (the_form schema.now (map (λ w. w.now) documents.now)) course
+        × Answering course result (Rose (V.faults vault.old) (V.faults vault.new) ⊎ IsFirstAbsent (V.files vault.old) (the_form schema.now (map (λ w. w.now) documents.now)))
         (Rose (S.faults script.old) (S.faults script.new)) (Rose (K.faults out.old) (K.faults out.new))
         × Ran course result (S.left script.old) (S.left script.new) (S.calls script.old) (S.calls script.new)
         (K.held out.old) (K.held out.new) (K.calls out.old) (K.calls out.new) }
-    ensures vault_calls { V.calls vault.new ≤ V.calls vault.old + 2 }
+    ensures vault_calls { V.calls vault.new ≤ V.calls vault.old + (length documents.now + 1) }
     ensures unread { result ≡ Status.ProjectRefused → S.calls script.new ≡ S.calls script.old }
 {
-    match open_project(alloc, vault, schema, document) {
+    match open_project(alloc, vault, schema, documents) {
         Ok(project) => run_project(alloc, project, script, out),
-        Err(Closed::Fault(File::Schema, rule)) => refuse(alloc, schema, rule, out),
-        Err(Closed::Fault(File::Document, rule)) => refuse(alloc, document, rule, out),
+        Err(Closed::TooLong(name)) => refuse(alloc, name, 1, 1, "F1", out),
+        Err(Closed::Fault(fault)) => {
+            let name = name_at(schema, documents, fault.file);
+            let rule = rule_text(fault.rule);
+            refuse(alloc, name, fault.line, fault.column, rule, out)
+        }
+        Err(Closed::NotTaken(file)) => {
+            refuse(alloc, name_at(schema, documents, file), 1, 1, "N1", out)
+        }
         Err(Closed::Unread) => Status::ReadFault,
         Err(Closed::NoMemory) => Status::NoMemory,
     }

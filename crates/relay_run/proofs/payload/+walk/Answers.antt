@@ -7,11 +7,10 @@ use Rattle.relay_model.specs.Schema.{Schema}
 use Rattle.relay_run.proofs.Saying.{object_said-told}
 use Rattle.relay_run.proofs.payload.+walk.Goals as goal
 use Rattle.relay_run.specs.Said.{said_shown}
-use Rattle.relay_run.specs.Shown.{schema_shown}
 
 pub tell_object-returns : goal.tell_object-returns
 tell_object-returns t c =
-    let schema : Schema = schema_shown c.args.schema.now in
+    let schema : Schema = c.args.schema.now in
     let given : J.Members = members_view c.args.given.now.entries in
     let own = c.in_ok-own.own in
     let of = c.args.of.now in

@@ -6,7 +6,6 @@ use Rattle.serde_json.specs.View.{members_view}
 use Rattle.relay_model.specs.Payload.{both, fields_said}
 use Rattle.relay_run.proofs.payload.+walk.Given as goal
 use Rattle.relay_run.specs.Said.{said_shown}
-use Rattle.relay_run.specs.Shown.{schema_shown}
 
 abbrev pub decreases-tell_fields : goal.decreases-tell_fields
 decreases-tell_fields l = 5 * depth l.selections.now + 1
@@ -25,5 +24,5 @@ decreases-tell_object l = 5 * depth l.subs.now + 2
 
 abbrev pub invariant-tell_fields-selections : goal.invariant-tell_fields-selections
 invariant-tell_fields-selections l =
-    both (said_shown l.said) (fields_said (schema_shown l.schema) (sels_of (drop l.selection-index l.selection-items)) l.of l.id (members_view l.given.entries))
-    ≡ both (said_shown l.fn.said) (fields_said (schema_shown l.schema) (sels_of l.selection-items) l.of l.id (members_view l.given.entries))
+    both (said_shown l.said) (fields_said l.schema (sels_of (drop l.selection-index l.selection-items)) l.of l.id (members_view l.given.entries))
+    ≡ both (said_shown l.fn.said) (fields_said l.schema (sels_of l.selection-items) l.of l.id (members_view l.given.entries))

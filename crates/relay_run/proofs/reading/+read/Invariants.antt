@@ -5,7 +5,6 @@ use Rattle.gql_ast.specs.SelectionView.{sel_of, sels_of}
 use Rattle.relay_model.specs.Read.{fields_at}
 use Rattle.relay_run.proofs.reading.+read.Given as goal
 use Rattle.relay_run.specs.Reading.{progress, read_on}
-use Rattle.relay_run.specs.Shown.{schema_shown}
 use Rattle.relay_run.specs.Stored.{stored_in}
 
 abbrev pub decreases-read_fields : goal.decreases-read_fields
@@ -28,5 +27,5 @@ decreases-read_at l = 6 * depth l.subs.now + 2
 
 abbrev pub invariant-read_fields-selections : goal.invariant-read_fields-selections
 invariant-read_fields-selections l =
-    read_on (progress l.members l.trace) (fields_at (schema_shown l.schema) (stored_in l.records) (sels_of (drop l.selection-index l.selection-items)) l.of l.id)
-    ≡ read_on (progress l.fn.members l.fn.trace) (fields_at (schema_shown l.schema) (stored_in l.records) (sels_of l.selection-items) l.of l.id)
+    read_on (progress l.members l.trace) (fields_at l.schema (stored_in l.records) (sels_of (drop l.selection-index l.selection-items)) l.of l.id)
+    ≡ read_on (progress l.fn.members l.fn.trace) (fields_at l.schema (stored_in l.records) (sels_of l.selection-items) l.of l.id)

@@ -3,7 +3,7 @@ use Rattle.std.proofs.lemmas.List.{append-nil, take-append-drop}
 use Rattle.relay_io.specs.Streams.{appended}
 use Rattle.relay_model.specs.Keys.{Text}
 use Rattle.relay_model.specs.Printed.{project_fault}
-use Rattle.relay_run.specs.Answers.{EndsLine, rule_text}
+use Rattle.relay_run.specs.Answers.{EndsLine}
 use Rattle.relay_run.specs.declared.status.Status.TheVariants.{ProjectRefused, WriteFault}
 use Rattle.relay_run.proofs.Written.{project_fault_ends}
 use Rattle.relay_run.proofs.refusal.refuse.Goals as goal
@@ -22,10 +22,10 @@ whole h0 h1 bytes text c0 c1 same ends held calls =
 
 pub returns-in_default-put_all-clause-added : goal.returns-in_default-put_all-clause-added
 returns-in_default-put_all-clause-added g c =
-    cut_off (g.K.Sink.held c.args.out.now) (g.K.Sink.held c.put_all.new.out) c.as_bytes.result.now (project_fault c.args.file.now (rule_text c.args.rule)) (g.K.Sink.calls c.args.out.now) (g.K.Sink.calls c.put_all.new.out)
+    cut_off (g.K.Sink.held c.args.out.now) (g.K.Sink.held c.put_all.new.out) c.as_bytes.result.now (project_fault c.args.file.now c.args.line c.args.column c.args.rule.now) (g.K.Sink.calls c.args.out.now) (g.K.Sink.calls c.put_all.new.out)
     (c.as_bytes.ensures.value ∙ c.as_str.ensures ∙ c.in-Ok.ensures) c.in_default-put_all.ensures.err
 
 pub returns-clause-added : goal.returns-clause-added
 returns-clause-added g c =
-    whole (g.K.Sink.held c.args.out.now) (g.K.Sink.held c.put_all.new.out) c.as_bytes.result.now (project_fault c.args.file.now (rule_text c.args.rule)) (g.K.Sink.calls c.args.out.now) (g.K.Sink.calls c.put_all.new.out)
-    (c.as_bytes.ensures.value ∙ c.as_str.ensures ∙ c.in-Ok.ensures) (project_fault_ends c.args.file.now (rule_text c.args.rule)) c.in-Ok-put_all.ensures.ok c.in-Ok-put_all.ensures.calls
+    whole (g.K.Sink.held c.args.out.now) (g.K.Sink.held c.put_all.new.out) c.as_bytes.result.now (project_fault c.args.file.now c.args.line c.args.column c.args.rule.now) (g.K.Sink.calls c.args.out.now) (g.K.Sink.calls c.put_all.new.out)
+    (c.as_bytes.ensures.value ∙ c.as_str.ensures ∙ c.in-Ok.ensures) (project_fault_ends c.args.file.now c.args.line c.args.column c.args.rule.now) c.in-Ok-put_all.ensures.ok c.in-Ok-put_all.ensures.calls
