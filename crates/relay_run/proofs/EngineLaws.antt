@@ -1,10 +1,10 @@
 -- Handles as texts, and the records that confirmed entries give.
-use Rattle.std.proofs.Common.{◌==◌, ◌≡◌, List, [], ◌∷◌, ◌++◌, length, Bool, true, false, ◌||◌, cond, codes, Option, None, Some, is_some, String as Str, Global, suc, refl, sym, ap, ◌∙◌}
+use Rattle.std.proofs.Common.{◌==◌, ◌≡◌, List, [], ◌∷◌, ◌++◌, length, Bool, true, false, ◌||◌, cond, codes, Some, is_some, String as Str, Global, suc, refl, sym, ap, ◌∙◌}
 use Rattle.std.specs.Prelude.{ℕ}
 use Rattle.relay_model.specs.Keys.{Text}
 use Rattle.relay_model.specs.Machine.{Project, State, accept, refuse, confirm, folded, base, under, is_live, max_handles, retain_with, step_retain}
 use Rattle.relay_model.specs.Payload.{Said}
-use Rattle.relay_model.specs.Printed.{done, not_yet, unknown_operation}
+use Rattle.relay_model.specs.Printed.{done, not_yet}
 use Rattle.relay_model.specs.Records as model
 use Rattle.relay_model.specs.Records.{Records, no_records, put_all}
 use Rattle.gql_ast.specs.Sels.{Sels}

@@ -1,0 +1,53 @@
+#!/bin/bash
+# Times the built program on projects of 1, 2 and 4 times 10,000 types with a script of no line: the
+# reading of the files, the rules of the schema and of the documents, and nothing else. Build it first:
+# cd crates/relay_run && rt run -- run 10 data/schema.graphql data/q.graphql < stdin
+set -eu
+program=${1:-$(cd "$(dirname "$0")/../.." && pwd)/crates/relay_run/out/relay_run}
+folder=$(mktemp -d)
+trap 'rm -rf "$folder"' EXIT
+cd "$folder"
+
+cat > measure.py <<'END'
+import os, resource, subprocess, sys, time
+
+def objects(count):
+    yield "type Query{me:T0 node:Node} interface Node{id:ID! name:String}\n"
+    for n in range(count):
+        yield f"type T{n} implements Node{{id:ID! name:String next:T{(n + 1) % count} items(first:Int=10,after:String):[T{n}!]!}}\n"
+
+def inputs(count):
+    yield "type Query{me(in:I0):Int}\n"
+    for n in range(count):
+        needed = f" more:I{n + 1}!" if n + 1 < count else ""
+        yield f"input I{n}{{a:Int=1 b:[Color!]=[RED]{needed}}}\n"
+    yield "enum Color{RED GREEN}\n"
+
+def abstract(count):
+    yield "type Query{me:T0}\n"
+    for n in range(count):
+        yield f"interface F{n}{{a:Int}} type T{n} implements F{n}{{a:Int b:T{n}}} union U{n}=T{n}|T{(n + 1) % count}\n"
+
+def run(words, status):
+    start = time.monotonic()
+    child = subprocess.Popen(words, stdin=subprocess.DEVNULL, stdout=subprocess.DEVNULL)
+    _, code, usage = os.wait4(child.pid, 0)
+    assert os.waitstatus_to_exitcode(code) == status, code
+    return time.monotonic() - start, usage.ru_maxrss / 1024
+
+program = sys.argv[1]
+print("project            types   MiB    ms  times the first  peak MiB")
+for name, make, document in [("objects", objects, "query Q{me{name next{id name}}}"), ("inputs in a chain", inputs, "query Q{me}"),
+                             ("interfaces, unions", abstract, "query Q{me{a b{a}}}")]:
+    first = None
+    for count in [10_000, 20_000, 40_000]:
+        with open("s.graphql", "w") as file:
+            for line in make(count):
+                if file.tell() + len(line) > 2**22 - 64: break
+                file.write(line)
+        open("d.graphql", "w").write(document)
+        took, peak = min(run([program, "run", "10", "s.graphql", "d.graphql"], 0) for _ in range(3))
+        first = first or took
+        print(f"{name:18} {count:6}  {os.path.getsize('s.graphql')/2**20:4.1f}  {took*1000:5.0f}  {took/first:15.1f}  {peak:8.0f}")
+END
+python3 measure.py "$program"
