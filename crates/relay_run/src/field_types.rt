@@ -1,23 +1,11 @@
 //! The types that a schema gives to fields and to the root (GraphQL, October 2021, sections 3.3 and
 //! 3.6).
 ghost use Rattle.std.specs.Prelude.{◌≡◌};
-ghost use Rattle.gql_ast.specs.TypeView.{ty_of};
 ghost use Rattle.relay_model.specs.Schema as model;
-ghost use Rattle.schema_types.specs.Types.{base_of};
 
-use gql_ast::{Kind, TypeTree};
+use gql_ast::Kind;
 use schema_types::Schema;
-
-/// The name inside all lists and non-null forms; takes no memory.
-pub fn base_of(of: &TypeTree) -> &str
-    ensures { result.now ≡ base_of (ty_of of.now) }
-{
-    match of {
-        TypeTree::Named(name) => name.as_str(),
-        TypeTree::List(item) => base_of(item.tree()),
-        TypeTree::NonNull(inner) => base_of(inner.tree()),
-    }
-}
+use schema_types::type_forms::base_of;
 
 /// The named type of a field; the empty text where there is no such field. Takes no memory.
 pub fn type_of<'a>(schema: &'a Schema, of: &str, name: &str) -> &'a str

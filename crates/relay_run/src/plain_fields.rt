@@ -11,9 +11,10 @@ ghost use Rattle.relay_run.specs.Said.{has_text};
 ghost use Rattle.schema_types.specs.Rules.{is_object};
 ghost use Rattle.schema_types.specs.Types.{field_on};
 
-use crate::field_types::{base_of, type_of};
+use crate::field_types::type_of;
 use gql_ast::{Arguments, Directives, Selection, Selections, TypeTree};
 use gql_plain::{Name, NoMemory};
+use schema_types::type_forms::base_of;
 use schema_types::{InputDefs, Schema, TypeKind};
 use std::alloc::Global;
 use std::collections::BTreeMap;

@@ -56,7 +56,7 @@ float_at defs (inline around first on ds) = []
 abbrev pub floats_selected : Defs → List DefinitionAt → List ℕ
 floats_selected defs ds = each (λ d. each (float_at defs) (sites_of d)) ds
 
--- ---- V10 (5.5.2.3): a condition and the type around it have a possible type in common
+-- ---- V10 (5.5.2.3): a condition that is composite and the type around it have a possible type in common
 
 abbrev pub have_common_type : Defs → (around condition : Text) → Bool
 have_common_type defs around condition = list_any (λ object. applies defs object around) (possible defs condition)
@@ -64,7 +64,7 @@ have_common_type defs around condition = list_any (λ object. applies defs objec
 abbrev pub cannot_apply : Defs → (around condition : Option Text) → Bool
 cannot_apply defs None condition = false
 cannot_apply defs (Some of) None = false
-cannot_apply defs (Some of) (Some on) = not (have_common_type defs of on)
+cannot_apply defs (Some of) (Some on) = is_composite defs on && not (have_common_type defs of on)
 
 abbrev pub condition_of_fragment : Option FragmentAt → Option Text
 condition_of_fragment None = None

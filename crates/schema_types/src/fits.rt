@@ -1,6 +1,6 @@
 //! Which literals fit a type, and which uses of a variable are allowed (GraphQL, October 2021,
 //! sections 3.4 to 3.12, 5.6 and 5.8.5).
-ghost use Rattle.std.specs.Prelude.{◌≡◌, ℕ, List, map, option_map, Some};
+ghost use Rattle.std.specs.Prelude.{◌≡◌, ℕ, List, map, Some};
 ghost use Rattle.gql_ast.specs.TypeView.{ty_of};
 ghost use Rattle.gql_ast.specs.Value.{vals_of, members_of};
 ghost use Rattle.gql_ast.specs.ValueView.{value_of, argument_of};
@@ -14,7 +14,8 @@ ghost use Rattle.schema_types.specs.Types as types;
 use crate::definitions::InputDef;
 use crate::members::InputTable;
 use crate::part::Part;
-use crate::tables::{Tables, is_built_in_scalar};
+use crate::tables::Tables;
+use crate::type_forms::{base_of, is_built_in_scalar, is_non_null, item_of};
 use gql_ast::{Argument, Arguments, TypeTree, ValueTree, ValueTrees, VariableDef};
 use gql_plain::Ids;
 
@@ -169,35 +170,6 @@ fn types_agree(variable: &TypeTree, place: &TypeTree) -> bool
             TypeTree::Named(_) => false,
             TypeTree::NonNull(_) => false,
         },
-    }
-}
-
-/// The name inside all lists and non-null forms.
-pub(crate) fn base_of(of: &TypeTree) -> &str
-    ensures { result.now ≡ types.base_of (ty_of of.now) }
-{
-    match of {
-        TypeTree::Named(name) => name.as_str(),
-        TypeTree::List(inner) => base_of(inner.tree()),
-        TypeTree::NonNull(inner) => base_of(inner.tree()),
-    }
-}
-
-/// Whether the type is never null.
-pub(crate) fn is_non_null(of: &TypeTree) -> bool
-    ensures { result ≡ fits.is_non_null (ty_of of.now) }
-{
-    matches!(of, TypeTree::NonNull(_))
-}
-
-/// The type of the items of a list type, or of the non-null form of one.
-fn item_of(of: &TypeTree) -> Option<&TypeTree>
-    ensures { option_map (λ item. ty_of item.now) result ≡ fits.item_of (ty_of of.now) }
-{
-    match of {
-        TypeTree::Named(_) => None,
-        TypeTree::List(inner) => Some(inner.tree()),
-        TypeTree::NonNull(inner) => item_of(inner.tree()),
     }
 }
 

@@ -21,6 +21,7 @@ mod rules;
 mod schema;
 pub mod seen;
 mod tables;
+pub mod type_forms;
 mod waiting;
 
 pub use definitions::{DirectiveDef, FieldDef, InputDef, InputDefs};

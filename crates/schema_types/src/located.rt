@@ -129,7 +129,7 @@ pub fn pass_value(at: &mut usize, value: &ValueTree) -> Result<(), NoMemory>
 
 /// Goes past the values of a list.
 #[cycle(pass)]
-pub fn pass_values(at: &mut usize, values: &ValueTrees) -> Result<(), NoMemory>
+fn pass_values(at: &mut usize, values: &ValueTrees) -> Result<(), NoMemory>
     ensures { OnOk result (at.new ≡ at.old + values_nodes (vals_of values.now)) }
 {
     'items: for value in values.as_slice() {
@@ -140,7 +140,7 @@ pub fn pass_values(at: &mut usize, values: &ValueTrees) -> Result<(), NoMemory>
 
 /// Goes past arguments, or the fields of an object.
 #[cycle(pass)]
-pub fn pass_members(at: &mut usize, members: &Arguments) -> Result<(), NoMemory>
+fn pass_members(at: &mut usize, members: &Arguments) -> Result<(), NoMemory>
     ensures { OnOk result (at.new ≡ at.old + members_nodes (members_of members.now)) }
 {
     'members: for member in members.as_slice() {
@@ -151,7 +151,7 @@ pub fn pass_members(at: &mut usize, members: &Arguments) -> Result<(), NoMemory>
 }
 
 /// Goes past a default value, where there is one.
-pub fn pass_default(at: &mut usize, default: &Option<ValueTree>) -> Result<(), NoMemory>
+fn pass_default(at: &mut usize, default: &Option<ValueTree>) -> Result<(), NoMemory>
     ensures { OnOk result (at.new ≡ at.old + default_nodes default.now) }
 {
     match default {
@@ -161,7 +161,7 @@ pub fn pass_default(at: &mut usize, default: &Option<ValueTree>) -> Result<(), N
 }
 
 /// Goes past directives that are applied.
-pub fn pass_directives(at: &mut usize, directives: &Directives) -> Result<(), NoMemory>
+fn pass_directives(at: &mut usize, directives: &Directives) -> Result<(), NoMemory>
     ensures { OnOk result (at.new ≡ at.old + directives_nodes directives.now) }
 {
     'directives: for directive in directives.as_slice() {

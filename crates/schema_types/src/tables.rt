@@ -15,6 +15,7 @@ use crate::index::Index;
 use crate::kind::TypeKind;
 use crate::part::Part;
 use crate::possible::possible_of;
+use crate::type_forms::is_built_in_scalar;
 use gql_ast::{Kind, Root, SchemaDef, SchemaDefs, TypeTree};
 use gql_plain::{Ids, Name, NoMemory};
 use std::alloc::Global;
@@ -327,25 +328,6 @@ fn is_id_type(of: &TypeTree) -> bool
         },
         _ => false,
     }
-}
-
-/// Whether it is the name of a scalar that every schema has (GraphQL, October 2021, section 3.5).
-pub(crate) fn is_built_in_scalar(name: &str) -> bool
-    ensures { result ≡ types.is_built_in_scalar name.now }
-{
-    if "Int" == name {
-        return true;
-    }
-    if "Float" == name {
-        return true;
-    }
-    if "String" == name {
-        return true;
-    }
-    if "Boolean" == name {
-        return true;
-    }
-    "ID" == name
 }
 
 /// The kind of the type that a definition defines, where it defines one.

@@ -1,5 +1,5 @@
 //! Fields of interfaces and of what implements them (rule S8).
-ghost use Rattle.std.specs.Prelude.{◌≡◌, [], ◌∷◌, ◌++◌, ◌&&◌, ◌||◌, not, map, List, Some, None, IfOk, OnOk, option_map, is_some};
+ghost use Rattle.std.specs.Prelude.{◌≡◌, [], ◌&&◌, not, map, List, Some, None, IfOk, OnOk, option_map, is_some};
 ghost use Rattle.std.specs.BTreeMap.{get_by_text};
 ghost use Rattle.gql_ast.specs.TypeView.{ty_of};
 ghost use Rattle.schema_types.specs.Leasts.{noted};
@@ -9,7 +9,6 @@ ghost use Rattle.schema_types.specs.NamedAt.{name_place, field_place, input_plac
 ghost use Rattle.schema_types.specs.Rules as rules;
 ghost use Rattle.schema_types.specs.Types as types;
 
-use crate::fits::is_non_null;
 use crate::index::Index;
 use crate::least::Least;
 use crate::located::{DefAt, FieldAt, InputAt, NameAt};
@@ -17,6 +16,7 @@ use crate::rules::interfaces::is_interface;
 use crate::rules::members::is_object;
 use crate::rules::names::{field_names, input_names};
 use crate::tables::Tables;
+use crate::type_forms::is_non_null;
 use gql_ast::{FieldTree, InputTree, SchemaDef, TypeTree};
 use gql_plain::NoMemory;
 use std::alloc::Global;

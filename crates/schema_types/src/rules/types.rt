@@ -1,16 +1,16 @@
 //! Types that are used (rules S2, S6 and S12).
-ghost use Rattle.std.specs.Prelude.{◌≡◌, [], ◌∷◌, ◌++◌, map, OnOk, nat_lt, is_some, ◌&&◌};
+ghost use Rattle.std.specs.Prelude.{◌≡◌, ◌++◌, map, OnOk, nat_lt, is_some, ◌&&◌};
 ghost use Rattle.gql_ast.specs.TypeView.{ty_of};
 ghost use Rattle.schema_types.specs.Leasts.{noted};
 ghost use Rattle.schema_types.specs.LocatedView.{name_of, input_of, field_of, root_of, type_of, def_of};
 ghost use Rattle.schema_types.specs.Rules as rules;
 ghost use Rattle.schema_types.specs.Types as types;
 
-use crate::fits::base_of;
 use crate::kind::TypeKind;
 use crate::least::Least;
 use crate::located::{DefAt, FieldAt, InputAt, NameAt, RootAt};
 use crate::tables::Tables;
+use crate::type_forms::base_of;
 use gql_ast::TypeTree;
 use gql_plain::NoMemory;
 use std::alloc::Global;
