@@ -1,0 +1,3 @@
+pub mod SiteSteps
+pub mod PlaceSteps
+pub mod Listing

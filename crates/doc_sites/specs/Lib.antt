@@ -1,0 +1,2 @@
+pub mod SitesView
+pub mod Firsts

@@ -1,0 +1,26 @@
+//! What stands in documents, in text order, each with the type around it and with the numbers of
+//! the nodes of its names (GraphQL, October 2021, sections 2.3 to 2.8, 2.10 and 2.12).
+//!
+//! The nodes of all documents are numbered in the order of the documents, from 0; a document is a
+//! node itself.
+#![tactic(auto)]
+
+mod among;
+pub mod around;
+mod defining;
+mod parts;
+mod places;
+mod searching;
+mod selecting;
+pub mod site;
+
+pub use among::{fragments, operations};
+pub use defining::definitions_at;
+pub use places::fault_at;
+pub use searching::names_reached;
+pub use site::{
+    ArgumentAt, DefinitionAt, DirectiveAt, FragmentAt, OperationAt, Site, ValueAt, VariableAt,
+};
+
+#[cfg(test)]
+mod tests;

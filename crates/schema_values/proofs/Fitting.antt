@@ -1,0 +1,86 @@
+-- Which objects fit, by what is kept of an input object.
+use Rattle.std.proofs.Common.{◌≡◌, ◌<◌, ◌+◌, ℕ, suc, Bool, true, false, not, ◌&&◌, ◌||◌, cond, List, [], ◌∷◌, map, length, get_or, drop, Option, Some, None, option_map, is_some, bytes_eq, add-one, drop-cons, refl, sym, ap, ◌∙◌}
+use Rattle.std.specs.Option.{option_and_then}
+use Rattle.gql_ast.specs.Ty.{Ty}
+use Rattle.gql_ast.specs.TypeView.{ty_of}
+use Rattle.gql_ast.specs.declared.member.InputTree.{InputTree}
+use Rattle.gql_plain.specs.Order.{member_at}
+use Rattle.gql_plain.specs.Shown.{tree_of, shown_members}
+use Rattle.gql_plain.specs.Tree.{Tree, Members, object, member, members_of}
+use Rattle.gql_plain.specs.declared.plain.Plain.{Plain}
+use Rattle.schema_types.specs.declared.definitions.InputDef.{InputDef}
+use Rattle.schema_types.specs.Environments.{fits, members_fit, suits_as_object, gives_each_required, has_key}
+use Rattle.schema_types.specs.Fits.{meaning_of, is_required, input_type, fields}
+use Rattle.schema_types.specs.Types.{Text, Defs, base_of, inputs_of, input_def, input_named}
+use Rattle.schema_values.specs.Means.{gives_each}
+
+-- ---- objects
+
+some_or : (b : Bool) (t : Tree) (r : Option Tree) → is_some (cond b (Some t) r) ≡ (b || is_some r)
+some_or true t r = refl
+some_or false t r = refl
+
+pub has_key-member_at : (ms : List (List ℕ × Tree)) (n : Text) → is_some (member_at ms n) ≡ has_key n (members_of ms)
+has_key-member_at [] n = refl
+has_key-member_at (m ∷ ms) n = some_or (bytes_eq m.0 n) m.1 (member_at ms n) ∙ ap (λ b. bytes_eq m.0 n || b) (has_key-member_at ms n)
+
+pub is_some-option_map : {A B : Type 0} (f : A → B) (r : Option A) → is_some r ≡ is_some (option_map f r)
+is_some-option_map f None = refl
+is_some-option_map f (Some a) = refl
+
+gives_each-defs : (is : List InputTree) (ms : Members) → gives_each (map input_def is) ms ≡ gives_each_required is ms
+gives_each-defs [] ms = refl
+gives_each-defs (i ∷ is) ms = ap (λ b. (not (is_required i) || has_key i.name ms) && b) (gives_each-defs is ms)
+
+object_is : (defs : Defs) (ms : Members) (t : Ty) (n : Text) (is : List InputTree) (inputs : List InputDef) → n ≡ base_of t → meaning_of defs n ≡ fields is → inputs ≡ map input_def is
+    → fits defs (object ms) t ≡ (gives_each inputs ms && members_fit defs ms (fields is))
+object_is defs ms t n is inputs name means kept =
+    ap (λ m. suits_as_object ms m && members_fit defs ms m) (ap (meaning_of defs) (sym name) ∙ means)
+    ∙ ap (λ b. b && members_fit defs ms (fields is)) (sym (ap (λ xs. gives_each xs ms) kept ∙ gives_each-defs is ms))
+
+pub object_fits : (defs : Defs) (ms : Members) (t : Ty) (n : Text) (is : List InputTree) (inputs : List InputDef) (given fitting : Bool)
+    → n ≡ base_of t → meaning_of defs n ≡ fields is → inputs ≡ map input_def is → given ≡ gives_each inputs ms → given ≡ true → fitting ≡ members_fit defs ms (fields is)
+    → fitting ≡ fits defs (object ms) t
+object_fits defs ms t n is inputs given fitting name means kept gives is_given fit =
+    sym (object_is defs ms t n is inputs name means kept ∙ ap (λ b. b && members_fit defs ms (fields is)) (sym gives ∙ is_given) ∙ sym fit)
+
+pub object_lacks : (defs : Defs) (ms : Members) (t : Ty) (n : Text) (is : List InputTree) (inputs : List InputDef) (given : Bool)
+    → n ≡ base_of t → meaning_of defs n ≡ fields is → inputs ≡ map input_def is → given ≡ gives_each inputs ms → given ≡ false → given ≡ fits defs (object ms) t
+object_lacks defs ms t n is inputs given name means kept gives lacks =
+    lacks ∙ sym (object_is defs ms t n is inputs name means kept ∙ ap (λ b. b && members_fit defs ms (fields is)) (sym gives ∙ lacks))
+
+-- ---- the next pair of an object
+
+unknown_name : (r : Option InputTree) (l m : Bool) → None ≡ option_map input_def r → false ≡ (is_some r && l && m)
+unknown_name None l m e = refl
+unknown_name (Some i) l m e = cc
+
+module _ (defs : Defs) (x : Tree) where
+  unfit_value : (r : Option InputTree) (input : InputDef) (m : Bool) → Some input ≡ option_map input_def r → fits defs x (ty_of input.of) ≡ false
+      → false ≡ (is_some r && fits defs x (input_type r) && m)
+  unfit_value None input m e unfit = cc
+  unfit_value (Some i) input m e unfit =
+      let same : input ≡ input_def i = cc in
+      sym (ap (λ b. b && m) (ap (λ y. fits defs x (ty_of y.of)) (sym same) ∙ unfit))
+
+-- the pairs from the next one on
+abbrev pub from : List (List ℕ × Plain) → ℕ → Members
+from es at = members_of (shown_members (drop at es))
+
+next_pair : (es : List (List ℕ × Plain)) (at : ℕ) (e : List ℕ × Plain) → at < length es → e ≡ get_or es at e → from es at ≡ member e.0 (tree_of e.1) (from es (at + 1))
+next_pair es at e low is =
+    ap (λ xs. members_of (shown_members xs)) (drop-cons es at e low ∙ ap (λ x. x ∷ drop (suc at) es) (sym is))
+    ∙ ap (λ k. member e.0 (tree_of e.1) (from es k)) (sym (add-one at))
+
+module _ (defs : Defs) (of : Text) (is : List InputTree) (kept : inputs_of defs of ≡ Some is)
+    (es : List (List ℕ × Plain)) (at : ℕ) (e : List ℕ × Plain) (low : at < length es) (next : e ≡ get_or es at e) where
+  named : option_map input_def (option_and_then (λ xs. input_named xs e.0) (inputs_of defs of)) ≡ option_map input_def (input_named is e.0)
+  named = ap (λ r. option_map input_def (option_and_then (λ xs. input_named xs e.0) r)) kept
+
+  pub pair_unknown : None ≡ option_map input_def (option_and_then (λ xs. input_named xs e.0) (inputs_of defs of)) → false ≡ members_fit defs (from es at) (fields is)
+  pair_unknown none = unknown_name _ _ _ (none ∙ named) ∙ ap (λ ms. members_fit defs ms (fields is)) (sym (next_pair es at e low next))
+
+  pub pair_unfit : (input : InputDef) → Some input ≡ option_map input_def (option_and_then (λ xs. input_named xs e.0) (inputs_of defs of))
+      → fits defs (tree_of e.1) (ty_of input.of) ≡ false → false ≡ members_fit defs (from es at) (fields is)
+  pair_unfit input some unfit =
+      unfit_value defs (tree_of e.1) _ input _ (some ∙ named) unfit ∙ ap (λ ms. members_fit defs ms (fields is)) (sym (next_pair es at e low next))

@@ -1,0 +1,12 @@
+-- An environment as the list of the variables with their values.
+use Rattle.std.proofs.Common.{◌≡◌, List, [], ◌∷◌, map, refl, ap}
+use Rattle.gql_ast.specs.declared.variable.VariableDef.{VariableDef}
+use Rattle.gql_plain.specs.Order.{member_at}
+use Rattle.schema_types.specs.Environments.{Values, environment, value_or_default, with_pair}
+use Rattle.schema_values.specs.Listed.{first_of_each, given_or_default}
+
+pub environment-listed : (ds : List VariableDef) (given : Values) → environment ds given ≡ first_of_each (map (given_or_default given) ds)
+environment-listed [] given = refl
+environment-listed (d ∷ ds) given = ap (with_pair d.name (value_or_default (member_at given d.name) d.default)) (environment-listed ds given)
+
+pub ruleset listed = (environment-listed)

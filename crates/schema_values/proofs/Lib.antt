@@ -1,0 +1,4 @@
+pub mod Placing
+pub mod Evaluating
+pub mod Giving
+pub mod Fitting

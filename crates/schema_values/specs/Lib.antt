@@ -1,0 +1,3 @@
+pub mod Failures
+pub mod Listed
+pub mod Means

@@ -1,0 +1,17 @@
+//! The values of variables: which given values fit a type, and what a value of the language is under
+//! them (GraphQL, October 2021, sections 6.1.2, 6.4.1 and 3.4 to 3.12).
+#![tactic(auto)]
+
+pub mod env;
+mod environment;
+mod evaluated;
+mod pairs;
+mod suited;
+
+pub use env::{Env, VarFault};
+pub use environment::variables;
+pub use evaluated::evaluate;
+pub use suited::fits;
+
+#[cfg(test)]
+mod tests;
