@@ -1,0 +1,3 @@
+pub mod NameSteps
+pub mod CycleSteps
+pub mod RankSteps

@@ -1,0 +1,9 @@
+-- What is collected and what is left are the whole.
+use Rattle.std.proofs.Common.{◌≡◌, ◌++◌, map, drop}
+use Rattle.doc_sites.specs.SitesView.{definition_of}
+use Rattle.schema_types.specs.LocatedView.{name_of}
+use Rattle.schema_types.specs.NameRules as names
+use Rattle.doc_names.proofs.named.operation_names.Given as goal
+
+abbrev pub invariant-definitions : goal.invariant-definitions
+invariant-definitions l = map name_of l.names.items ++ names.operation_names (map definition_of (drop l.definition-index l.definitions)) ≡ names.operation_names (map definition_of l.definitions)

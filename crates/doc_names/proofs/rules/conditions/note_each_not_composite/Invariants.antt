@@ -1,0 +1,10 @@
+-- What is noted and what is left are the whole.
+use Rattle.std.proofs.Common.{◌≡◌, map, drop}
+use Rattle.schema_types.specs.Leasts.{noted}
+use Rattle.schema_types.specs.LocatedView.{name_of}
+use Rattle.schema_types.specs.NameRules.{not_composite}
+use Rattle.schema_types.specs.Rules.{each}
+use Rattle.doc_names.proofs.rules.conditions.note_each_not_composite.Given as goal
+
+abbrev pub invariant-conditions : goal.invariant-conditions
+invariant-conditions l = noted l.least.at (each (not_composite l.schema) (map name_of (drop l.name-index l.conditions))) ≡ noted l.initial.least.at (each (not_composite l.schema) (map name_of l.conditions))

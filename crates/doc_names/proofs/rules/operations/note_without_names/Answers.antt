@@ -1,0 +1,17 @@
+-- One more of the list, and all of them.
+use Rattle.std.proofs.Common.{ℕ, List, map, ap, sym, ◌∙◌, arith}
+use Rattle.doc_sites.specs.SitesView.{definition_of}
+use Rattle.schema_types.specs.Leasts.{noted}
+use Rattle.schema_types.specs.NameRules as names
+use Rattle.schema_types.proofs.LeastSteps.{each_next}
+use Rattle.doc_names.specs.Definitions.{on_operation}
+use Rattle.doc_names.proofs.NameSteps.{noted_end, over_operations}
+use Rattle.doc_names.proofs.rules.operations.note_without_names.Goals as goal
+
+pub definitions-preserved : goal.definitions-preserved
+definitions-preserved c = each_next definition_of (on_operation names.without_name) c.args.definitions.now c.definitions.definition-index c.definition-item.result _ _ _ (omega arith) c.definition-item.is c.note_without_name_in.ensures c.definitions.invariant
+
+pub returns : goal.returns
+returns c =
+    noted_end definition_of (on_operation names.without_name) c.args.definitions.now c.definitions.definition-index c.definitions.least.at _ (omega arith) c.definitions.invariant
+    ∙ sym (ap (λ (places : List ℕ). noted c.args.least.now.at places) (over_operations names.without_name (map definition_of c.args.definitions.now)))

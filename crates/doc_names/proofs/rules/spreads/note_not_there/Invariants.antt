@@ -1,0 +1,13 @@
+-- What is noted and what is left are the whole.
+use Rattle.std.proofs.Common.{◌≡◌, List, map, drop}
+use Rattle.schema_types.specs.Leasts.{noted}
+use Rattle.schema_types.specs.LocatedView.{name_of}
+use Rattle.schema_types.specs.NameRules.{not_there}
+use Rattle.schema_types.specs.Rules.{each}
+use Rattle.schema_types.specs.Seen.{Knows}
+use Rattle.schema_types.specs.Types.{Text}
+use Rattle.doc_names.proofs.rules.spreads.note_not_there.Given as goal
+
+abbrev pub invariant-spreads : goal.invariant-spreads
+invariant-spreads l = (ns : List Text) → Knows l.there.names ns
+    → noted l.least.at (each (not_there ns) (map name_of (drop l.spread-index l.spreads))) ≡ noted l.initial.least.at (each (not_there ns) (map name_of l.spreads))

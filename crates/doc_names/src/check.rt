@@ -1,0 +1,86 @@
+//! The first rule on names that documents do not meet.
+ghost use Rattle.std.specs.Prelude.{◌≡◌, map, IfErr, IfOk, OnOk};
+ghost use Rattle.doc_sites.specs.SitesView.{definition_of};
+ghost use Rattle.schema_types.specs.DocumentRules.{AreFaulty, Meet, name_rules, trees_of};
+ghost use Rattle.schema_types.specs.Rules as rules;
+ghost use Rattle.schema_types.specs.Sites.{all_definitions};
+
+use crate::rules::conditions::conditions_wrong;
+use crate::rules::cycles::spreads_on_cycles;
+use crate::rules::fragments::fragments_not_unique;
+use crate::rules::operations::operations_not_named;
+use crate::rules::roots::roots_missing;
+use crate::rules::spreads::fragments_not_there;
+use doc_sites::{DefinitionAt, definitions_at, fault_at};
+use gql_ast::Documents;
+use gql_plain::NoMemory;
+use schema_types::least::Least;
+use schema_types::{Rule, RuleFault, Schema};
+use std::alloc::Global;
+
+/// Checks the names of operations and fragments (GraphQL, October 2021). In the order of the rules:
+/// every operation has a name, and names differ (V1, section 5.2.1.1); the names of fragments differ
+/// (V2, 5.5.1.1); type conditions name an object, an interface or a union (V3, 5.5.1.2 and 5.5.1.3);
+/// fragments that are spread are there (V4, 5.5.2.1); no fragment reaches itself (V5, 5.5.2.2); the
+/// root type of an operation is there (V6, 3.3.1).
+///
+/// # Errors
+///
+/// The first of these rules that the documents do not meet, at its least place; `NoMemory`.
+pub fn check_names(alloc: Global, schema: &Schema, documents: &Documents) -> Result<(), RuleFault>
+    ensures met { OnOk result (Meet name_rules schema.now documents.now) }
+    ensures fault { IfErr result (AreFaulty name_rules schema.now documents.now) }
+{
+    match broken(alloc, schema, documents)? {
+        Some((rule, at)) => Err(RuleFault::Rule(fault_at(documents, at, rule))),
+        None => Ok(()),
+    }
+}
+
+/// The first rule that documents do not meet, and the number of the node where they do not.
+fn broken(
+    alloc: Global,
+    schema: &Schema,
+    documents: &Documents,
+) -> Result<Option<(Rule, usize)>, NoMemory>
+    ensures { IfOk result (λ found. found ≡ rules.first_broken (name_rules schema.now (all_definitions schema.now (trees_of documents.now)))) }
+{
+    let definitions = definitions_at(alloc, schema, documents)?;
+    first_broken(alloc, schema, &definitions)
+}
+
+/// The first rule that definitions do not meet, and the number of the node where they do not.
+fn first_broken(
+    alloc: Global,
+    schema: &Schema,
+    definitions: &[DefinitionAt<'_>],
+) -> Result<Option<(Rule, usize)>, NoMemory>
+    ensures { IfOk result (λ found. found ≡ rules.first_broken (name_rules schema.now (map definition_of definitions.now))) }
+{
+    let mut least = Least::new();
+    operations_not_named(alloc, &mut least, definitions)?;
+    if let Some(at) = least.at {
+        return Ok(Some((Rule::V1, at)));
+    }
+    fragments_not_unique(alloc, &mut least, definitions)?;
+    if let Some(at) = least.at {
+        return Ok(Some((Rule::V2, at)));
+    }
+    conditions_wrong(alloc, schema, &mut least, definitions)?;
+    if let Some(at) = least.at {
+        return Ok(Some((Rule::V3, at)));
+    }
+    fragments_not_there(alloc, &mut least, definitions)?;
+    if let Some(at) = least.at {
+        return Ok(Some((Rule::V4, at)));
+    }
+    spreads_on_cycles(alloc, &mut least, definitions)?;
+    if let Some(at) = least.at {
+        return Ok(Some((Rule::V5, at)));
+    }
+    roots_missing(schema, &mut least, definitions);
+    if let Some(at) = least.at {
+        return Ok(Some((Rule::V6, at)));
+    }
+    Ok(None)
+}

@@ -1,0 +1,113 @@
+//! The names that stand in documents.
+ghost use Rattle.std.specs.Prelude.{◌≡◌, map, option_map, IfOk};
+ghost use Rattle.std.specs.List.{filter_map};
+ghost use Rattle.doc_sites.specs.SitesView.{definition_of, site_of};
+ghost use Rattle.schema_types.specs.LocatedView.{name_of};
+ghost use Rattle.schema_types.specs.NameRules as names;
+
+use doc_sites::{DefinitionAt, Site};
+use gql_plain::NoMemory;
+use schema_types::located::NameAt;
+use std::alloc::Global;
+
+/// The names of operations, of those that have one.
+pub(crate) fn operation_names<'a>(
+    alloc: Global,
+    definitions: &[DefinitionAt<'a>],
+) -> Result<Vec<NameAt<'a>>, NoMemory>
+    ensures { IfOk result (λ ns. map name_of ns.items ≡ names.operation_names (map definition_of definitions.now)) }
+{
+    let mut names = Vec::new(alloc);
+    'definitions: for definition in definitions {
+        match definition {
+            DefinitionAt::Operation(operation) => {
+                if let Some(name) = operation.name {
+                    names.push(name)?;
+                }
+            }
+            DefinitionAt::Fragment(_) => {}
+        }
+    }
+    Ok(names)
+}
+
+/// The names of fragments.
+pub(crate) fn fragment_names<'a>(
+    alloc: Global,
+    definitions: &[DefinitionAt<'a>],
+) -> Result<Vec<NameAt<'a>>, NoMemory>
+    ensures { IfOk result (λ ns. map name_of ns.items ≡ names.fragment_names (map definition_of definitions.now)) }
+{
+    let mut names = Vec::new(alloc);
+    'definitions: for definition in definitions {
+        match definition {
+            DefinitionAt::Operation(_) => {}
+            DefinitionAt::Fragment(fragment) => names.push(fragment.name)?,
+        }
+    }
+    Ok(names)
+}
+
+/// The type condition of an inline fragment, where it has one.
+fn condition_at<'a>(site: &Site<'a>) -> Option<NameAt<'a>>
+    ensures { option_map name_of result ≡ names.condition_at (site_of site.now) }
+{
+    match site {
+        Site::Field { .. } => None,
+        Site::Spread { .. } => None,
+        Site::Inline { on, .. } => *on,
+    }
+}
+
+/// The type conditions of inline fragments.
+pub(crate) fn conditions_at<'a>(
+    alloc: Global,
+    sites: &[Site<'a>],
+) -> Result<Vec<NameAt<'a>>, NoMemory>
+    ensures { IfOk result (λ ns. map name_of ns.items ≡ filter_map names.condition_at (map site_of sites.now)) }
+{
+    let mut conditions = Vec::new(alloc);
+    'sites: for site in sites {
+        if let Some(name) = condition_at(site) {
+            conditions.push(name)?;
+        }
+    }
+    Ok(conditions)
+}
+
+/// The name of the fragment that is spread.
+fn spread_at<'a>(site: &Site<'a>) -> Option<NameAt<'a>>
+    ensures { option_map name_of result ≡ names.spread_at (site_of site.now) }
+{
+    match site {
+        Site::Field { .. } => None,
+        Site::Spread { name, .. } => Some(*name),
+        Site::Inline { .. } => None,
+    }
+}
+
+/// The names of the fragments that are spread.
+pub(crate) fn spreads_at<'a>(alloc: Global, sites: &[Site<'a>]) -> Result<Vec<NameAt<'a>>, NoMemory>
+    ensures { IfOk result (λ ns. map name_of ns.items ≡ names.spreads_in (map site_of sites.now)) }
+{
+    let mut spreads = Vec::new(alloc);
+    'sites: for site in sites {
+        if let Some(name) = spread_at(site) {
+            spreads.push(name)?;
+        }
+    }
+    Ok(spreads)
+}
+
+/// The names alone of the fragments that are spread.
+pub(crate) fn spread_names<'a>(alloc: Global, sites: &[Site<'a>]) -> Result<Vec<&'a str>, NoMemory>
+    ensures { IfOk result (λ ns. map (λ n. n.now) ns.items ≡ names.names_of_all (names.spreads_in (map site_of sites.now))) }
+{
+    let mut spreads = Vec::new(alloc);
+    'sites: for site in sites {
+        if let Some(name) = spread_at(site) {
+            spreads.push(name.name)?;
+        }
+    }
+    Ok(spreads)
+}

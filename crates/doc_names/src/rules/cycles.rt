@@ -1,0 +1,169 @@
+//! V5: no fragment reaches itself through spreads (GraphQL, October 2021, section 5.5.2.2).
+//!
+//! A spread whose fragment has a lower rank than the one in which it stands does not lead back. The
+//! others are searched from in text order, until one leads back: where the ranks are those of the
+//! components, that is the first.
+ghost use Rattle.std.specs.Prelude.{◌≡◌, ◌++◌, length, map, List, IfOk, OnOk};
+ghost use Rattle.doc_sites.specs.SitesView.{definition_of, fragment_of};
+ghost use Rattle.schema_types.specs.Graphs.{Holds, Tells};
+ghost use Rattle.schema_types.specs.Leasts.{noted};
+ghost use Rattle.schema_types.specs.LocatedView.{name_of};
+ghost use Rattle.schema_types.specs.NameRules as names;
+ghost use Rattle.schema_types.specs.Reached.{leads};
+ghost use Rattle.schema_types.specs.Rules as rules;
+ghost use Rattle.schema_types.specs.Sites as sites;
+ghost use Rattle.schema_types.specs.Types.{Text};
+ghost use Rattle.doc_names.specs.Cycles.{leading_back, leads_back_in, spreading};
+ghost use Rattle.doc_names.specs.Definitions.{on_fragment};
+ghost use Rattle.doc_names.specs.Ranks.{rank_in, NeverRises};
+
+use crate::named::{fragment_names, spread_names, spreads_at};
+use crate::ranks::Ranks;
+use doc_sites::{DefinitionAt, FragmentAt};
+use gql_plain::NoMemory;
+use schema_types::graph::Graph;
+use schema_types::least::Least;
+use schema_types::located::NameAt;
+use std::alloc::Global;
+
+/// Spreads that lead back to the fragment in which they stand.
+pub(crate) fn spreads_on_cycles(
+    alloc: Global,
+    least: &mut Least,
+    definitions: &[DefinitionAt<'_>],
+) -> Result<(), NoMemory>
+    ensures { OnOk result (least.new.at ≡ noted least.old.at (names.spreads_on_cycles (map definition_of definitions.now))) }
+{
+    let graph = spread_graph(alloc, definitions)?;
+    let ranks = Ranks::of(alloc, definitions)?;
+    let steps = count_fragments(alloc, definitions)?;
+    'definitions: for definition in definitions {
+        note_cycles_in(alloc, &graph, steps, &ranks, least, definition)?;
+    }
+    Ok(())
+}
+
+/// How many fragments there are.
+fn count_fragments(alloc: Global, definitions: &[DefinitionAt<'_>]) -> Result<usize, NoMemory>
+    ensures { IfOk result (λ count. count ≡ length (names.fragments (map definition_of definitions.now))) }
+{
+    let names = fragment_names(alloc, definitions)?;
+    Ok(names.len())
+}
+
+/// The fragments, each with those that it spreads.
+fn spread_graph<'t>(alloc: Global, definitions: &[DefinitionAt<'t>]) -> Result<Graph<'t>, NoMemory>
+    ensures { IfOk result (λ graph. Tells graph (names.spread_by (names.fragments (map definition_of definitions.now)))) }
+{
+    let mut graph = Graph::new(alloc);
+    'definitions: for definition in definitions {
+        put_spreads(alloc, &mut graph, definition)?;
+    }
+    Ok(graph)
+}
+
+/// Puts a fragment with those that it spreads.
+fn put_spreads<'t>(
+    alloc: Global,
+    graph: &mut Graph<'t>,
+    definition: &DefinitionAt<'t>,
+) -> Result<(), NoMemory>
+    ensures { (pairs : List (Text × List Text)) → Holds graph.old pairs
+        → OnOk result (Holds graph.new (pairs ++ spreading (definition_of definition.now))) }
+{
+    match definition {
+        DefinitionAt::Operation(_) => Ok(()),
+        DefinitionAt::Fragment(fragment) => {
+            let next = spread_names(alloc, &fragment.sites)?;
+            graph.put(fragment.name.name, next)
+        }
+    }
+}
+
+/// Spreads in a definition that lead back to it.
+fn note_cycles_in<'t>(
+    alloc: Global,
+    graph: &Graph<'t>,
+    steps: usize,
+    ranks: &Ranks<'_>,
+    least: &mut Least,
+    definition: &DefinitionAt<'t>,
+) -> Result<(), NoMemory>
+    ensures { (fs : List sites.FragmentAt) → Tells graph.now (names.spread_by fs) → steps ≡ length fs → NeverRises (rank_in ranks.now) (names.spread_by fs)
+        → OnOk result (least.new.at ≡ noted least.old.at (on_fragment (leads_back_in fs) (definition_of definition.now))) }
+{
+    match definition {
+        DefinitionAt::Operation(_) => Ok(()),
+        DefinitionAt::Fragment(fragment) => {
+            note_cycles_of(alloc, graph, steps, ranks, least, fragment)
+        }
+    }
+}
+
+/// Spreads in a fragment that lead back to it.
+fn note_cycles_of<'t>(
+    alloc: Global,
+    graph: &Graph<'t>,
+    steps: usize,
+    ranks: &Ranks<'_>,
+    least: &mut Least,
+    fragment: &FragmentAt<'t>,
+) -> Result<(), NoMemory>
+    ensures { (next : Text → List Text) → Tells graph.now next → NeverRises (rank_in ranks.now) next
+        → OnOk result (least.new.at ≡ noted least.old.at (leading_back next steps (fragment_of fragment.now).name.name (names.spreads_in (fragment_of fragment.now).sites))) }
+{
+    let spreads = spreads_at(alloc, &fragment.sites)?;
+    note_leading_back(
+        alloc,
+        graph,
+        steps,
+        ranks,
+        least,
+        fragment.name.name,
+        &spreads,
+    )
+}
+
+/// Spreads that lead to a fragment.
+fn note_leading_back<'t>(
+    alloc: Global,
+    graph: &Graph<'t>,
+    steps: usize,
+    ranks: &Ranks<'_>,
+    least: &mut Least,
+    to: &str,
+    spreads: &[NameAt<'t>],
+) -> Result<(), NoMemory>
+    ensures { (next : Text → List Text) → Tells graph.now next → NeverRises (rank_in ranks.now) next
+        → OnOk result (least.new.at ≡ noted least.old.at (leading_back next steps to.now (map name_of spreads.now))) }
+{
+    'spreads: for spread in spreads {
+        note_if_leads(alloc, graph, steps, ranks, least, to, spread)?;
+    }
+    Ok(())
+}
+
+/// A spread, where it leads to a fragment. One that stands after a place that is noted already is not
+/// looked at, and one whose fragment has a lower rank does not lead there.
+fn note_if_leads<'t>(
+    alloc: Global,
+    graph: &Graph<'t>,
+    steps: usize,
+    ranks: &Ranks<'_>,
+    least: &mut Least,
+    to: &str,
+    spread: &NameAt<'t>,
+) -> Result<(), NoMemory>
+    ensures { (next : Text → List Text) → Tells graph.now next → NeverRises (rank_in ranks.now) next
+        → OnOk result (least.new.at ≡ noted least.old.at (rules.wrong (leads next steps spread.now.name.now to.now) spread.now.at)) }
+{
+    if least.is_at_most(spread.at) {
+        return Ok(());
+    }
+    if ranks.rank(spread.name) < ranks.rank(to) {
+        return Ok(());
+    }
+    let reached = graph.reached(alloc, steps, &[spread.name])?;
+    least.note_if(reached.contains(to), spread.at);
+    Ok(())
+}

@@ -1,0 +1,24 @@
+//! V2: the names of fragments differ (GraphQL, October 2021, section 5.5.1.1).
+ghost use Rattle.std.specs.Prelude.{◌≡◌, map, OnOk};
+ghost use Rattle.doc_sites.specs.SitesView.{definition_of};
+ghost use Rattle.schema_types.specs.Leasts.{noted};
+ghost use Rattle.schema_types.specs.NameRules as names;
+
+use crate::named::fragment_names;
+use doc_sites::DefinitionAt;
+use gql_plain::NoMemory;
+use schema_types::least::Least;
+use schema_types::seen::note_repeated;
+use std::alloc::Global;
+
+/// Names of fragments that stand before.
+pub(crate) fn fragments_not_unique(
+    alloc: Global,
+    least: &mut Least,
+    definitions: &[DefinitionAt<'_>],
+) -> Result<(), NoMemory>
+    ensures { OnOk result (least.new.at ≡ noted least.old.at (names.fragments_not_unique (map definition_of definitions.now))) }
+{
+    let names = fragment_names(alloc, definitions)?;
+    note_repeated(alloc, least, &names)
+}

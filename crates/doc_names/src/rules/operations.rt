@@ -1,0 +1,58 @@
+//! V1: every operation has a name, and the names of operations differ (GraphQL, October 2021, section
+//! 5.2.1.1; that each has a name is this project's own).
+ghost use Rattle.std.specs.Prelude.{◌≡◌, map, OnOk};
+ghost use Rattle.doc_sites.specs.SitesView.{definition_of, operation_of};
+ghost use Rattle.schema_types.specs.Leasts.{noted};
+ghost use Rattle.schema_types.specs.NameRules as names;
+ghost use Rattle.schema_types.specs.Rules as rules;
+ghost use Rattle.doc_names.specs.Definitions.{on_operation};
+
+use crate::named::operation_names;
+use doc_sites::{DefinitionAt, OperationAt};
+use gql_plain::NoMemory;
+use schema_types::least::Least;
+use schema_types::seen::note_repeated;
+use std::alloc::Global;
+
+/// Operations without a name, by their first tokens, and names that stand before.
+#[tactic(auto, using(crate::proofs::NameSteps::noting))]
+pub(crate) fn operations_not_named(
+    alloc: Global,
+    least: &mut Least,
+    definitions: &[DefinitionAt<'_>],
+) -> Result<(), NoMemory>
+    ensures { OnOk result (least.new.at ≡ noted least.old.at (names.operations_not_named (map definition_of definitions.now))) }
+{
+    note_without_names(least, definitions);
+    let names = operation_names(alloc, definitions)?;
+    note_repeated(alloc, least, &names)
+}
+
+/// Operations without a name.
+fn note_without_names(least: &mut Least, definitions: &[DefinitionAt<'_>])
+    ensures { least.new.at ≡ noted least.old.at (rules.each names.without_name (names.operations (map definition_of definitions.now))) }
+{
+    'definitions: for definition in definitions {
+        note_without_name_in(least, definition);
+    }
+}
+
+/// A definition, where it is an operation without a name.
+fn note_without_name_in(least: &mut Least, definition: &DefinitionAt<'_>)
+    ensures { least.new.at ≡ noted least.old.at (on_operation names.without_name (definition_of definition.now)) }
+{
+    match definition {
+        DefinitionAt::Operation(operation) => note_without_name(least, operation),
+        DefinitionAt::Fragment(_) => {}
+    }
+}
+
+/// An operation, where it has no name.
+fn note_without_name(least: &mut Least, operation: &OperationAt<'_>)
+    ensures { least.new.at ≡ noted least.old.at (names.without_name (operation_of operation.now)) }
+{
+    match operation.name {
+        Some(_) => {}
+        None => least.note(operation.first),
+    }
+}

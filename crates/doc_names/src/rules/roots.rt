@@ -1,0 +1,51 @@
+//! V6: the root type of an operation is there (GraphQL, October 2021, section 3.3.1).
+ghost use Rattle.std.specs.Prelude.{◌≡◌, map, is_some};
+ghost use Rattle.doc_sites.specs.SitesView.{definition_of, operation_of};
+ghost use Rattle.schema_types.specs.Leasts.{noted};
+ghost use Rattle.schema_types.specs.NameRules as names;
+ghost use Rattle.schema_types.specs.Types as types;
+ghost use Rattle.doc_names.specs.Definitions.{on_operation};
+
+use doc_sites::{DefinitionAt, OperationAt};
+use gql_ast::Kind;
+use schema_types::Schema;
+use schema_types::least::Least;
+
+/// Operations of kinds that the schema has no root for, by their names.
+pub(crate) fn roots_missing(schema: &Schema, least: &mut Least, definitions: &[DefinitionAt<'_>])
+    ensures { least.new.at ≡ noted least.old.at (names.roots_missing schema.now (map definition_of definitions.now)) }
+{
+    'definitions: for definition in definitions {
+        note_without_root_in(schema, least, definition);
+    }
+}
+
+/// A definition, where it is an operation that has a name and no root.
+fn note_without_root_in(schema: &Schema, least: &mut Least, definition: &DefinitionAt<'_>)
+    ensures { least.new.at ≡ noted least.old.at (on_operation (λ o. names.without_root schema.now o o.name) (definition_of definition.now)) }
+{
+    match definition {
+        DefinitionAt::Operation(operation) => note_without_root(schema, least, operation),
+        DefinitionAt::Fragment(_) => {}
+    }
+}
+
+/// An operation, where it has a name and no root.
+fn note_without_root(schema: &Schema, least: &mut Least, operation: &OperationAt<'_>)
+    ensures { least.new.at ≡ noted least.old.at (names.without_root schema.now (operation_of operation.now) (operation_of operation.now).name) }
+{
+    match &operation.name {
+        Some(name) => least.note_if(!has_root(schema, operation.kind), name.at),
+        None => {}
+    }
+}
+
+/// Whether the schema has a root for a kind.
+fn has_root(schema: &Schema, kind: Kind) -> bool
+    ensures { result ≡ is_some (types.root schema.now kind) }
+{
+    match schema.root(kind) {
+        Some(_) => true,
+        None => false,
+    }
+}

@@ -1,0 +1,65 @@
+//! V4: fragments that are spread are there (GraphQL, October 2021, section 5.5.2.1).
+ghost use Rattle.std.specs.Prelude.{◌≡◌, map, List, IfOk, OnOk};
+ghost use Rattle.doc_sites.specs.SitesView.{definition_of};
+ghost use Rattle.schema_types.specs.Leasts.{noted};
+ghost use Rattle.schema_types.specs.LocatedView.{name_of};
+ghost use Rattle.schema_types.specs.NameRules as names;
+ghost use Rattle.schema_types.specs.Rules as rules;
+ghost use Rattle.schema_types.specs.Seen.{Knows};
+ghost use Rattle.schema_types.specs.Types.{Text};
+
+use crate::named::{fragment_names, spreads_at};
+use doc_sites::DefinitionAt;
+use gql_plain::NoMemory;
+use schema_types::least::Least;
+use schema_types::located::NameAt;
+use schema_types::seen::Seen;
+use std::alloc::Global;
+
+/// Spreads of no fragment, in operations and in fragments.
+pub(crate) fn fragments_not_there(
+    alloc: Global,
+    least: &mut Least,
+    definitions: &[DefinitionAt<'_>],
+) -> Result<(), NoMemory>
+    ensures { OnOk result (least.new.at ≡ noted least.old.at (names.fragments_not_there (map definition_of definitions.now))) }
+{
+    let there = names_there(alloc, definitions)?;
+    'definitions: for definition in definitions {
+        note_not_there_in(alloc, &there, least, definition)?;
+    }
+    Ok(())
+}
+
+/// The names of fragments.
+fn names_there<'a>(alloc: Global, definitions: &[DefinitionAt<'a>]) -> Result<Seen<'a>, NoMemory>
+    ensures { IfOk result (λ seen. Knows seen.names (names.names_of_all (names.fragment_names (map definition_of definitions.now)))) }
+{
+    let names = fragment_names(alloc, definitions)?;
+    Seen::of(alloc, &names)
+}
+
+/// Spreads of no fragment in a definition.
+fn note_not_there_in(
+    alloc: Global,
+    there: &Seen<'_>,
+    least: &mut Least,
+    definition: &DefinitionAt<'_>,
+) -> Result<(), NoMemory>
+    ensures { (ns : List Text) → Knows there.now.names ns
+        → OnOk result (least.new.at ≡ noted least.old.at (rules.each (names.not_there ns) (names.spreads_in (names.sites_of (definition_of definition.now))))) }
+{
+    let spreads = spreads_at(alloc, definition.sites())?;
+    note_not_there(there, least, &spreads);
+    Ok(())
+}
+
+/// Names of no fragment.
+fn note_not_there(there: &Seen<'_>, least: &mut Least, spreads: &[NameAt<'_>])
+    ensures { (ns : List Text) → Knows there.now.names ns
+        → least.new.at ≡ noted least.old.at (rules.each (names.not_there ns) (map name_of spreads.now)) }
+{
+    'spreads: for spread in spreads {
+        least.note_if(!there.contains(spread.name), spread.at);
+    }
+}
