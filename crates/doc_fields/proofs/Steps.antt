@@ -1,0 +1,76 @@
+-- Steps over the fragments, operations and selections of documents.
+use Rattle.std.proofs.Common.{◌≡◌, ℕ, ◌+◌, ◌<◌, ◌≤◌, Bool, true, false, cond, List, [], ◌∷◌, ◌++◌, append_assoc, map, drop, length, get_or, add-one, Option, Some, None, option_copied, unwrap_or, bytes_eq, refl, ap, sym, subst, ◌∙◌}
+use Rattle.std.proofs.Math.Seq.{drop-cons}
+use Rattle.std.proofs.lemmas.List.{append-nil, drop_all}
+use Rattle.std.specs.List.{slice_get}
+use Rattle.gql_ast.specs.SelectionView.{sel_before, sels_of}
+use Rattle.gql_ast.specs.Sels.{Sels}
+use Rattle.gql_ast.specs.declared.selection.Selection.{Selection}
+use Rattle.schema_types.specs.FieldRules.{condition_of_fragment}
+use Rattle.schema_types.specs.Graphs.{Holds, first_next, next_in}
+use Rattle.schema_types.specs.NameRules.{fragments, operations, fragment_named}
+use Rattle.schema_types.specs.Rules.{each}
+use Rattle.schema_types.specs.Sites.{FragmentAt, OperationAt, DefinitionAt, operation, fragment}
+use Rattle.schema_types.specs.Types.{Text}
+use Rattle.schema_types.specs.declared.graph.Graph.{Graph}
+use Rattle.doc_fields.specs.Fragments.{told, led_to, leading, condition_in, on_fragment, on_operation}
+use denote.Ref.{Bor}
+
+-- what is said of each fragment, and of each operation
+pub of_fragments : {A : Type 0} (says : FragmentAt → List A) (ds : List DefinitionAt) → each says (fragments ds) ≡ each (on_fragment says) ds
+of_fragments says [] = refl
+of_fragments says (operation o ∷ ds) = of_fragments says ds
+of_fragments {A = A} says (fragment f ∷ ds) = ap (λ (l : List A). says f ++ l) (of_fragments says ds)
+
+pub of_operations : {A : Type 0} (says : OperationAt → List A) (ds : List DefinitionAt) → each says (operations ds) ≡ each (on_operation says) ds
+of_operations says [] = refl
+of_operations {A = A} says (operation o ∷ ds) = ap (λ (l : List A). says o ++ l) (of_operations says ds)
+of_operations says (fragment f ∷ ds) = of_operations says ds
+
+-- one more element, of which something is collected
+pub collected : {X Y A : Type 0} (view : X → Y) (f : Y → List A) (xs : List X) (i : ℕ) (x : X) (old new whole : List A) → i < length xs → x ≡ get_or xs i x
+    → new ≡ old ++ f (view x) → old ++ each f (map view (drop i xs)) ≡ whole → new ++ each f (map view (drop (i + 1) xs)) ≡ whole
+collected {X = X} {A = A} view f xs i x old new whole h is e w =
+    let rest : List A = each f (map view (drop (i + 1) xs)) in
+    let same : drop i xs ≡ get_or xs i x ∷ drop (i + 1) xs = rw add-one (drop-cons xs i x h) in
+    ap (λ (l : List A). l ++ rest) e ∙ append_assoc old (f (view x)) rest ∙ ap (λ (y : X). old ++ (f (view y) ++ rest)) is ∙ sym (ap (λ (ys : List X). old ++ each f (map view ys)) same) ∙ w
+
+-- one more fragment is put with what it leads to
+pub pairs_step : {X Y : Type 0} (view : X → Y) (of : Y → List (Text × List Text)) (new : Graph) (pairs whole : List (Text × List Text)) (xs : List X) (i : ℕ) (x : X) → i < length xs → x ≡ get_or xs i x
+    → Holds new (pairs ++ of (view x)) → pairs ++ each of (map view (drop i xs)) ≡ whole
+    → (then : List (Text × List Text)) × Holds new then × (then ++ each of (map view (drop (i + 1) xs)) ≡ whole)
+pairs_step view of new pairs whole xs i x h is k w = (pairs ++ of (view x), k, collected view of xs i x pairs (pairs ++ of (view x)) whole h is refl w)
+
+-- all are put
+pub pairs_all : {X Y : Type 0} (view : X → Y) (of : Y → List (Text × List Text)) (graph : Graph) (pairs whole : List (Text × List Text)) (xs : List X) (i : ℕ) → length xs ≤ i
+    → Holds graph pairs → pairs ++ each of (map view (drop i xs)) ≡ whole → Holds graph whole
+pairs_all {X = X} view of graph pairs whole xs i h k w =
+    subst (λ (ps : List (Text × List Text)). Holds graph ps) (sym (append-nil pairs) ∙ sym (ap (λ (ys : List X). pairs ++ each of (map view ys)) (drop_all i xs h)) ∙ w) k
+
+-- of several fragments of one name the first tells
+next_leading : (next : FragmentAt → List Text) (fs : List FragmentAt) (n : Text) → next_in (each (leading next) fs) n ≡ led_to next fs n
+next_leading next [] n = refl
+next_leading next (f ∷ fs) n = on (bytes_eq f.name.name n) (next_leading next fs n) where
+  on : (b : Bool) → next_in (each (leading next) fs) n ≡ led_to next fs n → unwrap_or (cond b (Some (next f)) (first_next (each (leading next) fs) n)) [] ≡ told next (cond b (Some f) (fragment_named fs n))
+  on true e = refl
+  on false e = e
+
+pub next_among : (next : FragmentAt → List Text) (ds : List DefinitionAt) (n : Text) → next_in (each (on_fragment (leading next)) ds) n ≡ led_to next (fragments ds) n
+next_among next ds n = ap (λ (ps : List (Text × List Text)). next_in ps n) (sym (of_fragments (leading next) ds)) ∙ next_leading next (fragments ds) n
+
+-- the condition of a fragment is the first name that it leads to
+pub first_condition : (xs : List (Bor Text)) (f : Option FragmentAt) (o : Option (Bor Text)) → o ≡ slice_get xs 0 → map (λ (n : Bor Text). n.now) xs ≡ told condition_in f
+    → option_copied o ≡ condition_of_fragment f
+first_condition [] None o e h = ap (λ (r : Option (Bor Text)). option_copied r) e
+first_condition [] (Some f) o e h = cc
+first_condition (x ∷ xs) None o e h = cc
+first_condition (x ∷ xs) (Some f) o e h = ap (λ (r : Option (Bor Text)). option_copied r) e ∙ ap (λ (l : List Text). Some (get_or l 0 [])) h
+
+-- one more selection of a set, of which something is collected
+pub walked : {A : Type 0} (f : Sels → List A) (g : Selection → List A) → ((x : Selection) (t : Sels) → f (sel_before x t) ≡ g x ++ f t) → (xs : List Selection) (i : ℕ) (x : Selection) (old new whole : List A)
+    → i < length xs → x ≡ get_or xs i x → new ≡ old ++ g x → old ++ f (sels_of (drop i xs)) ≡ whole → new ++ f (sels_of (drop (i + 1) xs)) ≡ whole
+walked {A = A} f g law xs i x old new whole h is e w =
+    let rest : Sels = sels_of (drop (i + 1) xs) in
+    let same : drop i xs ≡ get_or xs i x ∷ drop (i + 1) xs = rw add-one (drop-cons xs i x h) in
+    ap (λ (l : List A). l ++ f rest) e ∙ append_assoc old (g x) (f rest) ∙ ap (λ (l : List A). old ++ l) (sym (law x rest))
+    ∙ ap (λ (y : Selection). old ++ f (sel_before y rest)) is ∙ sym (ap (λ (ys : List Selection). old ++ f (sels_of ys)) same) ∙ w

@@ -1,0 +1,14 @@
+-- What is noted and what is left are the whole.
+use Rattle.std.proofs.Common.{◌≡◌, List, map, drop}
+use Rattle.schema_types.specs.FieldRules as rules
+use Rattle.schema_types.specs.Graphs.{Tells}
+use Rattle.schema_types.specs.Leasts.{noted}
+use Rattle.schema_types.specs.Rules.{each}
+use Rattle.schema_types.specs.Sites.{FragmentAt}
+use Rattle.doc_sites.specs.SitesView.{site_of}
+use Rattle.doc_fields.specs.Fragments.{conditions_of}
+use Rattle.doc_fields.proofs.conditions.note_never_in.Given as goal
+
+abbrev pub invariant-sites : goal.invariant-sites
+invariant-sites l = (fs : List FragmentAt) → Tells l.conditions (conditions_of fs)
+    → noted l.least.at (each (rules.never_applies_at l.schema fs) (map site_of (drop l.site-index l.sites))) ≡ noted l.initial.least.at (each (rules.never_applies_at l.schema fs) (map site_of l.sites))

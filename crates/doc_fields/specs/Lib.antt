@@ -1,0 +1,4 @@
+pub mod Bases
+pub mod Fragments
+pub mod Keys
+pub mod Heads

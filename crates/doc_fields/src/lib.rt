@@ -1,0 +1,18 @@
+//! The rules on the fields of documents: V7 to V11 (GraphQL, October 2021, sections 5.2.3, 5.3.1,
+//! 5.3.3 and 5.5.2.3; V9 is this project's own).
+#![tactic(auto)]
+
+mod checking;
+mod conditions;
+mod floats;
+mod heads;
+mod keys;
+mod sets;
+mod spreads;
+mod subscriptions;
+mod undefined;
+
+pub use checking::check_fields;
+
+#[cfg(test)]
+mod tests;
