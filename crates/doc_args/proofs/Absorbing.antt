@@ -1,0 +1,122 @@
+-- Places that change nothing, since they are noted already.
+use Rattle.std.proofs.Common.{◌≡◌, ℕ, Bool, true, false, true≢false, cond, ◌||◌, List, [], ◌∷◌, ◌++◌, Option, Some, None, bytes_eq, refl, ap, sym, ◌∙◌, arith}
+use Rattle.std.proofs.lemmas.Slice.Eq.{bytes_eq-Decides}
+use Rattle.gql_plain.specs.Order.{has_text}
+use Rattle.schema_types.specs.ArgumentRules.{Use}
+use Rattle.schema_types.specs.Leasts.{lower, noted}
+use Rattle.schema_types.specs.Rules.{each}
+use Rattle.schema_types.specs.Types.{Text}
+use Rattle.schema_types.proofs.LeastSteps.{noted-append, each-append}
+use Rattle.schema_types.proofs.Settled.{same_text}
+use Rattle.doc_args.specs.Gathered.{named_uses, uses_named}
+
+-- ---- the order of places does not matter
+
+two : (o : Option ℕ) (a b : ℕ) → Some (lower (Some (lower o a)) b) ≡ Some (lower (Some (lower o b)) a)
+two None a b = ap Some (omega arith)
+two (Some m) a b = ap Some (omega arith)
+
+one_last : (o : Option ℕ) (a : ℕ) (ns : List ℕ) → noted (Some (lower o a)) ns ≡ Some (lower (noted o ns) a)
+one_last o a [] = refl
+one_last o a (n ∷ ns) = ap (λ (x : Option ℕ). noted x ns) (two o a n) ∙ one_last (Some (lower o n)) a ns
+
+swap : (o : Option ℕ) (a b : List ℕ) → noted (noted o a) b ≡ noted (noted o b) a
+swap o [] b = refl
+swap o (n ∷ a) b = swap (Some (lower o n)) a b ∙ ap (λ (x : Option ℕ). noted x a) (one_last o n b)
+
+again : (o : Option ℕ) (n : ℕ) → Some (lower (Some (lower o n)) n) ≡ Some (lower o n)
+again None n = ap Some (omega arith)
+again (Some m) n = ap Some (omega arith)
+
+twice : (o : Option ℕ) (ns : List ℕ) → noted (noted o ns) ns ≡ noted o ns
+twice o [] = refl
+twice o (n ∷ ns) =
+    ap (λ (x : Option ℕ). noted x ns) (sym (one_last (Some (lower o n)) n ns) ∙ ap (λ (x : Option ℕ). noted x ns) (again o n))
+    ∙ twice (Some (lower o n)) ns
+
+-- ---- what changes nothing
+
+Absorbs : Option ℕ → List ℕ → Type 0
+Absorbs q ns = noted q ns ≡ q
+
+absorbs_first : (q : Option ℕ) (a b : List ℕ) → noted q (a ++ b) ≡ q → noted q a ≡ q
+absorbs_first q a b h =
+    let both : noted (noted q a) b ≡ q = sym (noted-append q a b) ∙ h in
+    sym (ap (λ (x : Option ℕ). noted x a) both) ∙ swap (noted q a) b a ∙ ap (λ (x : Option ℕ). noted x b) (twice q a) ∙ both
+
+absorbs_second : (q : Option ℕ) (a b : List ℕ) → noted q (a ++ b) ≡ q → noted q b ≡ q
+absorbs_second q a b h =
+    let both : noted (noted q a) b ≡ q = sym (noted-append q a b) ∙ h in
+    sym (ap (λ (x : Option ℕ). noted x b) both) ∙ twice (noted q a) b ∙ both
+
+absorbs_both : (q : Option ℕ) (a b : List ℕ) → noted q a ≡ q → noted q b ≡ q → noted q (a ++ b) ≡ q
+absorbs_both q a b f g = noted-append q a b ∙ ap (λ (x : Option ℕ). noted x b) f ∙ g
+
+same_name : (n : Text) → bytes_eq n n ≡ true
+same_name n = (bytes_eq-Decides n n).1 refl
+
+-- what is wrong with the uses in the parts of a name, where that name is one of the parts' names
+abbrev wrong_in : (Use → List ℕ) → List Text → Text × List Use → List ℕ
+wrong_in wrong names p = cond (has_text names p.0) (each wrong p.1) []
+
+abbrev wrong_named : (Use → List ℕ) → List (Text × List Use) → Text → List ℕ
+wrong_named wrong ps n = each wrong (uses_named ps n)
+
+named_absorbed : (wrong : Use → List ℕ) (q : Option ℕ) (names : List Text) (n : Text) → has_text names n ≡ true → (ps : List (Text × List Use))
+    → noted q (each (wrong_in wrong names) ps) ≡ q → noted q (wrong_named wrong ps n) ≡ q
+named_absorbed wrong q names n h [] a = refl
+named_absorbed wrong q names n h (p ∷ ps) a =
+    ap (noted q) (each-append wrong (named_uses p n) (uses_named ps n))
+    ∙ absorbs_both q (each wrong (named_uses p n)) (wrong_named wrong ps n) (on (bytes_eq p.0 n) refl)
+    (named_absorbed wrong q names n h ps (absorbs_second q (wrong_in wrong names p) (each (wrong_in wrong names) ps) a))
+  where
+    on : (b : Bool) → bytes_eq p.0 n ≡ b → noted q (each wrong (cond b p.1 [])) ≡ q
+    on true e =
+        let there : has_text names p.0 ≡ true = ap (has_text names) (same_text p.0 n e) ∙ h in
+        sym (ap (λ (b : Bool). noted q (cond b (each wrong p.1) [])) there) ∙ absorbs_first q (wrong_in wrong names p) (each (wrong_in wrong names) ps) a
+    on false e = refl
+
+all_absorbed : (wrong : Use → List ℕ) (q : Option ℕ) (names : List Text) (ps : List (Text × List Use)) → noted q (each (wrong_in wrong names) ps) ≡ q
+    → (ns : List Text) → ((n : Text) → has_text ns n ≡ true → has_text names n ≡ true) → noted q (each (wrong_named wrong ps) ns) ≡ q
+all_absorbed wrong q names ps a [] h = refl
+all_absorbed wrong q names ps a (n ∷ ns) h =
+    absorbs_both q (wrong_named wrong ps n) (each (wrong_named wrong ps) ns)
+    (named_absorbed wrong q names n (h n (ap (λ (b : Bool). b || has_text ns n) (same_name n))) ps a)
+    (all_absorbed wrong q names ps a ns (λ m g. h m (ap (λ (b : Bool). bytes_eq n m || b) g ∙ or_true (bytes_eq n m))))
+  where
+    or_true : (b : Bool) → (b || true) ≡ true
+    or_true true = refl
+    or_true false = refl
+
+-- the uses of one name, where those of all names are noted
+name_absorbed : (wrong : Use → List ℕ) (q : Option ℕ) (ps : List (Text × List Use)) (n : Text) (ns : List Text) → noted q (each (wrong_named wrong ps) ns) ≡ q
+    → has_text ns n ≡ true → noted q (wrong_named wrong ps n) ≡ q
+name_absorbed wrong q ps n [] a h = absurd (true≢false (sym h))
+name_absorbed wrong q ps n (m ∷ ns) a h = on (bytes_eq m n) refl h (λ g. name_absorbed wrong q ps n ns (absorbs_second q (wrong_named wrong ps m) (each (wrong_named wrong ps) ns) a) g)
+  where
+    on : (b : Bool) → bytes_eq m n ≡ b → (b || has_text ns n) ≡ true → (has_text ns n ≡ true → noted q (wrong_named wrong ps n) ≡ q) → noted q (wrong_named wrong ps n) ≡ q
+    on true e g rest = sym (ap (λ (t : Text). noted q (wrong_named wrong ps t)) (same_text m n e)) ∙ absorbs_first q (wrong_named wrong ps m) (each (wrong_named wrong ps) ns) a
+    on false e g rest = rest g
+
+parts_absorbed : (wrong : Use → List ℕ) (q : Option ℕ) (names : List Text) (ps : List (Text × List Use))
+    → ((n : Text) → has_text names n ≡ true → noted q (wrong_named wrong ps n) ≡ q) → noted q (each (wrong_in wrong names) ps) ≡ q
+parts_absorbed wrong q names [] h = refl
+parts_absorbed wrong q names (p ∷ ps) h =
+    absorbs_both q (wrong_in wrong names p) (each (wrong_in wrong names) ps) (on (has_text names p.0) refl)
+    (parts_absorbed wrong q names ps (λ n g. absorbs_second q (each wrong (named_uses p n)) (wrong_named wrong ps n) (sym (ap (noted q) (each-append wrong (named_uses p n) (uses_named ps n))) ∙ h n g)))
+  where
+    on : (b : Bool) → has_text names p.0 ≡ b → noted q (cond b (each wrong p.1) []) ≡ q
+    on true e =
+        sym (ap (λ (b : Bool). noted q (each wrong (cond b p.1 []))) (same_name p.0))
+        ∙ absorbs_first q (each wrong (named_uses p p.0)) (wrong_named wrong ps p.0) (sym (ap (noted q) (each-append wrong (named_uses p p.0) (uses_named ps p.0))) ∙ h p.0 e)
+    on false e = refl
+
+-- the uses of each name, and the uses in the parts that have one of the names
+pub by_name : (wrong : Use → List ℕ) (o : Option ℕ) (names : List Text) (ps : List (Text × List Use))
+    → noted o (each (λ n. each wrong (uses_named ps n)) names) ≡ noted o (each (λ p. cond (has_text names p.0) (each wrong p.1) []) ps)
+by_name wrong o names ps =
+    let left : List ℕ = each (wrong_named wrong ps) names in
+    let right : List ℕ = each (wrong_in wrong names) ps in
+    let left_absorbs : noted (noted o left) right ≡ noted o left = parts_absorbed wrong (noted o left) names ps (λ n h. name_absorbed wrong (noted o left) ps n names (twice o left) h) in
+    let right_absorbs : noted (noted o right) left ≡ noted o right = all_absorbed wrong (noted o right) names ps (twice o right) names (λ n h. h) in
+    sym left_absorbs ∙ swap o left right ∙ right_absorbs

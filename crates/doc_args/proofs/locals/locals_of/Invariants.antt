@@ -1,0 +1,11 @@
+-- What is collected and what is left are the whole.
+use Rattle.std.proofs.Common.{◌≡◌, ◌++◌, map, drop}
+use Rattle.schema_types.specs.Rules.{each}
+use Rattle.schema_types.specs.LocatedView.{name_of}
+use Rattle.doc_sites.specs.SitesView.{directive_of}
+use Rattle.doc_args.specs.Locals.{located_locals}
+use Rattle.doc_args.proofs.locals.locals_of.Given as goal
+
+abbrev pub invariant-directives : goal.invariant-directives
+invariant-directives l =
+    map name_of l.names.items ++ each located_locals (map directive_of (drop l.directive-index l.directives)) ≡ each located_locals (map directive_of l.directives)

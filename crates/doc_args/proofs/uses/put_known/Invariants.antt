@@ -1,0 +1,11 @@
+-- What is put and what is left are the whole.
+use Rattle.std.proofs.Common.{◌≡◌, ◌++◌, map, drop}
+use Rattle.schema_types.specs.ArgumentRules as rules
+use Rattle.schema_types.specs.Rules.{each}
+use Rattle.doc_sites.specs.SitesView.{argument_of}
+use Rattle.doc_args.specs.UseView.{use_of}
+use Rattle.doc_args.proofs.uses.put_known.Given as goal
+
+abbrev pub invariant-arguments : goal.invariant-arguments
+invariant-arguments l =
+    map use_of l.uses.items ++ each (rules.uses_of_argument l.schema (rules.inputs l.inputs)) (map argument_of (drop l.argument-index l.arguments)) ≡ map use_of l.initial.uses.items ++ each (rules.uses_of_argument l.schema (rules.inputs l.inputs)) (map argument_of l.arguments)

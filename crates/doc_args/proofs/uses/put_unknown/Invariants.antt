@@ -1,0 +1,10 @@
+-- What is put and what is left are the whole.
+use Rattle.std.proofs.Common.{◌≡◌, ◌++◌, map, drop}
+use Rattle.schema_types.specs.Rules.{each}
+use Rattle.doc_sites.specs.SitesView.{argument_of}
+use Rattle.doc_args.specs.UseView.{use_of, uses_unknown}
+use Rattle.doc_args.proofs.uses.put_unknown.Given as goal
+
+abbrev pub invariant-arguments : goal.invariant-arguments
+invariant-arguments l =
+    map use_of l.uses.items ++ each (uses_unknown l.schema) (map argument_of (drop l.argument-index l.arguments)) ≡ map use_of l.initial.uses.items ++ each (uses_unknown l.schema) (map argument_of l.arguments)

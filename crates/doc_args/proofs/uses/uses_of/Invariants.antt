@@ -1,0 +1,11 @@
+-- What is collected and what is left are the whole.
+use Rattle.std.proofs.Common.{◌≡◌, ◌++◌, map, drop}
+use Rattle.schema_types.specs.ArgumentRules as rules
+use Rattle.schema_types.specs.Rules.{each}
+use Rattle.doc_args.specs.CallView.{call_of}
+use Rattle.doc_args.specs.UseView.{use_of}
+use Rattle.doc_args.proofs.uses.uses_of.Given as goal
+
+abbrev pub invariant-calls : goal.invariant-calls
+invariant-calls l =
+    map use_of l.uses.items ++ each (rules.uses_of_call l.schema) (map call_of (drop l.call-index l.call-items)) ≡ each (rules.uses_of_call l.schema) (map call_of l.call-items)

@@ -1,0 +1,10 @@
+pub mod CallView
+pub mod Named
+pub mod GivenNames
+pub mod Literals
+pub mod Directed
+pub mod UseView
+pub mod Locals
+pub mod Spreads
+pub mod Parts
+pub mod Gathered

@@ -1,0 +1,105 @@
+//! Arguments as they are given to a field or a directive, and what that takes (GraphQL, October
+//! 2021, sections 5.4 and 3.13).
+ghost use Rattle.std.specs.Prelude.{◌≡◌, map, Some, option_copied};
+ghost use Rattle.schema_types.specs.ArgumentRules as rules;
+ghost use Rattle.schema_types.specs.LocatedView.{name_of};
+ghost use Rattle.doc_sites.specs.SitesView.{argument_of, directive_of};
+ghost use Rattle.doc_args.specs.CallView.{call_of, field_call, takes_of};
+
+use doc_sites::{ArgumentAt, DirectiveAt};
+use schema_types::located::NameAt;
+use schema_types::{InputDefs, Schema};
+
+/// The arguments that a field or a directive takes.
+#[derive(Clone, Copy)]
+pub(crate) enum Takes<'a> {
+    /// These.
+    Inputs(&'a InputDefs),
+    /// None.
+    Nothing,
+    /// Any.
+    Free,
+    /// It is not known which.
+    Unknown,
+}
+
+/// A field or a directive with its arguments.
+#[derive(Clone, Copy)]
+pub(crate) struct Call<'d, 'a> {
+    pub(crate) name: NameAt<'a>,
+    pub(crate) takes: Takes<'a>,
+    pub(crate) arguments: &'d [ArgumentAt<'a>],
+}
+
+/// What a field takes, where the type around it is known and has it.
+pub(crate) fn field_takes<'a>(schema: &'a Schema, around: Option<&'a str>, name: &str) -> Takes<'a>
+    ensures { takes_of result ≡ rules.field_takes schema.now (option_copied around.entry) name.now }
+{
+    match around {
+        Some(of) => takes_on(schema, of, name),
+        None => Takes::Unknown,
+    }
+}
+
+/// What a field takes on a type that is known.
+fn takes_on<'a>(schema: &'a Schema, of: &str, name: &str) -> Takes<'a>
+    ensures { takes_of result ≡ rules.field_takes schema.now (Some of.now) name.now }
+{
+    if name == "__typename" {
+        return Takes::Nothing;
+    }
+    match schema.field(of, name) {
+        Some(field) => Takes::Inputs(&field.arguments),
+        None => Takes::Unknown,
+    }
+}
+
+/// Whether a directive takes any argument.
+fn is_free(name: &str) -> bool
+    ensures { result ≡ rules.is_free name.now }
+{
+    name == "arguments" || name == "argumentDefinitions"
+}
+
+/// What a directive takes.
+fn directive_takes<'a>(schema: &'a Schema, name: &str) -> Takes<'a>
+    ensures { takes_of result ≡ rules.directive_takes schema.now name.now }
+{
+    if is_free(name) {
+        return Takes::Free;
+    }
+    match schema.directive(name) {
+        Some(directive) => Takes::Inputs(&directive.arguments),
+        None => Takes::Unknown,
+    }
+}
+
+/// A directive with its arguments.
+pub(crate) fn directive_call<'d, 'a>(
+    schema: &'a Schema,
+    directive: &'d DirectiveAt<'a>,
+) -> Call<'d, 'a>
+    ensures { call_of result ≡ rules.directive_call schema.now (directive_of directive.now) }
+{
+    Call {
+        name: directive.name,
+        takes: directive_takes(schema, directive.name.name),
+        arguments: &directive.arguments,
+    }
+}
+
+/// A field with its arguments.
+pub(crate) fn field_call<'d, 'a>(
+    schema: &'a Schema,
+    around: Option<&'a str>,
+    name: NameAt<'a>,
+    arguments: &'d [ArgumentAt<'a>],
+) -> Call<'d, 'a>
+    ensures { call_of result ≡ field_call schema.now (option_copied around.entry) (name_of name.entry) (map argument_of arguments.now) }
+{
+    Call {
+        name,
+        takes: field_takes(schema, around, name.name),
+        arguments,
+    }
+}
