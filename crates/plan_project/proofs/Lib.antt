@@ -1,0 +1,4 @@
+pub mod Codes
+pub mod DocumentLaws
+pub mod ProjectLaws
+pub mod RuleLaws

@@ -1,0 +1,56 @@
+-- The rules on documents in three groups, one after another.
+use Rattle.std.proofs.Common.{List, ◌++◌, ◌∙◌}
+use Rattle.gql_ast.specs.declared.document.Document.{Document}
+use Rattle.gql_ast.specs.declared.place.Placed.{Placed}
+use Rattle.plan_project.specs.Projects.{document_rules}
+use Rattle.schema_types.proofs.LeastSteps.{first_before, first_after}
+use Rattle.schema_types.specs.DocumentRules.{Rules, name_rules, field_rules, argument_rules, trees_of, Meet, BreakRule, AreFaulty}
+use Rattle.schema_types.specs.Sites.{DefinitionAt, all_definitions}
+use Rattle.schema_types.specs.Types.{Defs}
+use Rattle.schema_types.specs.declared.fault.ProjectFault.{ProjectFault}
+use Rattle.schema_types.specs.declared.fault.RuleFault.{RuleFault}
+use Rattle.schema_types.specs.declared.fault.RuleFault.TheVariants as F
+
+module _ (defs : Defs) (ps : List (Placed Document)) where
+  abbrev ds : List DefinitionAt
+  ds = all_definitions defs (trees_of ps)
+
+  -- the rules on fields and those on arguments
+  abbrev later : Rules
+  later = field_rules defs ds ++ argument_rules defs ds
+
+  names_broken : (f : ProjectFault) → BreakRule name_rules defs ps f → BreakRule document_rules defs ps f
+  names_broken f b = record {
+    rule = b.rule;
+    node = b.node;
+    first = first_before (name_rules defs ds) later (b.rule, b.node) b.first;
+    fault = b.fault;
+  }
+
+  fields_broken : (f : ProjectFault) → Meet name_rules defs ps → BreakRule field_rules defs ps f → BreakRule document_rules defs ps f
+  fields_broken f names b = record {
+    rule = b.rule;
+    node = b.node;
+    first = first_after (name_rules defs ds) later names ∙ first_before (field_rules defs ds) (argument_rules defs ds) (b.rule, b.node) b.first;
+    fault = b.fault;
+  }
+
+  arguments_broken : (f : ProjectFault) → Meet name_rules defs ps → Meet field_rules defs ps → BreakRule argument_rules defs ps f → BreakRule document_rules defs ps f
+  arguments_broken f names fields b = record {
+    rule = b.rule;
+    node = b.node;
+    first = first_after (name_rules defs ds) later names ∙ first_after (field_rules defs ds) (argument_rules defs ds) fields ∙ b.first;
+    fault = b.fault;
+  }
+
+  pub names_faulty : (e : RuleFault) → AreFaulty name_rules defs ps e → AreFaulty document_rules defs ps e
+  names_faulty F.NoMemory h = tt
+  names_faulty (F.Rule f) h = names_broken f h
+
+  pub fields_faulty : (e : RuleFault) → Meet name_rules defs ps → AreFaulty field_rules defs ps e → AreFaulty document_rules defs ps e
+  fields_faulty F.NoMemory names h = tt
+  fields_faulty (F.Rule f) names h = fields_broken f names h
+
+  pub arguments_faulty : (e : RuleFault) → Meet name_rules defs ps → Meet field_rules defs ps → AreFaulty argument_rules defs ps e → AreFaulty document_rules defs ps e
+  arguments_faulty F.NoMemory names fields h = tt
+  arguments_faulty (F.Rule f) names fields h = arguments_broken f names fields h

@@ -1,0 +1,96 @@
+-- The project that files are, or its first fault: a fault of a text in the order of the files, a rule of schemas, a rule of documents.
+-- Files are the schema and then the documents, numbered from 0.
+use Rattle.std.specs.Prelude.{◌≡◌, ◌⊎◌, ℕ, suc, List, [], ◌∷◌, ◌++◌}
+use Rattle.gql_ast.specs.declared.document.Document.{Document}
+use Rattle.gql_ast.specs.declared.fault.ParseFault.TheVariants.{Syntax}
+use Rattle.gql_ast.specs.declared.fault.SyntaxFault.{SyntaxFault}
+use Rattle.gql_ast.specs.declared.place.Placed.{Placed}
+use Rattle.gql_ast.specs.declared.schema.SchemaTree.{SchemaTree}
+use Rattle.gql_parse.specs.Documents.{documents}
+use Rattle.gql_parse.specs.Trees.{IsDocument}
+use Rattle.gql_sdl.specs.Schemas.{schemas}
+use Rattle.gql_sdl.specs.Trees.{IsSchema}
+use Rattle.gql_syntax.specs.Texts.{IsParseFault}
+use Rattle.schema_types.specs.Checked.{IsSound, Breaks}
+use Rattle.schema_types.specs.DocumentRules.{Rules, name_rules, field_rules, argument_rules, Meet, BreakRule}
+use Rattle.schema_types.specs.Sites.{DefinitionAt}
+use Rattle.schema_types.specs.Types.{Text, Defs}
+use Rattle.schema_types.specs.declared.fault.ProjectFault.{ProjectFault}
+use Rattle.schema_types.specs.declared.fault.Rule.{Rule}
+use Rattle.schema_types.specs.declared.fault.Rule.TheVariants as R
+
+-- the bytes of documents are these trees; the first has the number `n`
+abbrev pub AreDocuments : (n : ℕ) → List Text → List (Placed Document) → Type 0
+AreDocuments n [] [] = Unit {0}
+AreDocuments n [] (p ∷ ps) = ⊥
+AreDocuments n (text ∷ texts) [] = ⊥
+AreDocuments n (text ∷ texts) (p ∷ ps) = IsDocument n text p × AreDocuments (suc n) texts ps
+
+-- the trees of a schema and of documents
+pub record AreTrees (schema : Text) (texts : List Text) (tree : Placed SchemaTree) (ps : List (Placed Document)) : Type 0 where
+  pub schema_is : IsSchema 0 schema tree
+  pub documents_are : AreDocuments 1 texts ps
+
+-- all rules on documents in their order
+abbrev pub document_rules : Defs → List DefinitionAt → Rules
+document_rules defs ds = name_rules defs ds ++ (field_rules defs ds ++ argument_rules defs ds)
+
+-- ---- the accepted project: what its schema says, and its documents
+
+pub record IsAccepted (schema : Text) (texts : List Text) (defs : Defs) (ps : List (Placed Document)) : Type 0 where
+  pub tree : Placed SchemaTree
+  pub trees : AreTrees schema texts tree ps
+  pub says : defs ≡ tree.tree.definitions
+  pub sound : IsSound defs
+  pub meet : Meet document_rules defs ps
+
+-- ---- the first fault
+
+abbrev pub syntax_rule : (code : ℕ) → Rule → Type 0
+syntax_rule code R.L1 = code ≡ 1
+syntax_rule code R.L2 = code ≡ 2
+syntax_rule code R.L3 = code ≡ 3
+syntax_rule code R.L4 = code ≡ 4
+syntax_rule code R.L5 = code ≡ 5
+syntax_rule code R.L6 = code ≡ 6
+syntax_rule code R.L7 = code ≡ 7
+syntax_rule code R.L8 = code ≡ 8
+syntax_rule code r = ⊥
+
+-- the fault of a text, by its rule
+pub record IsSyntaxOf (s : SyntaxFault) (f : ProjectFault) : Type 0 where
+  pub file : f.file ≡ s.file
+  pub line : f.line ≡ s.line
+  pub column : f.column ≡ s.column
+  pub rule : syntax_rule s.code f.rule
+
+-- the first of these texts that is no document has this fault
+abbrev pub IsDocumentsFault : (n : ℕ) → List Text → ProjectFault → Type 0
+IsDocumentsFault n [] f = ⊥
+IsDocumentsFault n (text ∷ texts) f =
+    ((s : SyntaxFault) × IsParseFault documents n text (Syntax s) × IsSyntaxOf s f)
+    ⊎ ((p : Placed Document) × IsDocument n text p × IsDocumentsFault (suc n) texts f)
+
+-- the text of the schema is none of a schema, or else a text of a document is none
+abbrev pub IsTextFault : (schema : Text) → List Text → ProjectFault → Type 0
+IsTextFault schema texts f =
+    ((s : SyntaxFault) × IsParseFault schemas 0 schema (Syntax s) × IsSyntaxOf s f)
+    ⊎ ((p : Placed SchemaTree) × IsSchema 0 schema p × IsDocumentsFault 1 texts f)
+
+-- all are read, and the schema breaks a rule
+pub record IsSchemaFault (schema : Text) (texts : List Text) (f : ProjectFault) : Type 0 where
+  pub tree : Placed SchemaTree
+  pub ps : List (Placed Document)
+  pub trees : AreTrees schema texts tree ps
+  pub breaks : Breaks tree f
+
+-- all are read, the schema breaks no rule, and the documents break one
+pub record IsDocumentFault (schema : Text) (texts : List Text) (f : ProjectFault) : Type 0 where
+  pub tree : Placed SchemaTree
+  pub ps : List (Placed Document)
+  pub trees : AreTrees schema texts tree ps
+  pub sound : IsSound tree.tree.definitions
+  pub breaks : BreakRule document_rules tree.tree.definitions ps f
+
+abbrev pub IsFirstFault : (schema : Text) → List Text → ProjectFault → Type 0
+IsFirstFault schema texts f = IsTextFault schema texts f ⊎ (IsSchemaFault schema texts f ⊎ IsDocumentFault schema texts f)

@@ -1,0 +1,29 @@
+//! The rules on documents, in their order.
+ghost use Rattle.std.specs.Prelude.{OnOk, IfErr};
+ghost use Rattle.plan_project.specs.Projects.{document_rules};
+ghost use Rattle.schema_types.specs.DocumentRules.{Meet, AreFaulty};
+
+use doc_args::check_args;
+use doc_fields::check_fields;
+use doc_names::check_names;
+use gql_ast::Documents;
+use schema_types::{RuleFault, Schema};
+use std::alloc::Global;
+
+/// Whether documents meet the rules V1 to V16 (GraphQL, October 2021, section 5).
+///
+/// # Errors
+///
+/// The first rule that they do not meet, at its least place; `NoMemory`.
+pub(crate) fn check_documents(
+    alloc: Global,
+    schema: &Schema,
+    documents: &Documents,
+) -> Result<(), RuleFault>
+    ensures met { OnOk result (Meet document_rules schema.now documents.now) }
+    ensures fault { IfErr result (AreFaulty document_rules schema.now documents.now) }
+{
+    check_names(alloc, schema, documents)?;
+    check_fields(alloc, schema, documents)?;
+    check_args(alloc, schema, documents)
+}

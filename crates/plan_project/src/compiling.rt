@@ -1,0 +1,78 @@
+//! The project that files are, or its first fault.
+ghost use Rattle.std.specs.Prelude.{◌≤◌, ◌<◌, ◌^◌, ◌-◌, length, IfOk, IfErr};
+ghost use Rattle.plan_project.specs.Verdicts.{AreTheProject, HaveTheFault, IsTheProject, IsRefusal, texts_of};
+
+use crate::checking::check_documents;
+use crate::file::ProjectFile;
+use crate::parsing::{fault_of, parse_documents};
+use gql_ast::Documents;
+use gql_plain::NoMemory;
+use gql_sdl::parse_schema;
+use schema_types::{ProjectFault, RuleFault, Schema};
+use std::alloc::Global;
+
+/// An accepted project: what its schema says, and its documents as they were checked, in the order of
+/// the files.
+#[derive(Drop)]
+pub struct Project {
+    pub schema: Schema,
+    pub documents: Documents,
+}
+
+/// Why there is no project.
+#[derive(Clone, Copy, Debug, Drop)]
+pub enum CompileFault {
+    /// The first fault: of a text, else of the schema, else of the documents. Its file is 0 for the
+    /// schema, and is numbered from 1 for the documents.
+    Refused(ProjectFault),
+    NoMemory,
+}
+
+/// The project that files are, of which the first is the schema and the others are documents.
+///
+/// # Errors
+///
+/// The fault of the first file that is no text of its grammar; else the first of the rules S1 to S12
+/// that the schema does not meet; else the first of the rules V1 to V16 that the documents do not
+/// meet; each at its least place by file, line and column. `NoMemory`.
+pub fn compile(alloc: Global, files: &[ProjectFile]) -> Result<Project, CompileFault>
+    requires least { 2 ≤ length files.now }
+    requires most { length files.now < 2 ^ 32 }
+    ensures project { IfOk result (λ p. AreTheProject files.now p.schema p.documents) }
+    ensures fault { IfErr result (HaveTheFault files.now) }
+{
+    compile_files(alloc, &files[0], &files[1..])
+}
+
+/// The project of a schema and of documents.
+fn compile_files(
+    alloc: Global,
+    schema: &ProjectFile,
+    documents: &[ProjectFile],
+) -> Result<Project, CompileFault>
+    requires { length documents.now < 2 ^ 32 - 1 }
+    ensures project { IfOk result (λ p. IsTheProject schema.now.1 (texts_of documents.now) p.schema p.documents) }
+    ensures fault { IfErr result (IsRefusal schema.now.1 (texts_of documents.now)) }
+{
+    let tree = match parse_schema(alloc, 0, schema.as_bytes()) {
+        Ok(tree) => tree,
+        Err(fault) => return Err(fault_of(fault)),
+    };
+    let trees = match parse_documents(alloc, documents) {
+        Ok(trees) => trees,
+        Err(fault) => return Err(fault_of(fault)),
+    };
+    let schema = match Schema::build(alloc, &tree) {
+        Ok(schema) => schema,
+        Err(RuleFault::Rule(fault)) => return Err(CompileFault::Refused(fault)),
+        Err(RuleFault::NoMemory) => return Err(CompileFault::NoMemory),
+    };
+    match check_documents(alloc, &schema, &trees) {
+        Ok(()) => Ok(Project {
+            schema,
+            documents: trees,
+        }),
+        Err(RuleFault::Rule(fault)) => Err(CompileFault::Refused(fault)),
+        Err(RuleFault::NoMemory) => Err(CompileFault::NoMemory),
+    }
+}

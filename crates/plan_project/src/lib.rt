@@ -1,0 +1,16 @@
+//! Projects: a schema and documents that meet all rules, or the first fault in their files (GraphQL,
+//! October 2021, sections 2, 3 and 5).
+#![tactic(auto)]
+
+mod checking;
+mod compiling;
+pub mod file;
+mod parsing;
+
+pub use compiling::{CompileFault, Project, compile};
+pub use file::ProjectFile;
+
+#[cfg(test)]
+mod rows;
+#[cfg(test)]
+mod tests;
