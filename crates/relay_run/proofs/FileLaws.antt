@@ -1,17 +1,22 @@
 -- Files are read one after another, and the project that they are, or its fault.
-use Rattle.std.proofs.Common.{◌≡◌, ◌<◌, ◌≤◌, ◌+◌, ◌-◌, ℕ, List, [], ◌∷◌, ◌++◌, map, length, min, get_or, drop, drop-cons, add-one, Bor, Bool, true, false, cond, nat_le, Option, Some, None, refl, sym, ap, subst, inl, inr, ◌∙◌, arith}
+use Rattle.std.proofs.Common.{◌≡◌, ◌<◌, ◌≤◌, ◌+◌, ◌-◌, ℕ, suc, codes, List, [], ◌∷◌, ◌++◌, map, length, min, get_or, drop, drop-cons, add-one, Bor, Bool, true, false, cond, nat_le, Option, Some, None, refl, sym, ap, subst, inl, inr, ◌∙◌, arith}
 use Rattle.std.specs.Prelude.{IsSomeAnd}
 use Rattle.std.proofs.lemmas.Bool.{leb-true, le-leb}
+use Rattle.std.proofs.lemmas.List.{length_push}
+use Rattle.plan_project.specs.Verdicts as plan
 use Rattle.relay_io.specs.Files.{file_of, GivesFile, IsAbsent, IsTooLong}
 use Rattle.relay_model.specs.Keys.{Text}
 use Rattle.relay_model.specs.Machine.{Project}
 use Rattle.relay_run.specs.Answers.{IsTheProjectOf, IsTheFaultOf}
 use Rattle.relay_run.specs.Files.{Files, Given, absent, too_long, told, within, found, documents_from, given, max_file, max_all, name_of, IsFault, IsProject}
-use Rattle.relay_run.specs.Reads.{GivesDocuments, IsDocumentAbsent, GoesOn, IsFileClosedBy, AreClosedBy}
-use Rattle.relay_run.specs.Verdicts.{AreOnlyProject, HaveOnlyFault}
+use Rattle.relay_run.specs.Reads.{GivesDocuments, GivesFiles, IsDocumentAbsent, GoesOn, IsFileClosedBy, AreClosedBy}
+use Rattle.relay_run.specs.Rules.{rule_text}
+use Rattle.relay_run.specs.Verdicts.{AreOnlyProject, HaveOnlyFault, AreProjectFiles, AreRefusedFiles}
 use Rattle.relay_run.specs.Words.{Form}
 use Rattle.relay_run.specs.declared.files.Closed.{Closed}
-use Rattle.relay_run.specs.declared.files.Closed.TheVariants.{Unread, TooLong, Fault, NotTaken, NoMemory}
+use Rattle.relay_run.specs.declared.files.Closed.TheVariants as C
+use Rattle.relay_run.specs.declared.project.ProjectRefusal.TheVariants.{Fault, NotTaken}
+use Rattle.schema_types.specs.declared.fault.ProjectFault.{ProjectFault}
 
 -- ---- one file
 
@@ -60,14 +65,14 @@ over_here (Some files) left names before left_now name other rest h e o = λ sch
 
 pub closed_here : (files : Option Files) (left : ℕ) (names before : List Text) (left_now : ℕ) (name : Text) (rest : List Text) (closed : Closed) (rose later : Type 0)
     → GoesOn files left names before left_now (name ∷ rest) → IsFileClosedBy files left_now name closed rose → (rose → later) → AreClosedBy files left names closed later
-closed_here files left names before left_now name rest Unread rose later h x up = elim x [
+closed_here files left names before left_now name rest C.Unread rose later h x up = elim x [
   | inl r ↦ inl (up r)
   | inr a ↦ inr (absent_here files left names before left_now name rest h a)
 ]
-closed_here files left names before left_now name rest (TooLong other) rose later h x up = over_here files left names before left_now name other.now rest h x.0 x.1
-closed_here files left names before left_now name rest (Fault f) rose later h x up = x
-closed_here files left names before left_now name rest (NotTaken n) rose later h x up = x
-closed_here files left names before left_now name rest NoMemory rose later h x up = tt
+closed_here files left names before left_now name rest (C.TooLong other) rose later h x up = over_here files left names before left_now name other.now rest h x.0 x.1
+closed_here files left names before left_now name rest (C.Fault f) rose later h x up = x
+closed_here files left names before left_now name rest (C.NotTaken n) rose later h x up = x
+closed_here files left names before left_now name rest C.NoMemory rose later h x up = tt
 
 -- ---- the names in a slice
 
@@ -77,24 +82,70 @@ nows names = map (λ (w : Bor Text). w.now) names
 names_drop : (names : List (Bor Text)) (i : ℕ) (d : Bor Text) → i < length names → nows (drop i names) ≡ (get_or names i d).now ∷ nows (drop (i + 1) names)
 names_drop names i d within = ap nows (drop-cons names i d within ∙ (λ j. get_or names i d ∷ drop (sym (add-one i) j) names))
 
-pub next_read : (files fs : Option Files) (left : ℕ) (names : List (Bor Text)) (before after : List Text) (left_now len i : ℕ) (d : Bor Text) (bytes : Text) → fs ≡ files
-    → i < length names → GoesOn files left (nows names) before left_now (nows (drop i names))
-    → GivesFile fs (get_or names i d).now bytes × (length bytes ≤ min max_file left_now) → after ≡ before ++ bytes ∷ [] → len ≡ length bytes
-    → GoesOn files left (nows names) after (left_now - len) (nows (drop (i + 1) names))
-next_read files fs left names before after left_now len i d bytes same within goes read pushed long =
-    let here = subst (GoesOn files left (nows names) before left_now) (names_drop names i d within) goes in
-    let given = subst (λ f. GivesFile f (get_or names i d).now bytes) same read.0 in
-    let next = goes_on-step files left (nows names) before left_now (get_or names i d).now (nows (drop (i + 1) names)) bytes here given read.1 in
-    subst (λ k. GoesOn files left (nows names) after (left_now - k) (nows (drop (i + 1) names))) (sym long)
-    (subst (λ ts. GoesOn files left (nows names) ts (left_now - length bytes) (nows (drop (i + 1) names))) (sym pushed) next)
+texts_more : (files : plan.Files) (file : Text × Text) → plan.texts_of (files ++ file ∷ []) ≡ plan.texts_of files ++ file.1 ∷ []
+texts_more [] file = refl
+texts_more (f ∷ files) file = ap (λ ts. f.1 ∷ ts) (texts_more files file)
 
-pub next_closed : (files fs : Option Files) (left : ℕ) (names : List (Bor Text)) (before : List Text) (left_now i : ℕ) (d : Bor Text) (closed : Closed) (rose later : Type 0) → fs ≡ files
-    → i < length names → GoesOn files left (nows names) before left_now (nows (drop i names)) → IsFileClosedBy fs left_now (get_or names i d).now closed rose → (rose → later)
-    → AreClosedBy files left (nows names) closed later
-next_closed files fs left names before left_now i d closed rose later same within goes x up =
-    let here = subst (GoesOn files left (nows names) before left_now) (names_drop names i d within) goes in
-    let by = subst (λ f. IsFileClosedBy f left_now (get_or names i d).now closed rose) same x in
-    closed_here files left (nows names) before left_now (get_or names i d).now (nows (drop (i + 1) names)) closed rose later here by up
+-- the schema, and the documents of the first names; those of the rest are still to be read
+abbrev pub KeepsFiles : Option Files → (schema : Text × Text) → (names : List Text) → (kept : plan.Files) → (left : ℕ) → (rest : List Text) → Type 0
+KeepsFiles files schema names [] left rest = ⊥
+KeepsFiles files schema names (first ∷ documents) left rest =
+    (first ≡ schema) × GoesOn files (max_all - length schema.1) names (plan.texts_of documents) left rest × (length documents + length rest ≡ length names)
+
+pub keeps_schema : (files : Option Files) (schema : Text × Text) (names : List Text) → KeepsFiles files schema names (schema ∷ []) (max_all - length schema.1) names
+keeps_schema None schema names = (refl, tt, omega arith)
+keeps_schema (Some files) schema names = (refl, λ s. refl, omega arith)
+
+module _ (files fs : Option Files) (schema : Text × Text) (names : List (Bor Text)) (left_now i : ℕ) (d : Bor Text) (same : fs ≡ files) (within : i < length names) where
+  abbrev next_name : Text
+  next_name = (get_or names i d).now
+
+  abbrev rest : List Text
+  rest = nows (drop (i + 1) names)
+
+  abbrev all_left : ℕ
+  all_left = max_all - length schema.1
+
+  pub keeps_more : (kept after : plan.Files) (len : ℕ) (file : Text × Text) → KeepsFiles files schema (nows names) kept left_now (nows (drop i names))
+      → GivesFile fs next_name file.1 × (length file.1 ≤ min max_file left_now) → after ≡ kept ++ file ∷ [] → len ≡ length file.1
+      → KeepsFiles files schema (nows names) after (left_now - len) rest
+  keeps_more [] after len file h read pushed long = absurd h
+  keeps_more (first ∷ documents) after len file h read pushed long =
+      let goes = subst (GoesOn files all_left (nows names) (plan.texts_of documents) left_now) (names_drop names i d within) h.1 in
+      let given = subst (λ f. GivesFile f next_name file.1) same read.0 in
+      let next = goes_on-step files all_left (nows names) (plan.texts_of documents) left_now next_name rest file.1 goes given read.1 in
+      let texts = subst (λ ts. GoesOn files all_left (nows names) ts (left_now - length file.1) rest) (sym (texts_more documents file)) next in
+      let count : length (nows (drop i names)) ≡ suc (length rest) = ap length (names_drop names i d within) in
+      let one_more : length (documents ++ file ∷ []) ≡ length documents + 1 = length_push documents file in
+      let before = h.2 in
+      subst (λ ks. KeepsFiles files schema (nows names) ks (left_now - len) rest) (sym pushed)
+      (h.0, subst (λ k. GoesOn files all_left (nows names) (plan.texts_of (documents ++ file ∷ [])) (left_now - k) rest) (sym long) texts, omega (arith, before, count, one_more))
+
+  pub next_closed : (kept : plan.Files) (closed : Closed) (rose later : Type 0) → KeepsFiles files schema (nows names) kept left_now (nows (drop i names))
+      → IsFileClosedBy fs left_now next_name closed rose → (rose → later) → AreClosedBy files all_left (nows names) closed later
+  next_closed [] closed rose later h x up = absurd h
+  next_closed (first ∷ documents) closed rose later h x up =
+      let goes = subst (GoesOn files all_left (nows names) (plan.texts_of documents) left_now) (names_drop names i d within) h.1 in
+      let by = subst (λ f. IsFileClosedBy f left_now next_name closed rose) same x in
+      closed_here files all_left (nows names) (plan.texts_of documents) left_now next_name rest closed rose later goes by up
+
+-- all are read
+pub keeps_all : (files : Option Files) (schema : Text × Text) (names : List Text) (kept : plan.Files) (left : ℕ) (rest : List Text) → rest ≡ []
+    → KeepsFiles files schema names kept left rest → GivesFiles files schema names kept
+keeps_all files schema names [] left rest e h = absurd h
+keeps_all files schema names (first ∷ documents) left rest e h =
+    let none : length rest ≡ 0 = ap length e in
+    let count = h.2 in
+    (h.0, told_all files (subst (GoesOn files (max_all - length schema.1) names (plan.texts_of documents) left) e h.1), omega (arith, count, none))
+  where
+    told_all : (fs : Option Files) → GoesOn fs (max_all - length schema.1) names (plan.texts_of documents) left []
+        → GivesDocuments fs (max_all - length schema.1) names (λ s. told s (plan.texts_of documents))
+    told_all None g = tt
+    told_all (Some told_files) g = g
+
+pub files_given : (files : Option Files) (schema : Text × Text) (names : List Text) (kept : plan.Files) → GivesFiles files schema names kept → length kept ≡ suc (length names)
+files_given files schema names [] h = absurd h
+files_given files schema names (first ∷ documents) h = ap suc h.2
 
 -- ---- all files
 
@@ -135,20 +186,35 @@ module _ (form : Form) (schema : Text) where
   fault_given None texts n line column rule e h g x = tt
   fault_given (Some files) texts n line column rule e h g x = fault_of_texts files form schema texts n line column rule (given_after files e h ∙ g schema) x
 
--- as the files are read: `len` bytes of the schema, and then these texts
-module _ (form : Form) (schema : Text) (files fs : Option Files) (len : ℕ) (here texts : List Text) where
-  abbrev Opened : Type 0
-  Opened = (fs ≡ files) × (len ≡ length schema) × (here ≡ texts) × GivesFile files form.schema schema × (length schema ≤ min max_file max_all)
-      × GivesDocuments fs (max_all - len) form.documents (λ s. told s texts)
+-- as the files are read: the schema, and then these files
+module _ (form : Form) (schema : Text × Text) (files fs : Option Files) where
+  abbrev Opened : (here kept : plan.Files) → Type 0
+  Opened here kept = (fs ≡ files) × (here ≡ kept) × GivesFile files form.schema schema.1 × (length schema.1 ≤ min max_file max_all) × GivesFiles fs schema form.documents kept
 
-  documents_given : Opened → GivesDocuments files (max_all - length schema) form.documents (λ s. told s texts)
-  documents_given o =
-      subst (λ n. GivesDocuments files (max_all - n) form.documents (λ s. told s texts)) o.1
-      (subst (λ f. GivesDocuments f (max_all - len) form.documents (λ s. told s texts)) o.0 o.5)
+  abbrev given_documents : List Text → Type 0
+  given_documents texts = GivesDocuments files (max_all - length schema.1) form.documents (λ s. told s texts)
 
-  pub project_opened : (p : Project) → Opened → AreOnlyProject schema here p → IsTheProjectOf files form p
-  project_opened p o x = project_given form schema files texts p o.3 o.4 (documents_given o) (subst (λ ts. AreOnlyProject schema ts p) o.2 x)
+  pub project_opened : (here kept : plan.Files) (p : Project) → Opened here kept → AreProjectFiles here p → IsTheProjectOf files form p
+  project_opened here [] p o x = absurd o.4
+  project_opened here (first ∷ documents) p o x =
+      let texts = plan.texts_of documents in
+      let only : AreOnlyProject first.1 texts p = subst (λ fs. AreProjectFiles fs p) o.1 x in
+      let told_here : given_documents texts = subst (λ f. GivesDocuments f (max_all - length schema.1) form.documents (λ s. told s texts)) o.0 o.4.1 in
+      project_given form schema.1 files texts p o.2 o.3 told_here (subst (λ (s : Text × Text). AreOnlyProject s.1 texts p) o.4.0 only)
 
-  pub fault_opened : (n line column : ℕ) (rule : Text) → Opened → HaveOnlyFault schema here n line column rule → IsTheFaultOf files form (name_of form n) line column rule
-  fault_opened n line column rule o x =
-      fault_given form schema files texts n line column rule o.3 o.4 (documents_given o) (subst (λ ts. HaveOnlyFault schema ts n line column rule) o.2 x)
+  found_opened : (first : Text × Text) (documents : plan.Files) (n line column : ℕ) (rule : Text) → (fs ≡ files) × GivesFile files form.schema schema.1 × (length schema.1 ≤ min max_file max_all)
+      × GivesFiles fs schema form.documents (first ∷ documents) → HaveOnlyFault first.1 (plan.texts_of documents) n line column rule → IsTheFaultOf files form (name_of form n) line column rule
+  found_opened first documents n line column rule o x =
+      let texts = plan.texts_of documents in
+      let told_here : given_documents texts = subst (λ f. GivesDocuments f (max_all - length schema.1) form.documents (λ s. told s texts)) o.0 o.3.1 in
+      fault_given form schema.1 files texts n line column rule o.1 o.2 told_here (subst (λ (s : Text × Text). HaveOnlyFault s.1 texts n line column rule) o.3.0 x)
+
+  pub fault_opened : (here kept : plan.Files) (f : ProjectFault) → Opened here kept → AreRefusedFiles here (Fault f) → IsTheFaultOf files form (name_of form f.file) f.line f.column (rule_text f.rule)
+  fault_opened here [] f o x = absurd o.4
+  fault_opened here (first ∷ documents) f o x =
+      found_opened first documents f.file f.line f.column (rule_text f.rule) (o.0, o.2, o.3, o.4) (subst (λ fs. AreRefusedFiles fs (Fault f)) o.1 x)
+
+  pub not_taken_opened : (here kept : plan.Files) (n : ℕ) → Opened here kept → AreRefusedFiles here (NotTaken n) → IsTheFaultOf files form (name_of form n) 1 1 (codes "N1")
+  not_taken_opened here [] n o x = absurd o.4
+  not_taken_opened here (first ∷ documents) n o x =
+      found_opened first documents n 1 1 (codes "N1") (o.0, o.2, o.3, o.4) (subst (λ fs. AreRefusedFiles fs (NotTaken n)) o.1 x)

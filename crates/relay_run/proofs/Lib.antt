@@ -13,7 +13,5 @@ pub mod EngineLaws
 pub mod Truths
 pub mod PlainFields
 pub mod PlainDocuments
-pub mod Codes
 pub mod ProjectLaws
-pub mod DocumentLaws
 pub mod FileLaws

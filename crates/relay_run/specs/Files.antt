@@ -1,9 +1,10 @@
 -- What the files that the words name hold, and what is at fault in them.
 use Rattle.std.specs.Prelude.{◌≡◌, ◌⊎◌, ℕ, ◌-◌, ◌^◌, List, [], ◌∷◌, ◌++◌, length, min, codes, cond, nat_le, slice_index_or, Option, Some, None, ⊤}
+use Rattle.plan_project.specs.Projects.{IsFirstFault}
 use Rattle.relay_io.specs.Files.{file_of}
 use Rattle.relay_model.specs.Keys.{Text}
 use Rattle.relay_model.specs.Machine.{Project}
-use Rattle.relay_run.specs.Projects.{IsPlainProject, IsTextFault, IsSchemaFault, IsNotTaken}
+use Rattle.relay_run.specs.Projects.{IsPlainProject, IsNotTaken}
 use Rattle.relay_run.specs.Rules.{rule_text}
 use Rattle.relay_run.specs.Words.{Form}
 use Rattle.schema_types.specs.declared.fault.ProjectFault.{ProjectFault}
@@ -62,10 +63,10 @@ IsProjectOf (Some files) form project = IsProject (given form files) project
 abbrev pub name_of : Form → ℕ → Text
 name_of form n = slice_index_or (form.schema ∷ form.documents) n []
 
--- a rule is not met at a place of a file; the first that is told of a text, else of the schema
+-- a rule is not met at a place of a file; the first that is told of a text, else of the schema, else of the documents
 pub record BreaksRule (schema : Text) (texts : List Text) (n line column : ℕ) (rule : Text) : Type 0 where
   pub fault : ProjectFault
-  pub first : IsTextFault schema texts fault ⊎ IsSchemaFault schema texts fault
+  pub first : IsFirstFault schema texts fault
   pub file_is : n ≡ fault.file
   pub line_is : line ≡ fault.line
   pub column_is : column ≡ fault.column

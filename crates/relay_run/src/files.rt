@@ -1,16 +1,17 @@
 //! Reading the files of the project.
-ghost use Rattle.std.specs.Prelude.{◌≡◌, ◌≤◌, ◌+◌, map, min, length, IfOk, IfErr};
+ghost use Rattle.std.specs.Prelude.{◌≡◌, ◌≤◌, ◌+◌, ◌-◌, map, min, length, IfOk, IfErr};
 ghost use Rattle.gql_plain.specs.Counted.{next_count};
 ghost use Rattle.relay_io.specs.Causes.{Rose};
 ghost use Rattle.relay_io.specs.Files.{GivesFile};
 ghost use Rattle.relay_run.specs.Answers.{the_form, IsTheProjectOf};
-ghost use Rattle.relay_run.specs.Files.{max_file, name_of, told};
-ghost use Rattle.relay_run.specs.Reads.{GivesDocuments, IsClosedBy, AreClosedBy, IsFileClosedBy};
+ghost use Rattle.relay_run.specs.Files.{max_all, max_file, name_of};
+ghost use Rattle.relay_run.specs.Reads.{GivesFiles, IsClosedBy, AreClosedBy, IsFileClosedBy};
 ghost use Rattle.relay_run.specs.Shown.{project_shown};
 ghost use Rattle.relay_run.specs.Words.{max_documents};
 
-use crate::file_text::FileText;
 use crate::project::{Project, ProjectRefusal, read_project};
+use gql_plain::{NoMemory, Words};
+use plan_project::ProjectFile;
 use relay_io::{Vault, VaultFault};
 use schema_types::ProjectFault;
 use std::alloc::Global;
@@ -42,7 +43,8 @@ pub fn open_project<'a, V: Vault>(
     schema: &'a str,
     documents: &[&'a str],
 ) -> Result<Project, Closed<'a>>
-    requires { length documents.now ≤ max_documents }
+    requires least { 1 ≤ length documents.now }
+    requires most { length documents.now ≤ max_documents }
     ensures same { V.files vault.new ≡ V.files vault.old }
     ensures project { IfOk result (λ p. IsTheProjectOf (V.files vault.old) (the_form schema.now (map (λ w. w.now) documents.now)) (project_shown p)) }
     ensures closed { IfErr result (λ closed. IsClosedBy (V.files vault.old) (the_form schema.now (map (λ w. w.now) documents.now)) closed
@@ -50,15 +52,15 @@ pub fn open_project<'a, V: Vault>(
     ensures later { V.faults vault.old ≤ V.faults vault.new }
     ensures calls { V.calls vault.new ≤ V.calls vault.old + (length documents.now + 1) }
 {
-    let text = match read_file(alloc, vault, schema, MAX_ALL) {
-        Ok(text) => text,
+    let first = match read_file(alloc, vault, schema, MAX_ALL) {
+        Ok(file) => file,
         Err(closed) => return Err(closed),
     };
-    let texts = match read_documents(alloc, vault, documents, MAX_ALL - text.len()) {
-        Ok(texts) => texts,
+    let files = match read_documents(alloc, vault, first, documents) {
+        Ok(files) => files,
         Err(closed) => return Err(closed),
     };
-    match read_project(alloc, &text, &texts) {
+    match read_project(alloc, &files) {
         Ok(project) => Ok(project),
         Err(ProjectRefusal::Fault(fault)) => Err(Closed::Fault(fault)),
         Err(ProjectRefusal::NotTaken(file)) => Err(Closed::NotTaken(file)),
@@ -66,55 +68,62 @@ pub fn open_project<'a, V: Vault>(
     }
 }
 
-/// The bytes of the documents of these names, of which at most `left` are taken in all.
+/// The files of a project: its schema, which was read before, and the documents of these names.
 fn read_documents<'a, V: Vault>(
     alloc: Global,
     vault: &mut V,
+    schema: ProjectFile,
     names: &[&'a str],
-    left: usize,
-) -> Result<Vec<FileText>, Closed<'a>>
+) -> Result<Vec<ProjectFile>, Closed<'a>>
+    requires { length schema.1 ≤ max_file }
     ensures same { V.files vault.new ≡ V.files vault.old }
-    ensures texts { IfOk result (λ texts. GivesDocuments (V.files vault.old) left (map (λ w. w.now) names.now) (λ schema. told schema texts.items)
-        × (length texts.items ≡ length names.now)) }
-    ensures closed { IfErr result (λ closed. AreClosedBy (V.files vault.old) left (map (λ w. w.now) names.now) closed
+    ensures files { IfOk result (λ files. GivesFiles (V.files vault.old) schema (map (λ w. w.now) names.now) files.items) }
+    ensures closed { IfErr result (λ closed. AreClosedBy (V.files vault.old) (max_all - length schema.1) (map (λ w. w.now) names.now) closed
         (Rose (V.faults vault.old) (V.faults vault.new))) }
     ensures later { V.faults vault.old ≤ V.faults vault.new }
     ensures calls { V.calls vault.new ≤ V.calls vault.old + length names.now }
 {
-    let mut texts = Vec::new(alloc);
-    let mut left = left;
+    let mut left = MAX_ALL - schema.as_bytes().len();
+    let mut files = Vec::new(alloc);
+    if files.push(schema).is_err() {
+        return Err(Closed::NoMemory);
+    }
     'names: for name in names {
-        let text = match read_file(alloc, vault, name, left) {
-            Ok(text) => text,
+        let file = match read_file(alloc, vault, name, left) {
+            Ok(file) => file,
             Err(closed) => return Err(closed),
         };
-        let taken = text.len();
+        let taken = file.as_bytes().len();
         left -= taken;
-        if texts.push(text).is_err() {
+        if files.push(file).is_err() {
             return Err(Closed::NoMemory);
         }
     }
-    Ok(texts)
+    Ok(files)
 }
 
-/// The bytes of a file, of which at most 4 MiB and at most `left` are taken.
+/// The file of a name, of which at most 4 MiB and at most `left` bytes are taken.
 fn read_file<'a, V: Vault>(
     alloc: Global,
     vault: &mut V,
     name: &'a str,
     left: usize,
-) -> Result<FileText, Closed<'a>>
+) -> Result<ProjectFile, Closed<'a>>
     ensures same { V.files vault.new ≡ V.files vault.old }
-    ensures bytes { IfOk result (λ text. GivesFile (V.files vault.old) name.now text × (length text ≤ min max_file left)) }
+    ensures bytes { IfOk result (λ file. GivesFile (V.files vault.old) name.now file.1 × (length file.1 ≤ min max_file left)) }
     ensures closed { IfErr result (λ closed. IsFileClosedBy (V.files vault.old) left name.now closed (Rose (V.faults vault.old) (V.faults vault.new))) }
     ensures later { V.faults vault.old ≤ V.faults vault.new }
     ensures counted { V.calls vault.new ≡ next_count (V.calls vault.old) }
 {
-    match vault.read(alloc, name, left.min(MAX_FILE) as u64) {
-        Ok(bytes) => Ok(FileText::new(bytes)),
-        Err(VaultFault::Absent | VaultFault::Failed) => Err(Closed::Unread),
-        Err(VaultFault::TooLong) => Err(Closed::TooLong(name)),
-        Err(VaultFault::NoMemory) => Err(Closed::NoMemory),
+    let bytes = match vault.read(alloc, name, left.min(MAX_FILE) as u64) {
+        Ok(bytes) => bytes,
+        Err(VaultFault::Absent | VaultFault::Failed) => return Err(Closed::Unread),
+        Err(VaultFault::TooLong) => return Err(Closed::TooLong(name)),
+        Err(VaultFault::NoMemory) => return Err(Closed::NoMemory),
+    };
+    match Words::new(alloc, name) {
+        Ok(name) => Ok(ProjectFile::new(name, bytes)),
+        Err(NoMemory) => Err(Closed::NoMemory),
     }
 }
 

@@ -4,7 +4,6 @@
 mod engine;
 mod event;
 mod field_types;
-mod file_text;
 mod files;
 mod lines;
 mod members;

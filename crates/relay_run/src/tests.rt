@@ -191,7 +191,9 @@ fn fault_of(alloc: Global, schema: &str, first: &str, second: &str) -> Result<Ve
 }
 
 #[test]
-fn projects_are_refused_at_their_first_fault(rt: HostRuntime) -> Result<(), Fail> {
+fn a_text_comes_before_the_schema_and_the_schema_before_documents(
+    rt: HostRuntime,
+) -> Result<(), Fail> {
     let alloc = rt.alloc();
     let rows = [
         (
@@ -209,16 +211,6 @@ fn projects_are_refused_at_their_first_fault(rt: HostRuntime) -> Result<(), Fail
             "{\n{",
             "{\"column\":1,\"file\":\"e.graphql\",\"line\":2,\"rule\":\"L6\"}\n",
         ),
-        (
-            "query Q{me{...P}}",
-            "query R{me}",
-            "{\"column\":1,\"file\":\"d.graphql\",\"line\":1,\"rule\":\"N1\"}\n",
-        ),
-        (
-            QUERY,
-            "query Q{me{id}}",
-            "{\"column\":1,\"file\":\"e.graphql\",\"line\":1,\"rule\":\"N1\"}\n",
-        ),
     ];
     for (first, second, line) in rows {
         let held = fault_of(alloc, SCHEMA, first, second)?;
@@ -229,6 +221,43 @@ fn projects_are_refused_at_their_first_fault(rt: HostRuntime) -> Result<(), Fail
         held.as_slice(),
         b"{\"column\":15,\"file\":\"s.graphql\",\"line\":1,\"rule\":\"S2\"}\n".as_slice()
     );
+    Ok(())
+}
+
+#[test]
+fn rules_on_documents_come_before_forms_that_are_not_taken(rt: HostRuntime) -> Result<(), Fail> {
+    let alloc = rt.alloc();
+    let rows = [
+        (
+            "query Q{me{...P}}",
+            "query R{me}",
+            "{\"column\":15,\"file\":\"d.graphql\",\"line\":1,\"rule\":\"V4\"}\n",
+        ),
+        (
+            QUERY,
+            "query Q{me{id}}",
+            "{\"column\":7,\"file\":\"e.graphql\",\"line\":1,\"rule\":\"V1\"}\n",
+        ),
+        (
+            "query Q{you:me{name}}",
+            "query R{me}",
+            "{\"column\":9,\"file\":\"e.graphql\",\"line\":1,\"rule\":\"V8\"}\n",
+        ),
+        (
+            "query Q{you:me{name}}",
+            "query R{me{name}}",
+            "{\"column\":1,\"file\":\"d.graphql\",\"line\":1,\"rule\":\"N1\"}\n",
+        ),
+        (
+            QUERY,
+            "fragment P on User{name}",
+            "{\"column\":1,\"file\":\"e.graphql\",\"line\":1,\"rule\":\"N1\"}\n",
+        ),
+    ];
+    for (first, second, line) in rows {
+        let held = fault_of(alloc, SCHEMA, first, second)?;
+        assert_eq!(rt; held.as_slice(), line.as_bytes(), "at {first}");
+    }
     Ok(())
 }
 

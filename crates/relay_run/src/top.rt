@@ -102,7 +102,8 @@ fn run<V: Vault, S: Source, K: Sink>(
     script: &mut S,
     out: &mut K,
 ) -> Status
-    requires { length documents.now ≤ max_documents }
+    requires least { 1 ≤ length documents.now }
+    requires most { length documents.now ≤ max_documents }
     ensures ran { (course : Course) × IsCourse (V.files vault.old) (the_form schema.now (map (λ w. w.now) documents.now)) course
         × Answering course result (Rose (V.faults vault.old) (V.faults vault.new) ⊎ IsFirstAbsent (V.files vault.old) (the_form schema.now (map (λ w. w.now) documents.now)))
         (Rose (S.faults script.old) (S.faults script.new)) (Rose (K.faults out.old) (K.faults out.new))
