@@ -152,3 +152,50 @@ fn texts_count_before_the_schema_and_the_schema_before_documents(
     }
     Ok(())
 }
+
+/// The document of this number: a query, and a fragment that the next document may spread.
+fn numbered(alloc: Global, number: usize) -> Result<ProjectFile, Fail> {
+    let text = format!(in alloc;
+        "query Q{number}{{me{{...F{number}}}}}fragment F{number} on User{{name}}"
+    )?;
+    file(alloc, "numbered.graphql", text.as_str())
+}
+
+/// A schema, so many documents by their numbers, and one more.
+fn many(alloc: Global, count: usize, last: &str) -> Result<Vec<ProjectFile>, Fail> {
+    let mut files = Vec::new(alloc);
+    files.push(file(alloc, "s.graphql", SCHEMA)?)?;
+    for number in 0..count {
+        files.push(numbered(alloc, number)?)?;
+    }
+    files.push(file(alloc, "last.graphql", last)?)?;
+    Ok(files)
+}
+
+/// How many documents the project of these files has; else the rule, the file, the line and the
+/// column of their first fault.
+fn counted(alloc: Global, files: &[ProjectFile]) -> Result<String, Fail> {
+    if files.len() < 2 || files.len() > 10_000 {
+        return Ok(format!(in alloc; "no project")?);
+    }
+    match compile(alloc, files) {
+        Ok(project) => Ok(format!(in alloc; "{}", project.documents.as_slice().len())?),
+        Err(CompileFault::Refused(fault)) => Ok(format!(in alloc;
+            "{:?} {} {} {}",
+            fault.rule, fault.file, fault.line, fault.column
+        )?),
+        Err(CompileFault::NoMemory) => Ok(format!(in alloc; "no memory")?),
+    }
+}
+
+#[test]
+fn a_thousand_documents_are_one_project(rt: HostRuntime) -> Result<(), Fail> {
+    let alloc = rt.alloc();
+    let files = many(alloc, 999, "query Last{me{...F0 ...F998}}")?;
+    assert_eq!(rt; counted(alloc, &files)?.as_str(), "1000");
+    let files = many(alloc, 999, "query Q500{me{name}}")?;
+    assert_eq!(rt; counted(alloc, &files)?.as_str(), "V1 1000 1 7");
+    let files = many(alloc, 999, "fragment F998 on User{...F999}")?;
+    assert_eq!(rt; counted(alloc, &files)?.as_str(), "V2 1000 1 10");
+    Ok(())
+}
