@@ -1,24 +1,33 @@
--- Two lists of which one is at its end are equal where they were as long.
-use Rattle.std.proofs.Common.{◌≡◌, ◌≢◌, ℕ, ◌+◌, ◌<◌, false, true≢false, List, [], ◌∷◌, length, nat_eq, sym, arith}
-use Rattle.std.proofs.lemmas.Bool.Decides.{Decides-eqb}
-use Rattle.std.specs.Bool.{one_answer}
-use Rattle.gql_plain.specs.Equal.{list_eq, object_eq}
-use Rattle.gql_plain.specs.Shown.{shown, shown_members}
+-- Equality of two lists: where they differ in length, and where both are at their end.
+use Rattle.std.proofs.Common.{◌≡◌, ◌≢◌, Bool, true, false, ◌&&◌, List, ℕ, [], ◌∷◌, length, refl, arith}
+use Rattle.gql_plain.specs.Equal.{tree_eq, list_eq, object_eq}
+use Rattle.gql_plain.specs.Shown.{tree_of, shown, shown_members}
 use Rattle.gql_plain.specs.declared.plain.Plain.{Plain}
+use Rattle.std.specs.Str.{bytes_eq}
 
-differ : (m k : ℕ) → m ≢ k → nat_eq m k ≡ false
-differ m k other = one_answer (nat_eq m k) false (Decides-eqb m k) ((λ e. absurd (true≢false (sym e))), λ e. absurd (other e))
+and_false : (a b : Bool) → b ≡ false → (a && b) ≡ false
+and_false true b h = h
+and_false false b h = refl
 
-pub list_eq-end : (xs ys : List Plain) (n m k : ℕ) → m ≡ n + length xs → k ≡ n + length ys → (0 < length xs → 0 < length ys → ⊥)
-    → nat_eq m k ≡ list_eq (shown xs) (shown ys)
-list_eq-end [] [] n m k long other stop = (Decides-eqb m k).1 (omega arith)
-list_eq-end [] (y ∷ ys) n m k long other stop = differ m k (omega arith)
-list_eq-end (x ∷ xs) [] n m k long other stop = differ m k (omega arith)
-list_eq-end (x ∷ xs) (y ∷ ys) n m k long other stop = absurd (stop (omega arith) (omega arith))
+pub list_eq-lengths : (xs ys : List Plain) → length xs ≢ length ys → list_eq (shown xs) (shown ys) ≡ false
+list_eq-lengths [] [] other = absurd (other refl)
+list_eq-lengths [] (y ∷ ys) other = refl
+list_eq-lengths (x ∷ xs) [] other = refl
+list_eq-lengths (x ∷ xs) (y ∷ ys) other = and_false (tree_eq (tree_of x) (tree_of y)) _ (list_eq-lengths xs ys (λ e. other (omega arith)))
 
-pub object_eq-end : (xs ys : List (List ℕ × Plain)) (n m k : ℕ) → m ≡ n + length xs → k ≡ n + length ys → (0 < length xs → 0 < length ys → ⊥)
-    → nat_eq m k ≡ object_eq (shown_members xs) (shown_members ys)
-object_eq-end [] [] n m k long other stop = (Decides-eqb m k).1 (omega arith)
-object_eq-end [] (y ∷ ys) n m k long other stop = differ m k (omega arith)
-object_eq-end (x ∷ xs) [] n m k long other stop = differ m k (omega arith)
-object_eq-end (x ∷ xs) (y ∷ ys) n m k long other stop = absurd (stop (omega arith) (omega arith))
+pub object_eq-lengths : (xs ys : List (List ℕ × Plain)) → length xs ≢ length ys → object_eq (shown_members xs) (shown_members ys) ≡ false
+object_eq-lengths [] [] other = absurd (other refl)
+object_eq-lengths [] (y ∷ ys) other = refl
+object_eq-lengths (x ∷ xs) [] other = refl
+object_eq-lengths (x ∷ xs) (y ∷ ys) other =
+    and_false (bytes_eq x.0 y.0) _ (and_false (tree_eq (tree_of x.1) (tree_of y.1)) _ (object_eq-lengths xs ys (λ e. other (omega arith))))
+
+pub list_eq-end : (xs ys : List Plain) → length xs ≡ 0 → length ys ≡ 0 → true ≡ list_eq (shown xs) (shown ys)
+list_eq-end [] [] e f = refl
+list_eq-end [] (y ∷ ys) e f = absurd (omega arith)
+list_eq-end (x ∷ xs) ys e f = absurd (omega arith)
+
+pub object_eq-end : (xs ys : List (List ℕ × Plain)) → length xs ≡ 0 → length ys ≡ 0 → true ≡ object_eq (shown_members xs) (shown_members ys)
+object_eq-end [] [] e f = refl
+object_eq-end [] (y ∷ ys) e f = absurd (omega arith)
+object_eq-end (x ∷ xs) ys e f = absurd (omega arith)

@@ -11,7 +11,7 @@ is_float-of_integer : (z : ℤ) → is_float (of_integer z) ≡ false
 is_float-of_integer (pos n) = refl
 is_float-of_integer (negsuc n) = refl
 
-number_text-of_integer : (z : ℤ) → number_text (of_integer z) ≡ signed_decimal z
+pub number_text-of_integer : (z : ℤ) → number_text (of_integer z) ≡ signed_decimal z
 number_text-of_integer (pos n) = refl
 number_text-of_integer (negsuc n) = refl
 
@@ -51,5 +51,3 @@ mutual
   members_text-members_data : (ms : Pairs) → members_text true (members_data ms) ≡ more_members ms
   members_text-members_data no_members = refl
   members_text-members_data (member k t ms) = λ i. 44 ∷ (quoted k ++ 58 ∷ (compact_text-data_of t i ++ members_text-members_data ms i))
-
-pub ruleset texts = (has_float-data_of, compact_text-data_of)

@@ -5,3 +5,4 @@ pub mod JsonTexts
 pub mod Members
 pub mod Searches
 pub mod SortedTexts
+pub mod Tokens

@@ -1,9 +1,11 @@
--- Whether two plain trees are equal.
-use Rattle.std.specs.Prelude.{◌≡◌, ℕ, ◌&&◌, Bool, true, false, List, [], ◌∷◌}
+-- Whether two plain trees, or two lists of texts, are equal.
+use Rattle.std.specs.Prelude.{◌≡◌, ℕ, ◌&&◌, Bool, true, false, List, [], ◌∷◌, Option, nat_eq}
 use Rattle.std.proofs.Common.{refl, sym, ap, subst, true≢false}
 use Rattle.std.proofs.lemmas.Slice.Eq.{bytes_eq-Decides}
 use Rattle.std.specs.Bool.{Decides, one_answer, beq}
 use Rattle.std.specs.Cmp.{IsEquivalence, booleans_Decides, signed_Decides}
+use Rattle.std.specs.Cmp.Lexicographic.{pointwise, lists_equiv, options_equiv, nat_list_eq_equiv}
+use Rattle.std.specs.Option.{option_eq}
 use Rattle.std.specs.Ordering.{int_eq}
 use Rattle.std.specs.Str.{bytes_eq}
 use Rattle.gql_plain.specs.Tree.{Tree, null, truth, whole, text, list, object, Trees, no_trees, tree, trees_of, Members, no_members, member, members_of}
@@ -33,6 +35,20 @@ list_eq ts us = trees_eq (trees_of ts) (trees_of us)
 
 abbrev pub object_eq : List (List ℕ × Tree) → List (List ℕ × Tree) → Bool
 object_eq ms ns = members_eq (members_of ms) (members_of ns)
+
+-- each text is equal to the one at its place, and there are as many
+abbrev pub texts_eq : List (List ℕ) → List (List ℕ) → Bool
+texts_eq = pointwise (pointwise nat_eq)
+
+-- the same where a text may be lacking
+abbrev pub links_eq : List (Option (List ℕ)) → List (Option (List ℕ)) → Bool
+links_eq = pointwise (option_eq (pointwise nat_eq))
+
+pub texts_eq_equiv : IsEquivalence texts_eq
+texts_eq_equiv = lists_equiv nat_list_eq_equiv
+
+pub links_eq_equiv : IsEquivalence links_eq
+links_eq_equiv = lists_equiv (options_equiv nat_list_eq_equiv)
 
 -- ---- it decides `≡`
 

@@ -1,7 +1,9 @@
--- The JSON value of a plain tree, and its compact text.
+-- The JSON value of a plain tree, its tokens, and its compact text.
 use Rattle.std.specs.Prelude.{ℕ, ◌++◌, true, false, List, [], ◌∷◌, codes}
 use Rattle.std.specs.Fmt.{signed_decimal}
 use Rattle.json.specs.Print.{quoted}
+use Rattle.json.specs.Token as token
+use Rattle.json.specs.Token.{Token}
 use Rattle.serde_json.specs.Data.{Data, Items, Members}
 use Rattle.serde_json.specs.Data as json
 use Rattle.serde_json.specs.Find.{of_integer}
@@ -23,6 +25,26 @@ abbrev mutual
   pub members_data : Pairs → Members
   members_data no_members = json.no_members
   members_data (member k t ms) = json.member k (data_of t) (members_data ms)
+
+-- the JSON tokens: brackets, keys, texts and the rest, in the order in which they stand in the text
+abbrev mutual
+  pub tree_tokens : Tree → List Token
+  tree_tokens null = token.null ∷ []
+  tree_tokens (truth b) = token.boolean b ∷ []
+  tree_tokens (whole z) = token.number (signed_decimal z) ∷ []
+  tree_tokens (text s) = token.string s ∷ []
+  tree_tokens (list ts) = token.begin_array ∷ trees_tokens ts
+  tree_tokens (object ms) = token.begin_object ∷ members_tokens ms
+
+  -- what follows the `[` of a list, `]` at the end
+  pub trees_tokens : Trees → List Token
+  trees_tokens no_trees = token.end_array ∷ []
+  trees_tokens (tree t ts) = tree_tokens t ++ trees_tokens ts
+
+  -- what follows the `{` of an object, `}` at the end
+  pub members_tokens : Pairs → List Token
+  members_tokens no_members = token.end_object ∷ []
+  members_tokens (member k t ms) = token.key k ∷ (tree_tokens t ++ members_tokens ms)
 
 -- the JSON text without blanks: members in their order, texts between `"` with the shortest escapes
 abbrev mutual

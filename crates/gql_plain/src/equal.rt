@@ -86,14 +86,17 @@ fn same(a: &Plain, b: &Plain) -> bool
 fn same_lists(a: &Plains, b: &Plains) -> bool
     ensures { result ≡ list_eq a.now b.now }
 {
+    if a.items.len() != b.items.len() {
+        return false;
+    }
     let mut at = 0;
-    'items: while at < a.items.len() && at < b.items.len() {
+    'items: while at < a.items.len() {
         if !same(&a.items[at], &b.items[at]) {
             return false;
         }
         at += 1;
     }
-    a.items.len() == b.items.len()
+    true
 }
 
 /// Whether two objects are equal.
@@ -101,12 +104,15 @@ fn same_lists(a: &Plains, b: &Plains) -> bool
 fn same_objects(a: &Pairs, b: &Pairs) -> bool
     ensures { result ≡ object_eq a.now b.now }
 {
+    if a.entries.len() != b.entries.len() {
+        return false;
+    }
     let mut at = 0;
-    'entries: while at < a.entries.len() && at < b.entries.len() {
+    'entries: while at < a.entries.len() {
         if a.entries[at].0 != b.entries[at].0 || !same(&a.entries[at].1, &b.entries[at].1) {
             return false;
         }
         at += 1;
     }
-    a.entries.len() == b.entries.len()
+    true
 }

@@ -1,7 +1,8 @@
-//! The want of memory.
+//! The error that memory is lacking.
 use std::alloc::{AllocError, AllocFailed};
 
-/// A growth that memory was wanted for was refused. Nothing is changed where a call answers it.
+/// Out of memory: an allocation was refused. A call that answers it has changed nothing, unless it
+/// says otherwise.
 #[derive(Clone, Copy, Debug, PartialEq, Eq)]
 pub struct NoMemory;
 

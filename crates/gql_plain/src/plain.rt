@@ -145,7 +145,7 @@ impl Plains {
     pub fn copy(&self) -> Result<Plains, NoMemory>
         ensures { IfOk result (λ plains. plains ≡ self.now) }
     {
-        let mut items = Vec::new(*self.items.allocator());
+        let mut items = Vec::with_capacity(*self.items.allocator(), self.items.len())?;
         'items: for plain in &self.items {
             items.push(plain.copy()?)?;
         }
@@ -212,7 +212,7 @@ impl Pairs {
     pub fn copy(&self) -> Result<Pairs, NoMemory>
         ensures { IfOk result (λ pairs. pairs ≡ self.now) }
     {
-        let mut entries = Vec::new(*self.entries.allocator());
+        let mut entries = Vec::with_capacity(*self.entries.allocator(), self.entries.len())?;
         'entries: for (key, plain) in &self.entries {
             entries.push((key.copy()?, plain.copy()?))?;
         }

@@ -1,5 +1,9 @@
-use crate::{Conn, Ids, OptIds, Pairs, Plain, PlainFault, Words, plain_of, text_of, value_of};
+use crate::{
+    Conn, Ids, NoMemory, OptIds, Pairs, Plain, PlainFault, SharedText, Words, is_name, plain_of,
+    text_of, value_of,
+};
 use serde_json::Value;
+use std::alloc::Global;
 use std::test::Fail;
 
 #[test]
@@ -52,27 +56,61 @@ fn keys_find_their_values(rt: HostRuntime) -> Result<(), Fail> {
     Ok(())
 }
 
+/// The distinct lines of a text, as ids.
+fn ids_of(alloc: Global, text: &str) -> Result<Ids, NoMemory> {
+    let mut words = Vec::new(alloc);
+    for line in text.lines() {
+        words.push(Words::new(alloc, line)?)?;
+    }
+    Ids::sorted(words)
+}
+
 #[test]
 fn ids_stand_in_byte_order(rt: HostRuntime) -> Result<(), Fail> {
     let alloc = rt.alloc();
-    let mut words = Vec::new(alloc);
-    for text in ["b", "a:1", "b", "a", "B"] {
-        words.push(Words::new(alloc, text)?)?;
+    for (given, sorted) in [("b", "b"), ("b\na:1\nb\na\nB", "B\na\na:1\nb")] {
+        let ids = ids_of(alloc, given)?;
+        assert!(rt; ids.copy()? == ids);
+        assert_eq!(rt; ids.len(), sorted.lines().count());
+        for (id, text) in ids.as_slice().iter().zip(sorted.lines()) {
+            assert_eq!(rt; id.as_str(), text);
+        }
+        assert!(rt; ids.contains("b") && !ids.contains("a:"));
     }
-    let ids = Ids::sorted(words)?.copy()?;
-    assert_eq!(rt; ids.len(), 4);
-    for (id, text) in ids.as_slice().iter().zip(["B", "a", "a:1", "b"]) {
-        assert_eq!(rt; id.as_str(), text);
+    let none = Ids::new(alloc);
+    assert!(rt; none.copy()? == ids_of(alloc, "")? && none.is_empty());
+    Ok(())
+}
+
+#[test]
+fn connections_are_copied(rt: HostRuntime) -> Result<(), Fail> {
+    let alloc = rt.alloc();
+    for filters in [None, Some(ids_of(alloc, "tag")?)] {
+        let key = Words::new(alloc, "Posts")?;
+        let conn = Conn { key, filters };
+        assert!(rt; conn.copy()? == conn);
     }
-    assert!(rt; ids.contains("a:1") && !ids.contains("a:"));
-    let conn = Conn {
-        key: Words::new(alloc, "Posts")?,
-        filters: Some(ids),
-    };
-    assert!(rt; conn.copy()?.filters.is_some());
+    Ok(())
+}
+
+#[test]
+fn links_are_copied(rt: HostRuntime) -> Result<(), Fail> {
+    let alloc = rt.alloc();
     let mut links = OptIds::new(alloc);
+    assert!(rt; links.copy()? == links);
     links.push(None)?;
-    links.push(Some(conn.key))?;
-    assert!(rt; links.copy()?.as_slice() == [None, Some(Words::new(alloc, "Posts")?)].as_slice());
+    links.push(Some(Words::new(alloc, "1")?))?;
+    let copy = links.copy()?;
+    assert!(rt; copy.as_slice() == [None, Some(Words::new(alloc, "1")?)].as_slice());
+    Ok(())
+}
+
+#[test]
+fn texts_are_shared(rt: HostRuntime) -> Result<(), Fail> {
+    let alloc = rt.alloc();
+    let text = SharedText::new(alloc, Words::new(alloc, "_a1")?)?;
+    let copy = text.copy()?;
+    assert!(rt; copy == text && copy.as_str() == "_a1" && is_name(copy.as_str()));
+    assert!(rt; !is_name("1a") && !is_name("a-b") && !is_name(""));
     Ok(())
 }

@@ -1,13 +1,12 @@
-//! From a plain tree to a JSON value, and to its text.
+//! From a plain tree to a JSON value.
 ghost use Rattle.std.specs.Prelude.{◌≡◌, map, IfOk};
 ghost use Rattle.serde_json.specs.View.{view, members_view};
-ghost use Rattle.gql_plain.specs.ToJson.{data_of, members_data, compact};
+ghost use Rattle.gql_plain.specs.ToJson.{data_of, members_data};
 ghost use Rattle.gql_plain.specs.Shown.{tree_of};
 ghost use Rattle.gql_plain.specs.Tree.{members_of};
 
 use crate::memory::NoMemory;
 use crate::plain::{Pairs, Plain, Plains};
-use crate::words::Words;
 use serde_json::{Map, Value};
 use std::alloc::Global;
 
@@ -51,13 +50,4 @@ fn object_of(alloc: Global, pairs: &Pairs) -> Result<Map<String, Value>, NoMemor
         drop(members.insert(name, value_of(alloc, plain)?)?);
     }
     Ok(members)
-}
-
-/// The compact JSON text, its keys in byte order.
-#[tactic(auto, using(crate::proofs::JsonTexts::texts))]
-pub fn text_of(alloc: Global, plain: &Plain) -> Result<Words, NoMemory>
-    ensures { IfOk result (λ text. text ≡ compact (tree_of plain.now)) }
-{
-    let text = value_of(alloc, plain)?.to_string(alloc)?;
-    Ok(Words::from_string(text))
 }

@@ -1,5 +1,7 @@
 //! Texts.
 ghost use Rattle.std.specs.Prelude.{◌≡◌, string_bytes, IfOk};
+ghost use Rattle.std.specs.List.{list_all};
+ghost use Rattle.gql_plain.specs.Names as names;
 
 use crate::memory::NoMemory;
 use std::alloc::Global;
@@ -119,4 +121,47 @@ impl Ord for Words {
     fn cmp(&self, other: &Words) -> Ordering {
         self.as_str().cmp(other.as_str())
     }
+}
+
+/// Whether a text has the form of a Name (GraphQL, October 2021, section 2.1.9); takes no memory.
+pub fn is_name(text: &str) -> bool
+    ensures { result ≡ names.is_name text.now }
+{
+    match text.as_bytes() {
+        [first, more @ ..] => is_name_start(*first) && are_name_bytes(more),
+        [] => false,
+    }
+}
+
+/// Whether each byte may stand in a Name.
+fn are_name_bytes(bytes: &[u8]) -> bool
+    ensures { result ≡ list_all names.is_name_byte bytes.now }
+{
+    'bytes: for byte in bytes {
+        if !is_name_byte(*byte) {
+            return false;
+        }
+    }
+    true
+}
+
+/// Whether a byte may begin a Name.
+fn is_name_start(byte: u8) -> bool
+    ensures { result ≡ names.is_name_start byte }
+{
+    is_within(b'A', b'Z', byte) || is_within(b'a', b'z', byte) || byte == b'_'
+}
+
+/// Whether a byte may stand in a Name.
+fn is_name_byte(byte: u8) -> bool
+    ensures { result ≡ names.is_name_byte byte }
+{
+    is_name_start(byte) || is_within(b'0', b'9', byte)
+}
+
+/// Whether a byte lies between two, both included.
+fn is_within(low: u8, high: u8, byte: u8) -> bool
+    ensures { result ≡ names.is_within low high byte }
+{
+    low <= byte && byte <= high
 }

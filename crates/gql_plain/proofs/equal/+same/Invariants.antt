@@ -6,7 +6,7 @@ use Rattle.gql_plain.specs.Shown.{shown, shown_members}
 abbrev pub invariant-same_lists-items : goal.invariant-same_lists-items
 invariant-same_lists-items l = record {
   within : l.at ≤ length l.a-inside.items.items;
-  within_other : l.at ≤ length l.b-inside.items.items;
+  as_long : length l.a-inside.items.items ≡ length l.b-inside.items.items;
   left : list_eq (shown l.a-inside.items.items) (shown l.b-inside.items.items)
       ≡ list_eq (shown (drop l.at l.a-inside.items.items)) (shown (drop l.at l.b-inside.items.items));
 }
@@ -17,7 +17,7 @@ decreases-same_lists-items l = length l.a-inside.items.items - l.at
 abbrev pub invariant-same_objects-entries : goal.invariant-same_objects-entries
 invariant-same_objects-entries l = record {
   within : l.at ≤ length l.a-inside.entries.items;
-  within_other : l.at ≤ length l.b-inside.entries.items;
+  as_long : length l.a-inside.entries.items ≡ length l.b-inside.entries.items;
   left : object_eq (shown_members l.a-inside.entries.items) (shown_members l.b-inside.entries.items)
       ≡ object_eq (shown_members (drop l.at l.a-inside.entries.items)) (shown_members (drop l.at l.b-inside.entries.items));
 }
