@@ -8,7 +8,8 @@ use Rattle.gql_lex.specs.declared.tokens.TokenKind.TheVariants.{Text, Block}
 use Rattle.gql_lex.specs.declared.tokens.TokenKind.{TokenKind}
 use Rattle.gql_lex.specs.declared.tokens.Head.{Head}
 use Rattle.gql_lex.specs.declared.tokens.Head.TheVariants.{Ignored, Found, Wrong}
-use Rattle.gql_lex.specs.Characters.{is_within, is_digit, is_name_start, is_name_byte, is_line_end, is_punctuator, is_spread, is_mark, is_ignored, is_number_start, is_float_mark, is_two_quotes, may_stand, may_stand_in_block, is_three_quotes, is_escaped_quotes}
+use Rattle.gql_lex.specs.Characters.{is_digit, is_line_end, is_punctuator, is_spread, is_mark, is_ignored, is_number_start, is_float_mark, is_two_quotes, may_stand, may_stand_in_block, is_three_quotes, is_escaped_quotes}
+use Rattle.gql_plain.specs.Names.{is_within, is_name_start, is_name_byte}
 use Rattle.gql_lex.specs.Numbers.{sign_len, digits_len, int_len, is_in_i64}
 use Rattle.gql_lex.specs.Strings.{further, and_then, escape_len, text_end, block_end}
 use Rattle.gql_lex.specs.Heads.{comment, int_before, number, string, string_head, head, IsSoundAt}

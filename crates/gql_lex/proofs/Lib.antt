@@ -7,12 +7,15 @@ mod Examples
 pub mod Extents
 pub mod Gaps
 pub mod Ignored
+pub mod IgnoredForms
+pub mod LongestToken
 pub mod Margins
 pub mod Pushes
 pub mod Reading
 pub mod Runs
 pub mod Skips
 pub mod StringKinds
+pub mod StringParts
 pub mod Texts
 pub mod TokenTexts
 pub mod Whole

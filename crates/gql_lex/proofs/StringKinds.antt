@@ -6,7 +6,8 @@ use Rattle.std.proofs.lemmas.List.{length-drop, drop-drop, get_or-drop}
 use Rattle.gql_lex.specs.declared.tokens.TokenKind.TheVariants.{Punct, Name, Int, Text, Block}
 use Rattle.gql_lex.specs.declared.tokens.TokenKind.{TokenKind}
 use Rattle.gql_lex.specs.declared.tokens.Head.TheVariants.{Found, Wrong}
-use Rattle.gql_lex.specs.Characters.{is_ignored, is_mark, is_punctuator, is_spread, is_name_start, is_name_byte, is_number_start, is_float_mark, is_line_end, is_two_quotes, may_stand}
+use Rattle.gql_lex.specs.Characters.{is_ignored, is_mark, is_punctuator, is_spread, is_number_start, is_float_mark, is_line_end, is_two_quotes, may_stand}
+use Rattle.gql_plain.specs.Names.{is_name_start, is_name_byte}
 use Rattle.gql_lex.specs.Numbers.{sign_len, digits_len, int_len, is_in_i64}
 use Rattle.gql_lex.specs.Strings.{text_end, block_end}
 use Rattle.gql_lex.specs.Heads.{comment, int_before, number, string, string_head, head, IsToken}
@@ -17,7 +18,7 @@ chosen true x y z e = inl (refl, e)
 chosen false x y z e = inr (refl, e)
 
 -- a test that chose another answer
-past : {A : Type 0} (b : Bool) (x y z : A) → ¬ (x ≡ z) → cond b x y ≡ z → y ≡ z
+pub past : {A : Type 0} (b : Bool) (x y z : A) → ¬ (x ≡ z) → cond b x y ≡ z → y ≡ z
 past true x y z n e = absurd (n e)
 past false x y z n e = e
 
@@ -33,13 +34,13 @@ int_kind text rest kind n =
     (λ _. cond_both (is_name_byte (get_or rest 0 0)) _ _ (λ h. h ≡ Found kind n → kind ≡ Int) (λ _ e. cc)
     (λ _. cond_both (is_in_i64 text) _ _ (λ h. h ≡ Found kind n → kind ≡ Int) (λ _ e. cc) (λ _ e. cc)))
 
-number_kind : (bs : List ℕ) (kind : TokenKind) (n : ℕ) → number bs ≡ Found kind n → kind ≡ Int
+pub number_kind : (bs : List ℕ) (kind : TokenKind) (n : ℕ) → number bs ≡ Found kind n → kind ≡ Int
 unfolding number
 number_kind bs kind n =
     cond_both (eqb (digits_len (drop (sign_len bs) bs)) 0) _ _ (λ h. h ≡ Found kind n → kind ≡ Int) (λ _ e. cc)
     (λ _ e. int_kind (take (int_len bs) bs) (drop (int_len bs) bs) kind n e)
 
-wrong_found : (kind : TokenKind) (n : ℕ) → ¬ (Wrong 1 0 ≡ Found kind n)
+pub wrong_found : (kind : TokenKind) (n : ℕ) → ¬ (Wrong 1 0 ≡ Found kind n)
 wrong_found kind n e = cc
 
 string_begins : (bs : List ℕ) (kind : TokenKind) (n : ℕ) → ¬ (kind ≡ Punct) → ¬ (kind ≡ Name) → ¬ (kind ≡ Int) → head bs ≡ Found kind n
@@ -97,7 +98,7 @@ text_token text e =
     let q = (string_text (drop 1 text) (length text - 1) p.1).1 in
     (p.0, q ∙ ap (λ (k : ℕ). Ok k) (sym (length-drop 1 text)))
 
-two_quotes : (cs : List ℕ) → is_two_quotes cs ≡ true → (get_or cs 0 0 ≡ 34) × (get_or cs 1 0 ≡ 34)
+pub two_quotes : (cs : List ℕ) → is_two_quotes cs ≡ true → (get_or cs 0 0 ≡ 34) × (get_or cs 1 0 ≡ 34)
 two_quotes cs e =
     let p = and_parts (eqb (get_or cs 0 0) 34) (eqb (get_or cs 1 0) 34) e in
     (eqb-true (get_or cs 0 0) 34 p.0, eqb-true (get_or cs 1 0) 34 p.1)

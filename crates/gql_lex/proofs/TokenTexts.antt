@@ -7,7 +7,8 @@ use Rattle.std.proofs.lemmas.List.{length-drop, length-take, take_all}
 use Rattle.gql_lex.specs.declared.tokens.TokenKind.TheVariants.{Punct, Name, Int, Text, Block}
 use Rattle.gql_lex.specs.declared.tokens.TokenKind.{TokenKind}
 use Rattle.gql_lex.specs.declared.tokens.Head.TheVariants.{Found, Wrong}
-use Rattle.gql_lex.specs.Characters.{is_ignored, is_mark, is_punctuator, is_spread, is_name_start, is_name_byte, is_number_start, is_float_mark, is_two_quotes, is_digit}
+use Rattle.gql_lex.specs.Characters.{is_ignored, is_mark, is_punctuator, is_spread, is_number_start, is_float_mark, is_two_quotes, is_digit}
+use Rattle.gql_plain.specs.Names.{is_name_start, is_name_byte}
 use Rattle.gql_lex.specs.Numbers.{sign_len, digits_len, int_len, is_in_i64}
 use Rattle.gql_lex.specs.Heads.{comment, int_before, number, string, string_head, head, IsToken}
 use Rattle.gql_lex.proofs.StringKinds.{chosen, no_comment}
@@ -57,7 +58,7 @@ punct_head bs n e =
     (chosen (is_spread bs) _ _ _ w.1))
     (chosen (is_punctuator (get_or bs 0 0)) _ _ _ c)
 
-int_head : (bs : List ℕ) (n : ℕ) → head bs ≡ Found Int n → number bs ≡ Found Int n
+pub int_head : (bs : List ℕ) (n : ℕ) → head bs ≡ Found Int n → number bs ≡ Found Int n
 unfolding head
 int_head bs n e =
     let a = past (is_ignored (get_or bs 0 0)) _ _ _ (λ x. cc) e in
@@ -88,7 +89,7 @@ int_found text rest n e =
     ⊎_elim (λ w. absurd (wrong_found 3 Int n w.1)) (λ w. ⊎_elim (λ v. absurd (wrong_found 2 Int n v.1)) (λ v. ⊎_elim (λ u. let q = u.1 in (cc, u.0)) (λ u. absurd (wrong_found 2 Int n u.1))
     (chosen (is_in_i64 text) _ _ _ v.1)) (chosen (is_name_byte (get_or rest 0 0)) _ _ _ w.1)) (chosen (is_float_mark (get_or rest 0 0)) _ _ _ e)
 
-number_found : (bs : List ℕ) (n : ℕ) → number bs ≡ Found Int n → ¬ (digits_len (drop (sign_len bs) bs) ≡ 0) × ((length (take (int_len bs) bs) - 1 ≡ n) × (is_in_i64 (take (int_len bs) bs) ≡ true))
+pub number_found : (bs : List ℕ) (n : ℕ) → number bs ≡ Found Int n → ¬ (digits_len (drop (sign_len bs) bs) ≡ 0) × ((length (take (int_len bs) bs) - 1 ≡ n) × (is_in_i64 (take (int_len bs) bs) ≡ true))
 unfolding number
 number_found bs n e =
     ⊎_elim (λ w. absurd (wrong_found 2 Int n w.1)) (λ w. (eqb-false _ 0 w.0, int_found (take (int_len bs) bs) (drop (int_len bs) bs) n w.1)) (chosen (eqb (digits_len (drop (sign_len bs) bs)) 0) _ _ _ e)

@@ -6,7 +6,8 @@ use Rattle.std.proofs.lemmas.List.{get_or-take, get_or-drop, drop-take, take_all
 use Rattle.gql_lex.specs.declared.tokens.TokenKind.TheVariants.{Punct, Name, Int, Text, Block}
 use Rattle.gql_lex.specs.declared.tokens.TokenKind.{TokenKind}
 use Rattle.gql_lex.specs.declared.tokens.Head.TheVariants.{Ignored, Found, Wrong}
-use Rattle.gql_lex.specs.Characters.{is_digit, is_name_start, is_name_byte, is_punctuator, is_spread, is_mark, is_ignored, is_number_start, is_float_mark, is_two_quotes, may_stand, may_stand_in_block, is_three_quotes, is_escaped_quotes}
+use Rattle.gql_lex.specs.Characters.{is_digit, is_punctuator, is_spread, is_mark, is_ignored, is_number_start, is_float_mark, is_two_quotes, may_stand, may_stand_in_block, is_three_quotes, is_escaped_quotes}
+use Rattle.gql_plain.specs.Names.{is_name_start, is_name_byte}
 use Rattle.gql_lex.specs.Numbers.{sign_len, digits_len, int_len, is_in_i64}
 use Rattle.gql_lex.specs.Strings.{further, and_then, escape_len, text_end, block_end, is_four_hex, code_of_hex, is_simple_escape}
 use Rattle.gql_lex.specs.Heads.{comment, int_before, number, string, string_head, head, IsToken}

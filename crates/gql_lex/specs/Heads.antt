@@ -5,7 +5,8 @@ use Rattle.gql_lex.specs.declared.tokens.TokenKind.{TokenKind}
 use Rattle.gql_lex.specs.declared.tokens.TokenKind.TheVariants.{Punct, Name, Int, Text, Block}
 use Rattle.gql_lex.specs.declared.tokens.Head.{Head}
 use Rattle.gql_lex.specs.declared.tokens.Head.TheVariants.{Ignored, Found, Wrong}
-use Rattle.gql_lex.specs.Characters.{quote, number_sign, is_line_end, may_stand, is_name_start, is_name_byte, is_punctuator, is_ignored, is_mark, is_spread, is_number_start, is_float_mark, is_two_quotes}
+use Rattle.gql_lex.specs.Characters.{quote, number_sign, is_line_end, may_stand, is_punctuator, is_ignored, is_mark, is_spread, is_number_start, is_float_mark, is_two_quotes}
+use Rattle.gql_plain.specs.Names.{is_name_start, is_name_byte}
 use Rattle.gql_lex.specs.Numbers.{sign_len, digits_len, int_len, is_in_i64}
 use Rattle.gql_lex.specs.Strings.{bad_char, bad_number, float_literal, text_end, block_end}
 

@@ -3,6 +3,7 @@ pub mod Characters
 pub mod Codes
 pub mod Descriptions
 pub mod Heads
+pub mod Lexemes
 pub mod Lines
 pub mod Numbers
 pub mod Sources

@@ -2,7 +2,8 @@
 -- the first from left to right. The first `inside` bytes belong to what was read already.
 use Rattle.std.specs.Prelude.{◌≡◌, ◌<◌, ◌≤◌, Option, MatchOption, MatchResult, ℕ, zero, suc, ◌+◌, ◌*◌, Bool, cond, ◌&&◌, ◌||◌, ◌==◌, nat_lt, List, [], ◌∷◌, drop, slice_index, Result, Ok, Err}
 use Rattle.std.specs.Char.{digit_value}
-use Rattle.gql_lex.specs.Characters.{quote, backslash, is_within, may_stand, may_stand_in_block, is_three_quotes, is_escaped_quotes}
+use Rattle.gql_lex.specs.Characters.{quote, backslash, may_stand, may_stand_in_block, is_three_quotes, is_escaped_quotes}
+use Rattle.gql_plain.specs.Names.{is_within}
 
 abbrev pub bad_char : ℕ
 bad_char = 1

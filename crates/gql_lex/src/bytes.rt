@@ -1,6 +1,7 @@
 //! Tests of single bytes.
 ghost use Rattle.std.specs.Prelude.{◌≡◌, ◌==◌, ◌&&◌, slice_index};
-ghost use Rattle.gql_lex.specs.Characters.{is_blank, is_digit, is_escaped_quotes, is_float_mark, is_ignored, is_line_end, is_mark, is_name_byte, is_name_start, is_number_start, is_punctuator, is_spread, is_three_quotes, is_two_quotes, is_within, may_stand, may_stand_in_block, quote};
+ghost use Rattle.gql_lex.specs.Characters.{is_blank, is_digit, is_escaped_quotes, is_float_mark, is_ignored, is_line_end, is_mark, is_number_start, is_punctuator, is_spread, is_three_quotes, is_two_quotes, may_stand, may_stand_in_block, quote};
+ghost use Rattle.gql_plain.specs.Names.{is_name_byte, is_name_start, is_within};
 ghost use Rattle.gql_lex.specs.Lines.{ends_line};
 
 /// The byte at an index, or 0 past the end.

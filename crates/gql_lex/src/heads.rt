@@ -3,7 +3,8 @@ ghost use Rattle.std.specs.Prelude.{◌≡◌, ◌+◌, ◌^◌, ◌<◌, ◌≤
 ghost use Rattle.std.specs.List.{prefix_len};
 ghost use Rattle.std.specs.Str.Parse.{AllDigits};
 ghost use Rattle.gql_lex.specs.Numbers.{sign_len};
-ghost use Rattle.gql_lex.specs.Characters.{is_name_byte, may_stand};
+ghost use Rattle.gql_lex.specs.Characters.{may_stand};
+ghost use Rattle.gql_plain.specs.Names.{is_name_byte};
 ghost use Rattle.gql_lex.specs.Heads.{IsSoundAt, comment, head, int_before, number, string, string_head};
 
 use crate::bytes::{
@@ -30,7 +31,7 @@ fn comment_len(bytes: &[u8]) -> usize
     bytes.iter().take_while(|b| may_stand(**b)).count()
 }
 
-/// A comment, behind its `#`.
+/// A comment, after its `#`.
 #[tactic(auto, unfolding(crate::specs::Heads::comment))]
 fn comment(bytes: &[u8]) -> Head
     ensures { result ≡ comment bytes.now }
@@ -43,7 +44,7 @@ fn comment(bytes: &[u8]) -> Head
     }
 }
 
-/// An Int, and what stands behind it.
+/// An Int, and what stands after it.
 #[tactic(auto, unfolding(crate::specs::Heads::int_before))]
 fn int_before(text: &[u8], rest: &[u8]) -> Head
     requires some { sign_len text.now < length text.now }
@@ -76,7 +77,7 @@ fn number(bytes: &[u8]) -> Head
     int_before(&bytes[..len], &bytes[len..])
 }
 
-/// A string with so many bytes behind its first quote, or its fault.
+/// A string with so many bytes after its first quote, or its fault.
 fn string_head(kind: TokenKind, more: usize, end: Result<usize, u8>) -> Head
     requires { MatchResult end (λ n. more + n < 2 ^ 64) (λ _. ⊤) }
     ensures { result ≡ string_head kind more end }
@@ -87,7 +88,7 @@ fn string_head(kind: TokenKind, more: usize, end: Result<usize, u8>) -> Head
     }
 }
 
-/// A Block or a Text, behind its first quote.
+/// A Block or a Text, after its first quote.
 #[tactic(auto, unfolding(crate::specs::Heads::string))]
 fn string(bytes: &[u8]) -> Head
     ensures { result ≡ string bytes.now }

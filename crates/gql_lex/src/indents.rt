@@ -120,7 +120,7 @@ fn filled_len(lines: &[&str]) -> usize
     len
 }
 
-/// Adds a line to a text, behind a LF where it is not the first.
+/// Adds a line to a text, after a LF where it is not the first.
 fn push_line(text: &mut String, line: &str, is_first: bool) -> Result<(), AllocError>
     ensures { IfOk result (λ _. string_bytes text.new ≡ cond is_first (string_bytes text.old ++ line.now) (string_bytes text.old ++ 10 ∷ line.now)) }
 {

@@ -9,7 +9,7 @@ use crate::heads::head;
 use crate::tokens::{Head, LexFault, Token};
 use std::marker::Model;
 
-/// A text whose tokens are read one by one: seen as the tokens that lie ahead, and the fault behind
+/// A text whose tokens are read one by one: seen as the tokens that lie ahead, and the fault after
 /// them where there is one.
 #[derive(Drop)]
 pub struct Lexer<'a> {

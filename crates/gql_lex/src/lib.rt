@@ -5,13 +5,12 @@ mod block_values;
 mod bytes;
 mod heads;
 mod indents;
+pub mod laws;
 pub mod lexer;
 mod lines;
 mod numbers;
 pub mod places;
 mod strings;
-#[cfg(test)]
-mod tests;
 mod text_values;
 pub mod tokens;
 pub mod values;

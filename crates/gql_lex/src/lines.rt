@@ -53,7 +53,7 @@ fn line_end(bytes: &[u8], at: usize) -> usize
     at + line_len(&bytes[at..])
 }
 
-/// Where the next line begins, behind the end of one.
+/// Where the next line begins, after the end of one.
 fn next_line(bytes: &[u8], end: usize) -> usize
     requires within { end < length bytes.now }
     requires stops { is_line_end (slice_index bytes.now end) ≡ true }

@@ -1,13 +1,13 @@
 //! Where strings end.
 ghost use Rattle.std.specs.Prelude.{◌≡◌, ◌≤◌, ◌<◌, cond, Some, None, IfOk, length};
 ghost use Rattle.std.specs.Char.{digit_value};
-ghost use Rattle.gql_lex.specs.Characters.{is_within};
+ghost use Rattle.gql_plain.specs.Names.{is_within};
 ghost use Rattle.gql_lex.specs.Strings.{IsStep, block_end, code_of_hex, escape_len, is_four_hex, is_hex, is_simple_escape, is_surrogate, text_end};
 
 use crate::bytes::{byte_at, is_escaped_quotes, is_three_quotes, may_stand, may_stand_in_block};
 use crate::tokens::{BAD_STRING, SURROGATE};
 
-/// Whether a byte behind a backslash is an escape by itself.
+/// Whether a byte after a backslash is an escape by itself.
 fn is_simple_escape(byte: u8) -> bool
     ensures { result ≡ is_simple_escape byte }
 {
@@ -46,7 +46,7 @@ fn is_surrogate(code: u32) -> bool
     0xD800 <= code && code <= 0xDFFF
 }
 
-/// How many bytes an escape has behind its backslash.
+/// How many bytes an escape has after its backslash.
 #[tactic(auto, unfolding(crate::specs::Strings::escape_len))]
 pub fn escape_len(bytes: &[u8]) -> Result<usize, u8>
     ensures is { result ≡ escape_len bytes.now }
@@ -89,7 +89,7 @@ fn text_step(bytes: &[u8]) -> Result<Option<usize>, u8>
     }
 }
 
-/// Where a Text ends, behind its first quote.
+/// Where a Text ends, after its first quote.
 pub fn text_end(bytes: &[u8]) -> Result<usize, u8>
     ensures is { result ≡ text_end 0 bytes.now }
     ensures within { IfOk result (λ n. n ≤ length bytes.now) }
@@ -121,7 +121,7 @@ fn block_step(bytes: &[u8]) -> Result<Option<usize>, u8>
     }
 }
 
-/// Where a Block ends, behind its first three quotes.
+/// Where a Block ends, after its first three quotes.
 pub fn block_end(bytes: &[u8]) -> Result<usize, u8>
     ensures is { result ≡ block_end 0 bytes.now }
     ensures within { IfOk result (λ n. n ≤ length bytes.now) }

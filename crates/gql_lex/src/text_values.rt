@@ -24,7 +24,7 @@ fn simple_escape(byte: u8) -> u8
     }
 }
 
-/// The character that an escape stands for, behind its backslash.
+/// The character that an escape stands for, after its backslash.
 fn escape_char(bytes: &[u8]) -> char
     requires { IsOk (escape_len bytes.now) }
     ensures { result ≡ escape_char bytes.now }
@@ -42,7 +42,7 @@ fn escape_char(bytes: &[u8]) -> char
     }
 }
 
-/// How many bytes an escape has behind its backslash.
+/// How many bytes an escape has after its backslash.
 fn escaped_len(bytes: &[u8]) -> usize
     ensures { result ≡ escaped_len bytes.now }
 {
