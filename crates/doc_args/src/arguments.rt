@@ -1,4 +1,9 @@
-//! Arguments that are not defined, stand twice, or are left out (rules V12 and V13).
+//! V12, argument names (GraphQL, October 2021, sections 5.4.1 and 5.4.2): the arguments of fields
+//! and directives are defined, and differ. `{ team(sise: 2) { name } }` breaks it at `sise`.
+//!
+//! V13, required arguments (section 5.4.2.1): an argument of a non-null type without default is
+//! given, and not as `null`. `{ node { id } }` breaks it at `node`, where `node(id: ID!)` is
+//! wanted.
 ghost use Rattle.std.specs.Prelude.{◌≡◌, ◌++◌, ◌&&◌, [], List, map, not, IfOk, OnOk};
 ghost use Rattle.std.specs.List.{list_any};
 ghost use Rattle.gql_ast.specs.ValueView.{value_of};

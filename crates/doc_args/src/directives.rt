@@ -1,4 +1,6 @@
-//! Directives that are not known, stand where they may not, or stand twice (rule V15).
+//! V15, directives (GraphQL, October 2021, section 5.7): directives are known, stand in their
+//! locations, and stand once where they do not repeat. `{ me @deprecated { name } }` breaks it at
+//! `deprecated`.
 ghost use Rattle.std.specs.Prelude.{◌≡◌, ◌++◌, map, IfOk, OnOk};
 ghost use Rattle.std.specs.List.{list_any};
 ghost use Rattle.schema_types.specs.ArgumentRules as rules;

@@ -51,7 +51,7 @@ impl<'a> Gathered<'a> {
         }
     }
 
-    /// Puts a fragment, behind others of its name.
+    /// Puts a fragment, after others of its name.
     pub(crate) fn put(&mut self, alloc: Global, part: &Part<'a>) -> Result<(), NoMemory>
         ensures { (tells : Text → List rules.Use) → Gathers self.old tells
             → OnOk result (Gathers self.new (λ n. tells n ++ named_uses (part_of part.now) n)) }

@@ -16,6 +16,3 @@ mod uses;
 mod variables;
 
 pub use check::check_args;
-
-#[cfg(test)]
-mod tests;

@@ -1,4 +1,6 @@
-//! Literals that do not fit (rule V14).
+//! V14, values of correct type (GraphQL, October 2021, section 5.6): literals fit; the names of an
+//! object literal differ, and for an input type they are defined and the required ones given.
+//! `{ team(size: "2") { name } }` breaks it at `"2"`, where size is an Int.
 ghost use Rattle.std.specs.Prelude.{◌≡◌, ◌&&◌, map, not, option_copied, IfOk, OnOk};
 ghost use Rattle.gql_ast.specs.TypeView.{ty_of};
 ghost use Rattle.gql_ast.specs.Value.{members_of, vals_of};

@@ -1,4 +1,6 @@
-//! Variables and their uses (rule V16).
+//! V16, variables (GraphQL, October 2021, section 5.8): definitions differ and have input types; a
+//! variable that is used is defined, and its use is allowed. `query Q { team(size: $n) { name } }`
+//! breaks it at `n`.
 ghost use Rattle.std.specs.Prelude.{◌≡◌, ◌++◌, [], List, map, length, option_map, IfOk, OnOk};
 ghost use Rattle.schema_types.specs.ArgumentRules as rules;
 ghost use Rattle.schema_types.specs.Graphs.{Tells};

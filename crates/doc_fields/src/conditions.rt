@@ -1,4 +1,6 @@
-//! Type conditions that never apply (rule V10).
+//! V10, fragment spread is possible (GraphQL, October 2021, section 5.5.2.3): a type condition and
+//! the type around it have a possible type in common. `{ me { ... on Page { title } } }` breaks it
+//! at the `...`, where no User is a Page; a spread breaks it at its name.
 ghost use Rattle.std.specs.Prelude.{◌≡◌, true, Some, map, option_copied, option_map, ◌++◌, List, IfOk, OnOk};
 ghost use Rattle.std.specs.List.{list_any};
 ghost use Rattle.schema_types.specs.FieldRules as rules;

@@ -1,4 +1,5 @@
-//! Fields of Float (rule V9).
+//! V9, no Float (this project's own): the named type of a selected field is not Float.
+//! `{ me { height } }` breaks it at `height`, where that is a Float.
 ghost use Rattle.std.specs.Prelude.{◌≡◌, Some, map, option_copied};
 ghost use Rattle.schema_types.specs.FieldRules as rules;
 ghost use Rattle.schema_types.specs.Leasts.{noted};

@@ -89,7 +89,7 @@ fn put_head_at<'a>(
     }
 }
 
-/// Puts the keys of a fragment behind those of others of its name, where it applies to the root type.
+/// Puts the keys of a fragment after those of others of its name, where it applies to the root type.
 fn put_head<'a>(
     alloc: Global,
     schema: &Schema,

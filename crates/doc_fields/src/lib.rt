@@ -13,6 +13,3 @@ mod subscriptions;
 mod undefined;
 
 pub use checking::check_fields;
-
-#[cfg(test)]
-mod tests;

@@ -1,4 +1,5 @@
-//! Selection sets at leaves, and composite fields without one (rule V8).
+//! V8, leaf field selections (GraphQL, October 2021, section 5.3.3): a leaf has no selection set,
+//! and a composite field has one. `{ me }` breaks it at `me`, where `me` is a User.
 ghost use Rattle.std.specs.Prelude.{◌≡◌, map, option_copied, Some};
 ghost use Rattle.schema_types.specs.FieldRules as rules;
 ghost use Rattle.schema_types.specs.Leasts.{noted};

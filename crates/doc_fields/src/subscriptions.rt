@@ -1,4 +1,6 @@
-//! Subscriptions with more than one root field (rule V11).
+//! V11, single root field (GraphQL, October 2021, section 5.2.3.1): all that applies to the root of
+//! a subscription has one response key, and it is no `__typename`.
+//! `subscription S { renamed { name } posted { title } }` breaks it at `S`.
 ghost use Rattle.std.specs.Prelude.{◌≡◌, map, option_map, ◌++◌, List, Some, IfOk, OnOk};
 ghost use Rattle.gql_plain.specs.Order.{has_text};
 ghost use Rattle.gql_ast.specs.declared.document.Kind.TheVariants.{Subscription};

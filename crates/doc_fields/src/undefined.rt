@@ -1,4 +1,6 @@
-//! Fields that their types do not have (rule V7).
+//! V7, field selections (GraphQL, October 2021, section 5.3.1): a field is defined on the type
+//! around it; `__typename` is on every composite type. On `type User { name: String }` the
+//! selection `{ me { nam } }` breaks it at `nam`.
 ghost use Rattle.std.specs.Prelude.{◌≡◌, Some, map, option_copied};
 ghost use Rattle.schema_types.specs.FieldRules as rules;
 ghost use Rattle.schema_types.specs.Leasts.{noted};

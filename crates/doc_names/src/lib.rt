@@ -9,6 +9,3 @@ mod ranks;
 mod rules;
 
 pub use check::check_names;
-
-#[cfg(test)]
-mod tests;

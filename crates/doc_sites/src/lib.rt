@@ -21,6 +21,3 @@ pub use searching::names_reached;
 pub use site::{
     ArgumentAt, DefinitionAt, DirectiveAt, FragmentAt, OperationAt, Site, ValueAt, VariableAt,
 };
-
-#[cfg(test)]
-mod tests;

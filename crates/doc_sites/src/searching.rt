@@ -38,7 +38,7 @@ pub fn names_reached<'t>(
 }
 
 /// Those that are not seen yet, each once. From now on all of them are seen; those that are new are
-/// put behind the others.
+/// put after the others.
 fn round<'t>(
     alloc: Global,
     seen: &mut Seen<'t>,

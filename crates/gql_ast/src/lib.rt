@@ -31,6 +31,3 @@ pub use selection::{Selection, Selections};
 pub use type_tree::{TypeBox, TypeTree};
 pub use value::{Argument, Arguments, ValueTree, ValueTrees};
 pub use variable::{VariableDef, VariableDefs};
-
-#[cfg(test)]
-mod tests;

@@ -65,7 +65,7 @@ fn read_bare(alloc: Global, first: usize, cursor: &mut Cursor<'_>) -> Result<Def
     }))
 }
 
-/// Reads an operation, behind its kind (section 2.3).
+/// Reads an operation, after its kind (section 2.3).
 fn read_operation(alloc: Global, kind: Kind, cursor: &mut Cursor<'_>) -> Result<Operation, Fault>
     ensures reads { (ws : List Written) → Goes result (going (length cursor.old.text) (kinded ws kind) cursor.old.source) (λ o. going (length cursor.old.text) (between (ws ++ full (D.Operation o) ∷ [])) cursor.new.source) }
     ensures places { IfOk result (λ o. (first : ℕ) (ns : List ℕ) (c : Ahead) → ((ms : List ℕ) → laid ((first + 2) ∷ ms) c ≡ laid ms cursor.old) → laid (spell_operation node_count first o ns) c ≡ laid ns cursor.new) }
@@ -98,7 +98,7 @@ fn read_optional_name(alloc: Global, cursor: &mut Cursor<'_>) -> Result<Option<N
     Ok(Some(read_name(alloc, cursor, 1)?))
 }
 
-/// Reads a fragment, behind its `fragment` (section 2.8).
+/// Reads a fragment, after its `fragment` (section 2.8).
 fn read_fragment(alloc: Global, cursor: &mut Cursor<'_>) -> Result<Fragment, Fault>
     ensures reads { (ws : List Written) → Goes result (going (length cursor.old.text) (fragment_begun ws) cursor.old.source) (λ f. going (length cursor.old.text) (between (ws ++ full (D.Fragment f) ∷ [])) cursor.new.source) }
     ensures places { IfOk result (λ f. (first : ℕ) (ns : List ℕ) (c : Ahead) → ((ms : List ℕ) → laid ((first + 2) ∷ ms) c ≡ laid ms cursor.old) → laid (spell_fragment node_count first f ns) c ≡ laid ns cursor.new) }

@@ -14,8 +14,6 @@ ghost use Rattle.gql_syntax.specs.Texts.{IsParseFault};
 
 mod definitions;
 mod selections;
-#[cfg(test)]
-mod tests;
 mod variables;
 
 use crate::definitions::read_definition;
@@ -28,9 +26,9 @@ use std::alloc::Global;
 /// The tree is the one that the text has by the grammar, with the places of its nodes in text
 /// order, outer nodes first. A text that is no document gives its first fault with its place: the
 /// fault of a token (codes 1 to 5), a token that may not stand where it stands or an end that comes
-/// too early (6), bytes that are no UTF-8 (7, told at the first line and column), or the 61st
-/// selection set, list or object, or list type in one another (8). Allocations that are refused
-/// give `NoMemory`. The text may have up to 2^32 - 2 bytes.
+/// too early (6), bytes that are no UTF-8 (7, reported at the first line and column), or a
+/// selection set, a list or object, or a list type that is nested 61 deep (8). Allocations that
+/// are refused give `NoMemory`. The text may have up to 2^32 - 2 bytes.
 pub fn parse_document(
     alloc: Global,
     file: u32,

@@ -43,7 +43,7 @@ pub(crate) fn read_set(
     read_selections(alloc, room - 1, cursor)
 }
 
-/// Reads the selections of a set, behind its `{`, and its `}`.
+/// Reads the selections of a set, after its `{`, and its `}`.
 #[cycle(selections)]
 fn read_selections(alloc: Global, room: u32, cursor: &mut Cursor<'_>) -> Result<Selections, Fault>
     ensures reads { (up : Up) → Goes result (going (length cursor.old.text) (set (record { room = room; before = end; up = up })) cursor.old.source) (λ s. going (length cursor.old.text) (closed (room + 1) s up) cursor.new.source) }
@@ -172,7 +172,7 @@ fn read_spread(alloc: Global, room: u32, cursor: &mut Cursor<'_>) -> Result<Sele
     Ok(Selection::Spread { name, directives })
 }
 
-/// Reads the rest of an inline fragment, behind its type condition.
+/// Reads the rest of an inline fragment, after its type condition.
 #[cycle(selections)]
 fn read_inline(
     alloc: Global,

@@ -41,7 +41,7 @@ fn read_definition(alloc: Global, nodes: usize, cursor: &mut Cursor<'_>) -> Resu
     read_described(alloc, nodes, cursor)
 }
 
-/// Reads a definition behind its description. So many nodes begin at its word.
+/// Reads a definition after its description. So many nodes begin at its word.
 fn read_described(alloc: Global, nodes: usize, cursor: &mut Cursor<'_>) -> Result<SchemaDef, Fault>
     ensures reads { Reads MayDescribe head whole (spell_written node_count nodes) written_of cursor.old cursor.new result }
     ensures taken { OnOk result (token_count cursor.new.source < token_count cursor.old.source) }

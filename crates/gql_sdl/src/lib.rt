@@ -5,8 +5,6 @@ mod definitions;
 mod inputs;
 mod lists;
 mod members;
-#[cfg(test)]
-mod tests;
 mod words;
 
 ghost use Rattle.std.specs.Prelude.{◌≡◌, ◌⊎◌, ◌<◌, ◌-◌, ◌^◌, ℕ, List, length, Err, Ok, IfErr, IfOk};
@@ -30,8 +28,8 @@ const NOT_UTF8: u8 = 7;
 /// section 3; descriptions are passed over).
 ///
 /// The bytes are the text of the file with this number. The first fault of a text is told with its
-/// place; at most 60 lists and objects, and at most 60 list types, stand in one another. Bytes that
-/// are not UTF-8 are told at the first line and column. NoMemory may come for any text.
+/// place; lists and objects nest at most 60 deep, and so do list types. Bytes that are not UTF-8 are
+/// reported at the first line and column. NoMemory may come for any text.
 pub fn parse_schema(
     alloc: Global,
     file: u32,

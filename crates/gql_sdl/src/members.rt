@@ -56,7 +56,7 @@ pub(crate) fn read_fields(alloc: Global, cursor: &mut Cursor<'_>) -> Result<Fiel
     }
 }
 
-/// Reads the name of a value of an enum behind its description.
+/// Reads the name of a value of an enum after its description.
 fn read_enum_name(alloc: Global, cursor: &mut Cursor<'_>) -> Result<Name, Fault>
     ensures name { IfOk result (λ n. next_word cursor.old.source ≡ Some n) }
     ensures free { IfOk result (λ n. is_reserved n ≡ false) }

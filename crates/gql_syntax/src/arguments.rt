@@ -18,7 +18,7 @@ use crate::values::read_value;
 use gql_ast::{Argument, Arguments};
 use std::alloc::Global;
 
-/// Reads arguments, behind their `(`.
+/// Reads arguments, after their `(`.
 pub fn read_arguments(
     alloc: Global,
     constant: bool,

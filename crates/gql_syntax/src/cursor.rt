@@ -18,12 +18,12 @@ use std::marker::Model;
 /// The code of a token that may not stand where it stands, and of an end that comes too early.
 pub const UNEXPECTED: u8 = 6;
 
-/// The code of a token that opens one more of what stands in one another than may.
+/// The code of a token that nests one deeper than it may.
 pub const TOO_DEEP: u8 = 8;
 
 /// The text of a file, of which the next token has been read.
 ///
-/// Contracts see the file and its text, the tokens that lie ahead with the fault behind them where
+/// Contracts see the file and its text, the tokens that lie ahead with the fault after them where
 /// there is one, and the places so far.
 #[derive(Drop)]
 pub struct Cursor<'a> {

@@ -12,7 +12,7 @@ use std::alloc::{AllocError, AllocFailed};
 pub enum Fault {
     /// A fault at the byte `at`. The codes are those of `SyntaxFault`.
     Wrong { code: u8, at: usize },
-    /// A growth that memory was wanted for was refused.
+    /// A growth of memory was refused.
     NoMemory,
 }
 

@@ -8,8 +8,6 @@ pub mod directives;
 pub mod fault;
 mod locator;
 pub mod names;
-#[cfg(test)]
-mod tests;
 pub mod types;
 pub mod values;
 
@@ -21,6 +19,6 @@ pub use names::{expect, expect_word, kind_of, read_name};
 pub use types::read_type;
 pub use values::{read_default, read_value};
 
-/// How many selection sets, how many lists and objects, and how many list types may stand in one
-/// another. That more are refused is this project's own.
+/// How deep selection sets, lists and objects, and list types may nest, each by itself. That deeper
+/// ones are refused is this project's own.
 pub const NESTING_LIMIT: u32 = 60;

@@ -26,7 +26,7 @@ pub fn read_type(alloc: Global, cursor: &mut Cursor<'_>) -> Result<TypeTree, Fau
     read(alloc, NESTING_LIMIT, cursor)
 }
 
-/// Reads a type in which so many list types may stand in one another.
+/// Reads a type in which so many list types may nest.
 #[cycle(read)]
 fn read(alloc: Global, room: u32, cursor: &mut Cursor<'_>) -> Result<TypeTree, Fault>
     ensures reads { (h : Holder One) → LeadsTo result (λ t. put_type_alone (ty_of t) h) cursor.new.source (type_on (length cursor.old.text)) (type_on (length cursor.old.text) (goes (want_type room h)) cursor.old.source) }
@@ -45,7 +45,7 @@ fn read(alloc: Global, room: u32, cursor: &mut Cursor<'_>) -> Result<TypeTree, F
     Ok(TypeTree::NonNull(TypeBox::new(alloc, nullable)?))
 }
 
-/// Reads a name or a list type, without the `!` behind it.
+/// Reads a name or a list type, without the `!` after it.
 #[cycle(read)]
 fn read_nullable(alloc: Global, room: u32, cursor: &mut Cursor<'_>) -> Result<TypeTree, Fault>
     ensures reads { (h : Holder One) → LeadsTo result (λ t. goes (typed (ty_of t) h)) cursor.new.source (type_on (length cursor.old.text)) (type_on (length cursor.old.text) (goes (want_type room h)) cursor.old.source) }

@@ -25,8 +25,8 @@ use gql_lex::{Token, TokenKind, string_value};
 use gql_plain::Words;
 use std::alloc::Global;
 
-/// Reads a value in which so many lists and objects may stand in one another; in a constant no
-/// variable may stand.
+/// Reads a value in which so many lists and objects may nest; in a constant no variable
+/// may stand.
 pub fn read_value(
     alloc: Global,
     constant: bool,
@@ -194,7 +194,7 @@ fn int_of(text: &str) -> i64
     }
 }
 
-/// Reads the values of a list, behind its `[`.
+/// Reads the values of a list, after its `[`.
 #[cycle(read)]
 fn read_items(
     alloc: Global,
@@ -216,7 +216,7 @@ fn read_items(
     Ok(values)
 }
 
-/// Reads the fields of an object, behind its `{`.
+/// Reads the fields of an object, after its `{`.
 #[cycle(read)]
 fn read_fields(
     alloc: Global,

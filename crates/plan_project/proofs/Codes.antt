@@ -6,7 +6,8 @@ use Rattle.gql_ast.specs.declared.fault.ParseFault.TheVariants.{Syntax, NoMemory
 use Rattle.gql_ast.specs.declared.fault.SyntaxFault.{SyntaxFault}
 use Rattle.gql_lex.specs.Heads.{comment, int_before, number, string, string_head, head}
 use Rattle.gql_lex.specs.Sources.{Source, ended, faulty, token, read_head, read}
-use Rattle.gql_lex.specs.Characters.{quote, backslash, number_sign, is_line_end, may_stand, may_stand_in_block, is_name_start, is_name_byte, is_punctuator, is_ignored, is_mark, is_spread, is_number_start, is_float_mark, is_two_quotes, is_three_quotes, is_escaped_quotes}
+use Rattle.gql_lex.specs.Characters.{quote, backslash, number_sign, is_line_end, may_stand, may_stand_in_block, is_punctuator, is_ignored, is_mark, is_spread, is_number_start, is_float_mark, is_two_quotes, is_three_quotes, is_escaped_quotes}
+use Rattle.gql_plain.specs.Names.{is_name_start, is_name_byte}
 use Rattle.gql_lex.specs.Numbers.{sign_len, digits_len, int_len, is_in_i64}
 use Rattle.gql_lex.specs.Strings.{further, and_then, is_simple_escape, is_four_hex, code_of_hex, is_surrogate, escape_len, text_end, block_end}
 use Rattle.gql_lex.specs.Toks.{Tok}

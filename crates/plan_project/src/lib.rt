@@ -9,8 +9,3 @@ mod parsing;
 
 pub use compiling::{CompileFault, Project, compile};
 pub use file::ProjectFile;
-
-#[cfg(test)]
-mod rows;
-#[cfg(test)]
-mod tests;

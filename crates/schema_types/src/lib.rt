@@ -28,6 +28,3 @@ pub use definitions::{DirectiveDef, FieldDef, InputDef, InputDefs};
 pub use fault::{ProjectFault, Rule, RuleFault};
 pub use kind::TypeKind;
 pub use schema::Schema;
-
-#[cfg(test)]
-mod tests;

@@ -91,7 +91,7 @@ pub enum DefAt<'a> {
     },
 }
 
-/// Goes past so many nodes. A number that does not fit is answered as the want of memory.
+/// Goes past so many nodes. A number that does not fit is answered as out of memory.
 pub fn pass(at: &mut usize, nodes: usize) -> Result<(), NoMemory>
     ensures { OnOk result (at.new ≡ at.old + nodes) }
 {

@@ -1,5 +1,5 @@
-//! V3: type conditions name an object, an interface or a union (GraphQL, October 2021, sections 5.5.1.2
-//! and 5.5.1.3).
+//! V3, type conditions (GraphQL, October 2021, sections 5.5.1.2 and 5.5.1.3): a type condition
+//! names an object, an interface or a union. `fragment F on Int { x }` breaks it at `Int`.
 ghost use Rattle.std.specs.Prelude.{◌≡◌, map, OnOk};
 ghost use Rattle.std.specs.List.{filter_map};
 ghost use Rattle.doc_sites.specs.SitesView.{definition_of, site_of};

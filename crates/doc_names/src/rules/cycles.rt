@@ -1,4 +1,5 @@
-//! V5: no fragment reaches itself through spreads (GraphQL, October 2021, section 5.5.2.2).
+//! V5, fragment cycles (GraphQL, October 2021, section 5.5.2.2): no fragment reaches itself through
+//! spreads. `fragment F on User { friend { ...F } }` breaks it at the `F` of the spread.
 //!
 //! A spread whose fragment has a lower rank than the one in which it stands does not lead back. The
 //! others are searched from in text order, until one leads back: where the ranks are those of the

@@ -1,4 +1,5 @@
-//! V2: the names of fragments differ (GraphQL, October 2021, section 5.5.1.1).
+//! V2, fragment names (GraphQL, October 2021, section 5.5.1.1): the names of fragments differ.
+//! `fragment F on User { name } fragment F on User { id }` breaks it at the second `F`.
 ghost use Rattle.std.specs.Prelude.{◌≡◌, map, OnOk};
 ghost use Rattle.doc_sites.specs.SitesView.{definition_of};
 ghost use Rattle.schema_types.specs.Leasts.{noted};

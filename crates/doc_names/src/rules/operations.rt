@@ -1,5 +1,7 @@
-//! V1: every operation has a name, and the names of operations differ (GraphQL, October 2021, section
-//! 5.2.1.1; that each has a name is this project's own).
+//! V1, operation names (GraphQL, October 2021, section 5.2.1.1; that each operation has a name is
+//! this project's own): every operation has a name, and the names differ.
+//! `query A { me { name } } query A { me { id } }` breaks it at the second `A`; `{ me { name } }`
+//! at its first token.
 ghost use Rattle.std.specs.Prelude.{◌≡◌, map, OnOk};
 ghost use Rattle.doc_sites.specs.SitesView.{definition_of, operation_of};
 ghost use Rattle.schema_types.specs.Leasts.{noted};

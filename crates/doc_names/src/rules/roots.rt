@@ -1,4 +1,5 @@
-//! V6: the root type of an operation is there (GraphQL, October 2021, section 3.3.1).
+//! V6, root types (GraphQL, October 2021, section 3.3.1): the root type of an operation's kind
+//! exists. `mutation M { rename }` breaks it at `M` where the schema has no mutation type.
 ghost use Rattle.std.specs.Prelude.{◌≡◌, map, is_some};
 ghost use Rattle.doc_sites.specs.SitesView.{definition_of, operation_of};
 ghost use Rattle.schema_types.specs.Leasts.{noted};

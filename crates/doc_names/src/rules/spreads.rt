@@ -1,4 +1,5 @@
-//! V4: fragments that are spread are there (GraphQL, October 2021, section 5.5.2.1).
+//! V4, spread targets (GraphQL, October 2021, section 5.5.2.1): a fragment that is spread is
+//! defined. `{ me { ...F } }` without a fragment F breaks it at `F`.
 ghost use Rattle.std.specs.Prelude.{◌≡◌, map, List, IfOk, OnOk};
 ghost use Rattle.doc_sites.specs.SitesView.{definition_of};
 ghost use Rattle.schema_types.specs.Leasts.{noted};

@@ -1,4 +1,7 @@
-//! Fields of interfaces and of what implements them (rule S8).
+//! S8, interface fields (GraphQL, October 2021, section 3.6): a type has each field of its
+//! interfaces, with the same type or a narrower one, each argument with the same type, and no
+//! further required argument. `interface N { id: ID } type A implements N { x: Int }` breaks it at
+//! `A`.
 ghost use Rattle.std.specs.Prelude.{◌≡◌, [], ◌&&◌, not, map, List, Some, None, IfOk, OnOk, option_map, is_some};
 ghost use Rattle.std.specs.BTreeMap.{get_by_text};
 ghost use Rattle.gql_ast.specs.TypeView.{ty_of};

@@ -1,4 +1,6 @@
-//! What implements what (rule S7).
+//! S7, implemented interfaces (GraphQL, October 2021, section 3.6): what is implemented is an
+//! interface, not the type itself, and each interface that it implements is named too.
+//! `type A implements B { x: Int }` breaks it at `B`, where B is an object type.
 ghost use Rattle.std.specs.Prelude.{◌≡◌, [], ◌∷◌, ◌++◌, ◌||◌, not, map, List, IfOk, OnOk};
 ghost use Rattle.std.specs.List.{list_any};
 ghost use Rattle.std.specs.Str.{bytes_eq};

@@ -1,4 +1,8 @@
-//! What definitions have to have, and the values that they give (rules S9 and S11).
+//! S9, members (GraphQL, October 2021, sections 3.6 to 3.10): objects, interfaces, inputs and enums
+//! have a member; unions have one, and all are object types. `type Query` breaks it at `Query`.
+//!
+//! S11, defaults (section 3.6.1): default values fit. `type Query { team(size: Int = "2"): Int }`
+//! breaks it at `size`.
 ghost use Rattle.std.specs.Prelude.{◌≡◌, [], ◌∷◌, ◌++◌, map, OnOk};
 ghost use Rattle.schema_types.specs.Leasts.{noted};
 ghost use Rattle.schema_types.specs.Located as located;

@@ -1,4 +1,9 @@
-//! Names that are reserved or repeated (rules S4 and S5).
+//! S4, reserved names (GraphQL, October 2021, section 3.3): no name begins with `__`.
+//! `type Query { __me: Int }` breaks it at `__me`.
+//!
+//! S5, repeated names (section 3.6 and its like): within one definition fields, arguments of one
+//! field, enum values, union members, input fields and implemented interfaces differ.
+//! `enum E { A A }` breaks it at the second `A`.
 ghost use Rattle.std.specs.Prelude.{◌≡◌, [], ◌∷◌, map, IfOk, OnOk};
 ghost use Rattle.schema_types.specs.Leasts.{noted};
 ghost use Rattle.schema_types.specs.LocatedView.{name_of, input_of, field_of, root_of, def_of};

@@ -1,4 +1,5 @@
-//! Input types that need themselves (rule S10).
+//! S10, input types that need themselves (GraphQL, October 2021, section 3.10): no input type needs
+//! itself through non-null fields that are no lists. `input I { of: I! }` breaks it at `I`.
 ghost use Rattle.std.specs.Prelude.{◌≡◌, ◌++◌, true, map, length, List, IfOk, OnOk, option_map};
 ghost use Rattle.std.specs.List.{filter_map};
 ghost use Rattle.gql_ast.specs.Ty as ty;

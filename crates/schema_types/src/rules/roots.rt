@@ -1,4 +1,9 @@
-//! Names of definitions, and the root types (rules S1 and S3).
+//! S1, names of definitions (GraphQL, October 2021, section 3.3): the names of types differ, those
+//! of directives differ, there is at most one `schema` definition, and no kind stands twice in it.
+//! `type A { x: Int } type A { y: Int }` breaks it at the second `A`.
+//!
+//! S3, root types (section 3.3.1): there is a query root; root types are object types and differ.
+//! `schema { query: ID }` breaks it at `ID`.
 ghost use Rattle.std.specs.Prelude.{◌≡◌, ◌&&◌, false, [], ◌∷◌, ◌++◌, None, Some, not, map, List, IfOk, OnOk, MatchOption, is_some};
 ghost use Rattle.std.specs.List.{filter_map};
 ghost use Rattle.gql_ast.specs.declared.document.Kind.{Kind};

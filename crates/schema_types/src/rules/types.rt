@@ -1,4 +1,11 @@
-//! Types that are used (rules S2, S6 and S12).
+//! S2, known types (GraphQL, October 2021, section 3.4): every type name that is used is defined or
+//! built in. `type Query { me: Usr }` breaks it at `Usr`.
+//!
+//! S6, input and output types (sections 3.6 and 3.10): fields have output types; arguments and
+//! input fields have input types. `input I { of: Query }` breaks it at `Query`.
+//!
+//! S12, lists of lists (this project's own): no field has a composite type inside more than one
+//! list. `type Query { rows: [[Query]] }` breaks it at the `Query` of the type.
 ghost use Rattle.std.specs.Prelude.{◌≡◌, ◌++◌, map, OnOk, nat_lt, is_some, ◌&&◌};
 ghost use Rattle.gql_ast.specs.TypeView.{ty_of};
 ghost use Rattle.schema_types.specs.Leasts.{noted};

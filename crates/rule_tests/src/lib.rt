@@ -1,0 +1,21 @@
+//! Tests of schemas, of the rules on documents, and of whole projects, over what their crates offer.
+#![tactic(auto)]
+
+#[cfg(test)]
+mod arguments;
+#[cfg(test)]
+mod fields;
+#[cfg(test)]
+mod names;
+#[cfg(test)]
+mod projects;
+#[cfg(test)]
+mod rows;
+#[cfg(test)]
+mod schemas;
+#[cfg(test)]
+mod sites;
+#[cfg(test)]
+mod texts;
+#[cfg(test)]
+mod variables;
