@@ -2,3 +2,4 @@ pub mod Placing
 pub mod Evaluating
 pub mod Giving
 pub mod Fitting
+pub mod FittingLaws

@@ -1,3 +1,4 @@
 pub mod Failures
+pub mod Fittings
 pub mod Listed
 pub mod Means

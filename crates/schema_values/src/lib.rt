@@ -5,6 +5,7 @@
 pub mod env;
 mod environment;
 mod evaluated;
+pub mod fittings;
 mod pairs;
 mod suited;
 
@@ -12,6 +13,3 @@ pub use env::{Env, VarFault};
 pub use environment::variables;
 pub use evaluated::evaluate;
 pub use suited::fits;
-
-#[cfg(test)]
-mod tests;
