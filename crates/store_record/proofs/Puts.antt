@@ -1,5 +1,7 @@
 -- Putting a field under a key, into a list whose keys are in byte order.
-use Rattle.std.proofs.Common.{◌≡◌, ℕ, zero, suc, ◌<◌, ◌≤◌, List, [], ◌∷◌, length, get_or, set, Less, Equal, Greater, Ordering, Err, nat_cmp, refl, sym, ap, ◌∙◌, arith}
+use Rattle.std.proofs.Common.{◌≡◌, ℕ, zero, suc, ◌<◌, ◌≤◌, List, [], ◌∷◌, length, get_or, set, is_eq, Less, Equal, Greater, Ordering, Err, nat_cmp, refl, sym, ap, ◌∙◌, arith}
+use Rattle.std.proofs.lemmas.Map.Text.{is_eq-slice_cmp}
+use Rattle.std.proofs.lemmas.Slice.Eq.{bytes_eq-Decides}
 use Rattle.std.specs.Cmp.Lexicographic.{slice_cmp, nat_list_cmp_total}
 use Rattle.std.specs.FinMap.Entries.{put, by_order}
 use Rattle.std.specs.List.{AllByRecursion, insert}
@@ -34,6 +36,9 @@ index_rises a b key below = at (order b key) refl
         rw (turned key a Greater over) (omega arith)
     at Greater e = index_bound (order a key)
 
+same_text : (a b : List ℕ) → order a b ≡ Equal → a ≡ b
+same_text a b e = (bytes_eq-Decides a b).0 (sym (is_eq-slice_cmp a b) ∙ ap is_eq e)
+
 module _ {X : Type 0} where
   rises : (key : List ℕ) (es : List (List ℕ × X)) → AreInOrder (keys_of es) → IsNonDecreasingBy (λ e. ordering_index (order e.0 key)) es
   unfolding IsStrictlySortedBy
@@ -63,8 +68,8 @@ module _ {X : Type 0} where
         | Greater ↦ λ p. (below_put e.0 key value es (turned key e.0 Greater p) sorted.0, AreInOrder-put key value es sorted.1)
       ] refl
 
-  -- the entry of a key that is there has a new value
-  pub put-found : (key : List ℕ) (value : X) (es : List (List ℕ × X)) (at : ℕ) (d : List ℕ × X) → AreInOrder (keys_of es) → at < length es
+  -- a pair whose key is there has a new value
+  put-found : (key : List ℕ) (value : X) (es : List (List ℕ × X)) (at : ℕ) (d : List ℕ × X) → AreInOrder (keys_of es) → at < length es
       → order (get_or es at d).0 key ≡ Equal → put order key value es ≡ set es at ((get_or es at d).0, value)
   unfolding IsStrictlySortedBy
   put-found key value [] at d sorted within same = absurd (omega arith)
@@ -76,6 +81,12 @@ module _ {X : Type 0} where
       let over : order key e.0 ≡ Greater = sym (nat_list_cmp_total.congr there key e.0 same) ∙ turned e.0 there Less below in
       ap (λ o. by_order o ((key, value) ∷ e ∷ es) ((e.0, value) ∷ es) (e ∷ put order key value es)) over
       ∙ ap (λ xs. e ∷ xs) (put-found key value es at d sorted.1 (omega arith) same)
+
+  -- a pair takes the place of the one with its key
+  pub put-in_place : (pair : List ℕ × X) (es : List (List ℕ × X)) (at : ℕ) (d : List ℕ × X) → AreInOrder (keys_of es) → at < length es
+      → order (get_or es at d).0 pair.0 ≡ Equal → set es at pair ≡ put order pair.0 pair.1 es
+  put-in_place pair es at d sorted within same =
+      ap (λ k. set es at (k, pair.1)) (sym (same_text (get_or es at d).0 pair.0 same)) ∙ sym (put-found pair.0 pair.1 es at d sorted within same)
 
   -- the entry of a key that is not there goes between those below it and those above it
   pub put-absent : (key : List ℕ) (value : X) (es : List (List ℕ × X)) (at : ℕ) → at ≤ length es

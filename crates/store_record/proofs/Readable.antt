@@ -1,5 +1,5 @@
 -- The text of a storage key can be read in one way.
-use Rattle.std.proofs.Common.{◌≡◌, ℕ, suc, ◌<◌, ◌≤◌, ◌^◌, ℤ, pos, negsuc, Bool, true, false, true≢false, cond, ◌&&◌, ◌||◌, ◌==◌, [], ◌∷◌, ◌++◌, length, get_or, drop, codes, Some, unwrap_or, refl, sym, ap, subst, ◌∙◌, arith, append_assoc, nat_lt, nat_le}
+use Rattle.std.proofs.Common.{◌≡◌, ℕ, suc, ◌<◌, ◌≤◌, ◌^◌, ℤ, pos, negsuc, Bool, true, false, true≢false, cond, ◌&&◌, ◌||◌, ◌==◌, [], ◌∷◌, ◌++◌, length, get_or, drop, codes, Some, unwrap_or, refl, sym, ap, subst, ◌∙◌, arith, append_assoc, nat_lt}
 use Rattle.std.specs.Char.{digit_value}
 use Rattle.std.specs.Fmt.{decimal, signed_decimal}
 use Rattle.std.specs.Int.Signed.{mag}
@@ -11,9 +11,10 @@ use Rattle.std.proofs.lemmas.List.{append_cancel_left, append-nil}
 use Rattle.json.specs.Print.{escape, quoted}
 use Rattle.json.specs.Text.{content, plain}
 use Rattle.json.proofs.Printed.Strings.{content-escape}
+use Rattle.gql_plain.specs.Names.{is_within, is_name_start, is_name_byte, is_name}
 use Rattle.gql_plain.specs.ToJson.{compact, more_trees, more_members}
 use Rattle.gql_plain.specs.Tree.{Tree, null, truth, whole, text, list, object, Trees, no_trees, tree, Members, no_members, member}
-use Rattle.store_record.specs.Keys.{Text, Arguments, is_in_range, is_in_64_bits, trees_are_in_64_bits, members_are_in_64_bits, is_null, given, pair_text, more_pairs, key_with, is_name, is_letter, is_name_byte, are_arguments, FieldKeysDiffer}
+use Rattle.store_record.specs.Keys.{Text, Arguments, is_in_range, is_in_64_bits, trees_are_in_64_bits, members_are_in_64_bits, is_null, given, pair_text, more_pairs, key_with, are_arguments, FieldKeysDiffer}
 
 first_of : (a b : Bool) → (a && b) ≡ true → a ≡ true
 first_of true b h = refl
@@ -203,7 +204,7 @@ mutual
 name_bytes : (name : Text) → is_name name ≡ true → list_all is_name_byte name ≡ true
 name_bytes [] h = refl
 name_bytes (b ∷ ys) h =
-    λ i. (ap (λ x. x || (nat_le 48 b && nat_le b 57)) (first_of (is_letter b) (list_all is_name_byte ys) h)) i && second_of (is_letter b) (list_all is_name_byte ys) h i
+    λ i. (ap (λ x. x || is_within 48 57 b) (first_of (is_name_start b) (list_all is_name_byte ys) h)) i && second_of (is_name_start b) (list_all is_name_byte ys) h i
 
 after_pair : (more : Arguments) → Stops is_number_byte (more_pairs more)
 after_pair [] = refl

@@ -1,7 +1,8 @@
 -- Storage keys and generated ids (this project's own).
-use Rattle.std.specs.Prelude.{◌≡◌, ℕ, ◌^◌, ℤ, pos, negsuc, List, [], ◌∷◌, ◌++◌, Bool, true, false, not, ◌&&◌, ◌||◌, ◌==◌, nat_le, nat_lt, nat_eq, cond, codes, IsTrue, Option, Some, None}
+use Rattle.std.specs.Prelude.{◌≡◌, ℕ, ◌^◌, ℤ, pos, negsuc, List, [], ◌∷◌, ◌++◌, Bool, true, false, not, ◌&&◌, nat_lt, nat_eq, cond, codes, IsTrue, Option, Some, None}
 use Rattle.std.specs.Fmt.{decimal}
 use Rattle.std.specs.List.{starts_with, list_all}
+use Rattle.gql_plain.specs.Names.{is_name}
 use Rattle.gql_plain.specs.Order.{has_text}
 use Rattle.gql_plain.specs.Tree.{Tree, null, truth, whole, text, list, object, Trees, no_trees, tree, Members, no_members, member}
 use Rattle.gql_plain.specs.ToJson.{compact}
@@ -92,17 +93,6 @@ abbrev pub client_id : Text → Text → Option ℕ → Text
 client_id parent key index = prefix_of parent ++ parent ++ codes ":" ++ key ++ index_text index
 
 -- ---- laws
-
-abbrev pub is_letter : ℕ → Bool
-is_letter b = (nat_le 97 b && nat_le b 122) || (nat_le 65 b && nat_le b 90) || (b == 95)
-
-abbrev pub is_name_byte : ℕ → Bool
-is_name_byte b = is_letter b || (nat_le 48 b && nat_le b 57)
-
--- a text that has the form of a Name (GraphQL, October 2021, section 2.1.9)
-abbrev pub is_name : Text → Bool
-is_name [] = false
-is_name (b ∷ bs) = is_letter b && list_all is_name_byte bs
 
 -- whether a number is within 64 bits
 abbrev pub is_in_range : ℤ → Bool

@@ -5,9 +5,10 @@ ghost use Rattle.std.specs.FinMap.Entries.{put};
 ghost use Rattle.std.specs.Ordering.{nat_cmp};
 ghost use Rattle.gql_plain.specs.Order.{member_at};
 
-use gql_plain::{Id, NoMemory, OptIds, Plain, Words};
+use gql_plain::{Id, NoMemory, OptIds, Plain, SharedText, Words};
 use std::alloc::Global;
 use std::marker::Model;
+use std::rc::Rc;
 
 /// What a record holds under a key. A null of any field is `Leaf(Null)`.
 #[derive(Debug, Drop)]
@@ -33,11 +34,77 @@ impl Field {
     }
 }
 
+/// A key and the field that stands under it.
+#[derive(Drop)]
+pub struct FieldEntry {
+    pub key: SharedText,
+    pub field: Field,
+}
+
+/// A key and its field, which several records may share, seen as the pair of both.
+#[derive(Drop)]
+pub struct SharedField {
+    entry: Rc<FieldEntry>,
+}
+
+impl Model for SharedField {
+    ghost use Rattle.std.specs.Prelude.{ℕ, List};
+    ghost use Rattle.store_record.specs.declared.field.Field.{Field};
+
+    ghost Value = { List ℕ × Field };
+
+    ghost use Rattle.std.specs.Coded.{coded×, coded_list, coded_ℕ};
+    ghost use Rattle.store_record.specs.contracts.field.Field as field;
+
+    ghost coded = { coded× (coded_list coded_ℕ) field.the_row.coded };
+
+    ghost view = { λ s. (s.entry.value.key, s.entry.value.field) };
+}
+
+impl SharedField {
+    /// The key and the field, so that they can be shared.
+    pub fn new(alloc: Global, key: SharedText, field: Field) -> Result<SharedField, NoMemory>
+        ensures { IfOk result (λ shared. shared ≡ (key, field)) }
+    {
+        Ok(SharedField {
+            entry: Rc::new(alloc, FieldEntry { key, field })?,
+        })
+    }
+
+    /// The key; takes no memory.
+    pub fn key(&self) -> &str
+        ensures { result.now ≡ self.now.0 }
+    {
+        self.entry.key.as_str()
+    }
+
+    /// The field; takes no memory.
+    pub fn field(&self) -> &Field
+        ensures { result.now ≡ self.now.1 }
+    {
+        &self.entry.field
+    }
+
+    /// One more owner of the same key and field.
+    pub fn copy(&self) -> Result<SharedField, NoMemory>
+        ensures { IfOk result (λ shared. shared ≡ self.now) }
+    {
+        Ok(SharedField {
+            entry: self.entry.clone()?,
+        })
+    }
+}
+
 /// The fields of a record under their keys, seen as the list of the pairs: the keys are distinct and
 /// in byte order.
-#[derive(Debug, Drop)]
+///
+/// Copies share the keys and fields: a copy of n fields takes one allocation, and none for a field,
+/// but it raises n counts. So a change of one field of a record that others still hold costs n
+/// counts, and N changes that each bring a new key cost about N * N / 2 counts. A persistent tree of
+/// fields would need about log n allocations a change in their place.
+#[derive(Drop)]
 pub struct Fields {
-    pub entries: Vec<(Words, Field)>,
+    entries: Vec<SharedField>,
 }
 
 impl Model for Fields {
@@ -72,11 +139,9 @@ impl Fields {
     pub fn get(&self, key: &str) -> Option<&Field>
         ensures { option_copied result ≡ member_at self.now key.now }
     {
-        let found = self
-            .entries
-            .binary_search_by(|(name, _)| name.as_str().cmp(key));
+        let found = self.entries.binary_search_by(|entry| entry.key().cmp(key));
         match found {
-            Ok(at) => Some(&self.entries[at].1),
+            Ok(at) => Some(self.entries[at].field()),
             Err(_) => None,
         }
     }
@@ -86,12 +151,23 @@ impl Fields {
         ensures ok { OnOk result (self.new ≡ put (slice_cmp nat_cmp) key field self.old) }
         ensures err { OnErr result (self.new ≡ self.old) }
     {
+        let alloc = *self.entries.allocator();
+        let key = SharedText::new(alloc, key)?;
+        let entry = SharedField::new(alloc, key, field)?;
+        self.put_shared(entry)
+    }
+
+    /// Puts a shared field under its key, in the place of the one that stands there.
+    pub fn put_shared(&mut self, entry: SharedField) -> Result<(), NoMemory>
+        ensures ok { OnOk result (self.new ≡ put (slice_cmp nat_cmp) entry.0 entry.1 self.old) }
+        ensures err { OnErr result (self.new ≡ self.old) }
+    {
         let found = self
             .entries
-            .binary_search_by(|(name, _)| name.as_str().cmp(key.as_str()));
+            .binary_search_by(|other| other.key().cmp(entry.key()));
         match found {
-            Ok(at) => self.entries[at].1 = field,
-            Err(at) => self.entries.insert(at, (key, field))?,
+            Ok(at) => self.entries[at] = entry,
+            Err(at) => self.entries.insert(at, entry)?,
         }
         Ok(())
     }
@@ -111,19 +187,19 @@ impl Fields {
     }
 
     /// The keys and fields; takes no memory.
-    pub fn as_slice(&self) -> &[(Words, Field)]
+    pub fn as_slice(&self) -> &[SharedField]
         ensures { result.now ≡ self.now }
     {
         self.entries.as_slice()
     }
 
-    /// Equal fields.
+    /// Equal fields, which share the keys and fields.
     pub fn copy(&self) -> Result<Fields, NoMemory>
         ensures { IfOk result (λ fields. fields ≡ self.now) }
     {
-        let mut entries = Vec::new(*self.entries.allocator());
-        'entries: for (key, field) in &self.entries {
-            entries.push((key.copy()?, field.copy()?))?;
+        let mut entries = Vec::with_capacity(*self.entries.allocator(), self.entries.len())?;
+        'entries: for entry in &self.entries {
+            entries.push(entry.copy()?)?;
         }
         Ok(Fields { entries })
     }

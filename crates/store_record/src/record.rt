@@ -8,7 +8,7 @@ use std::marker::Model;
 use std::rc::Rc;
 
 /// A record: the name of its type, and its fields.
-#[derive(Debug, Drop)]
+#[derive(Drop)]
 pub struct Record {
     pub type_name: Name,
     pub fields: Fields,

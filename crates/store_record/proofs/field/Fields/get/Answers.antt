@@ -17,7 +17,7 @@ returns-in-Ok c =
     let within : at < length es = subst (λ xs. at < length xs) c.deref.ensures.value facts.bound in
     let here : slice_cmp nat_cmp (get_or es at read).0 key ≡ Equal = subst (λ xs. slice_cmp nat_cmp (get_or xs at read).0 key ≡ Equal) c.deref.ensures.value (equal read) in
     let some : member_at es key ≡ Some (get_or es at read).1 = member_at-some es key at read within c.self.invariant here in
-    ap (λ e. Some e.1) c.index.ensures ∙ sym some ∙ ap (λ ms. member_at ms key) c.self.view_is
+    ap Some c.field.ensures ∙ ap (λ e. Some e.1) c.index.ensures ∙ sym some ∙ ap (λ ms. member_at ms key) c.self.view_is
 
 pub returns-in-Err : goal.returns-in-Err
 returns-in-Err c =
