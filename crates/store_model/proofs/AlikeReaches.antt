@@ -1,84 +1,116 @@
--- Parts that collect alike items reach the same ids, and the reach does not depend on the number of records that it may
--- go down, from the depth of its parts on.
-use Rattle.std.proofs.Common.{◌≡◌, ℕ, zero, suc, ◌≤◌, Bool, List, [], ◌∷◌, ◌++◌, cond, refl, ap, ◌∙◌, arith}
-use Rattle.std.specs.List.{AllZip}
-use Rattle.gql_plain.specs.Order.{has_text}
+-- Parts whose groups are alike reach the same set of ids.
+use Rattle.std.proofs.Common.{◌≡◌, ◌↔◌, ℕ, zero, suc, ◌≤◌, Bool, true, false, List, [], ◌∷◌, ◌++◌, cond, refl, arith, subst, inl, inr}
+use Rattle.std.specs.List.{AllByRecursion, AllZip}
+use Rattle.store_model.proofs.Flips.{Flip, of_among, keeps_flip}
 use Rattle.store_record.specs.Keys.{Text}
-use Rattle.store_model.proofs.SameItems.{AlikeGroup, grouped_alike, parts_alike, all_alike}
-use Rattle.store_model.specs.Alike.{AlikeAsked, AlikeItems}
-use Rattle.store_model.specs.Items.{Asked, Group, members, parts, grouped, Collect, collect_all}
-use Rattle.store_model.specs.Reaches.{Onward, types_of, links_of, links_under, followed, from_each, reach_asked, reach_groups, reach_stand, reach_at}
+use Rattle.gql_plain.specs.Order.{has_text}
+use Rattle.store_model.specs.Alike.{Among, Related, AlikeGroup, AlikeAt, Keeps}
+use Rattle.store_model.specs.Items.{Ask, Group, asks, parts, Collect, groups_at}
+use Rattle.store_model.specs.Reaches.{Onward, types_of, followed, from_each, reach_asked, reach_groups, reach_stand, reach_at}
 use Rattle.store_model.specs.Walks.{Slots, Fields, Standing, absent, gone, lives, standing_of, field_of}
 
-from_alike : (next other : Text → List Text) → ((id : Text) → next id ≡ other id) → (ids : List Text) → from_each next ids ≡ from_each other ids
-from_alike next other same [] = refl
-from_alike next other same (id ∷ ids) =
-    let first = same id in
-    let rest = from_alike next other same ids in
-    λ i. first i ++ rest i
+abbrev pub Each : {X : Type 0} → (X → Type 0) → List X → Type 0
+Each P xs = AllByRecursion P xs
 
-module _ {F G : Type 0} (r : F → G → Type 0) (next : Onward F) (other : Onward G)
-    (same : (types : List Text) (f : F) (fs : List F) (g : G) (gs : List G) (id : Text) → r f g → AllZip r fs gs → next types (f ∷ fs) id ≡ other types (g ∷ gs) id) where
-  members_alike : (fields : Fields) (fs : List F) (gs : List G) → ((types : List Text) (id : Text) → next types fs id ≡ other types gs id)
-      → (us : List (Asked F)) (vs : List (Asked G)) → AllZip (AlikeAsked r) us vs → reach_asked next fields fs us ≡ reach_asked other fields gs vs
-  members_alike fields fs gs below [] [] h = refl
-  members_alike fields fs gs below [] (v ∷ vs) h = absurd h
-  members_alike fields fs gs below (u ∷ us) [] h = absurd h
-  members_alike fields fs gs below (u ∷ us) (v ∷ vs) h =
-      let first = from_alike (next (types_of u.form) fs) (other (types_of u.form) gs) (below (types_of u.form)) (followed fields u) in
-      let turned : from_each (other (types_of u.form) gs) (followed fields u) ≡ from_each (other (types_of v.form) gs) (followed fields v)
-      = λ i. from_each (other (types_of (h.0.form i)) gs) (links_of (fields (h.0.key i)) ++ links_under fields (h.0.handle i)) in
-      let rest = members_alike fields fs gs below us vs h.1 in
-      λ i. (first ∙ turned) i ++ rest i
+each_append : {X : Type 0} (P : X → Type 0) (xs ys : List X) → Each P xs → Each P ys → Each P (xs ++ ys)
+each_append P [] ys a b = b
+each_append P (x ∷ xs) ys a b = (a.0, each_append P xs ys a.1 b)
 
-  groups_alike : (fields : Fields) (us : List (Group F)) (vs : List (Group G)) → AllZip (AlikeGroup r) us vs → reach_groups next fields us ≡ reach_groups other fields vs
-  groups_alike fields [] [] h = refl
-  groups_alike fields [] (v ∷ vs) h = absurd h
-  groups_alike fields (u ∷ us) [] h = absurd h
-  groups_alike fields (u ∷ us) (v ∷ vs) h =
-      let first = members_alike fields (parts u) (parts v) (λ types id. same types u.first.part _ v.first.part _ id h.0.first.part (parts_alike r u.others v.others h.0.others))
-      (members u) (members v) (h.0.first, h.0.others) in
-      let rest = groups_alike fields us vs h.1 in
-      λ i. first i ++ rest i
+each_left : {X : Type 0} (P : X → Type 0) (xs ys : List X) → Each P (xs ++ ys) → Each P xs
+each_left P [] ys h = tt
+each_left P (x ∷ xs) ys h = (h.0, each_left P xs ys h.1)
 
-  alive_alike : (possible : Bool) (xs ys : List Text) → xs ≡ ys → cond possible xs [] ≡ cond possible ys []
-  alive_alike possible xs ys e = ap (λ zs. cond possible zs []) e
+each_right : {X : Type 0} (P : X → Type 0) (xs ys : List X) → Each P (xs ++ ys) → Each P ys
+each_right P [] ys h = h
+each_right P (x ∷ xs) ys h = each_right P xs ys h.1
 
-  stand_alike : (collect : Collect F) (gather : Collect G) (typed : Text → Text) (fs : List F) (gs : List G)
-      → ((T : Text) → AlikeItems r (collect_all collect T fs) (collect_all gather T gs))
-      → (types : List Text) (s : Standing) (fields : Fields) → reach_stand collect typed next types fs s fields ≡ reach_stand gather typed other types gs s fields
-  stand_alike collect gather typed fs gs items types absent fields = refl
-  stand_alike collect gather typed fs gs items types gone fields = refl
-  stand_alike collect gather typed fs gs items types (lives name) fields =
-      let T = typed name in
-      alive_alike (has_text types T) _ _ (groups_alike fields (grouped (collect_all collect T fs)) (grouped (collect_all gather T gs))
-      (grouped_alike r (collect_all collect T fs) (collect_all gather T gs) (items T)))
+module _ (P : Text → Type 0) where
+  from_within : (next other : Text → List Text) → ((id : Text) → Each P (next id) → Each P (other id)) → (ids : List Text) → Each P (from_each next ids) → Each P (from_each other ids)
+  from_within next other same [] h = h
+  from_within next other same (id ∷ ids) h =
+      each_append P (other id) (from_each other ids) (same id (each_left P (next id) (from_each next ids) h)) (from_within next other same ids (each_right P (next id) (from_each next ids) h))
+
+  module _ {F G : Type 0} (r : Related F G) (next : Onward F) (other : Onward G)
+      (same : (types : List Text) (fs : List F) (gs : List G) (id : Text) → r types fs gs → Each P (next types fs id) → Each P (other types gs id)) where
+    -- what holds of a group's reach holds of the reach from each of its fields
+    of_field : (fields : Fields) (fs : List F) (us : List Ask) (a : Ask) → Among a us → Each P (reach_asked next fields fs us) → Each P (from_each (next (types_of a.form) fs) (followed fields a))
+    of_field fields fs [] a here h = absurd here
+    of_field fields fs (u ∷ us) a (inl e) h =
+        subst (λ b. Each P (from_each (next (types_of b.form) fs) (followed fields b))) e
+        (each_left P (from_each (next (types_of u.form) fs) (followed fields u)) (reach_asked next fields fs us) h)
+    of_field fields fs (u ∷ us) a (inr there) h =
+        of_field fields fs us a there (each_right P (from_each (next (types_of u.form) fs) (followed fields u)) (reach_asked next fields fs us) h)
+
+    members_within : (fields : Fields) (fs : List F) (gs : List G) → (us vs : List Ask) → Each (λ a. r (types_of a.form) fs gs) us → Each (λ b. Among b us) vs
+        → Each P (reach_asked next fields fs us) → Each P (reach_asked other fields gs vs)
+    members_within fields fs gs us [] below there h = tt
+    members_within fields fs gs us (v ∷ vs) below there h =
+        each_append P (from_each (other (types_of v.form) gs) (followed fields v)) (reach_asked other fields gs vs)
+        (from_within (next (types_of v.form) fs) (other (types_of v.form) gs)
+        (λ id. same (types_of v.form) fs gs id (of_among (λ a. r (types_of a.form) fs gs) v us below there.0))
+        (followed fields v) (of_field fields fs us v there.0 h))
+        (members_within fields fs gs us vs below there.1 h)
+
+    groups_within : (fields : Fields) (us : List (Group F)) (vs : List (Group G)) → AllZip (AlikeGroup r) us vs → Each P (reach_groups next fields us) → Each P (reach_groups other fields vs)
+    groups_within fields [] [] h reach = tt
+    groups_within fields [] (v ∷ vs) h reach = absurd h
+    groups_within fields (u ∷ us) [] h reach = absurd h
+    groups_within fields (u ∷ us) (v ∷ vs) h reach =
+        each_append P (reach_asked other fields (parts v) (asks v)) (reach_groups other fields vs)
+        (members_within fields (parts u) (parts v) (asks u) (asks v) h.0.below h.0.back
+        (each_left P (reach_asked next fields (parts u) (asks u)) (reach_groups next fields us) reach))
+        (groups_within fields us vs h.1 (each_right P (reach_asked next fields (parts u) (asks u)) (reach_groups next fields us) reach))
+
+    possible_within : (possible : Bool) (xs ys : List Text) → (possible ≡ true → Each P xs → Each P ys) → Each P (cond possible xs []) → Each P (cond possible ys [])
+    possible_within true xs ys f h = f refl h
+    possible_within false xs ys f h = tt
+
+    stand_within : (collect : Collect F) (gather : Collect G) (typed : Text → Text) (types : List Text) (fs : List F) (gs : List G)
+        → ((T : Text) → has_text types T ≡ true → AlikeAt r collect gather T fs gs)
+        → (s : Standing) (fields : Fields)
+        → Each P (reach_stand collect typed next types fs s fields) → Each P (reach_stand gather typed other types gs s fields)
+    stand_within collect gather typed types fs gs alike absent fields h = tt
+    stand_within collect gather typed types fs gs alike gone fields h = tt
+    stand_within collect gather typed types fs gs alike (lives name) fields h =
+        possible_within (has_text types (typed name)) _ _
+        (λ yes. groups_within fields (groups_at collect (typed name) fs) (groups_at gather (typed name) gs) (alike (typed name) yes).groups) h
 
 -- ---- the laws
 
 module _ {F G : Type 0} (collect : Collect F) (gather : Collect G) (typed : Text → Text) (m : Slots) where
-  -- parts that are related, where related parts collect alike items, reach the same ids
-  pub reach_alike : (r : F → G → Type 0) → ((T : Text) (f : F) (g : G) → r f g → AlikeItems r (collect T f) (gather T g))
-      → (depth : ℕ) (types : List Text) (fs : List F) (gs : List G) (id : Text) → AllZip r fs gs
-      → reach_at collect typed m depth types fs id ≡ reach_at gather typed m depth types gs id
-  reach_alike r items zero types fs gs id h = refl
-  reach_alike r items (suc depth) types fs gs id h =
-      ap (λ ids. id ∷ ids) (stand_alike r (reach_at collect typed m depth) (reach_at gather typed m depth)
-      (λ types f fs g gs id e all. reach_alike r items depth types (f ∷ fs) (g ∷ gs) id (e, all))
-      collect gather typed fs gs (λ T. all_alike r r collect gather items T fs gs h)
-      types (standing_of (m id)) (field_of (m id)))
+  -- what holds of each id that parts reach holds of each id that related parts reach
+  pub reach_within : (P : Text → Type 0) (r : ℕ → Related F G) → ((n : ℕ) → Keeps (r n) (r (suc n)) collect gather)
+      → (depth : ℕ) (types : List Text) (fs : List F) (gs : List G) (id : Text) → r depth types fs gs
+      → Each P (reach_at collect typed m depth types fs id) → Each P (reach_at gather typed m depth types gs id)
+  reach_within P r keeps zero types fs gs id h reach = reach
+  reach_within P r keeps (suc depth) types fs gs id h reach = (
+    reach.0,
+    stand_within P (r depth) (reach_at collect typed m depth) (reach_at gather typed m depth)
+        (λ types fs gs id h. reach_within P r keeps depth types fs gs id h)
+        collect gather typed types fs gs (λ T here. keeps depth T types fs gs here h) (standing_of (m id)) (field_of (m id)) reach.1,
+  )
 
-  -- parts that are related n deep, where parts related n + 1 deep collect alike items whose parts are related n deep,
-  -- reach the same ids under any two numbers of at least n
-  pub reach_enough : (r : ℕ → F → G → Type 0) → ((f : F) (g : G) → r zero f g → ⊥)
-      → ((n : ℕ) (T : Text) (f : F) (g : G) → r (suc n) f g → AlikeItems (r n) (collect T f) (gather T g))
-      → (n depth other : ℕ) → n ≤ depth → n ≤ other → (types : List Text) (f : F) (fs : List F) (g : G) (gs : List G) (id : Text) → r n f g → AllZip (r n) fs gs
-      → reach_at collect typed m depth types (f ∷ fs) id ≡ reach_at gather typed m other types (g ∷ gs) id
-  reach_enough r none items zero depth other a b types f fs g gs id e h = absurd (none f g e)
-  reach_enough r none items (suc n) zero other a b types f fs g gs id e h = absurd (omega arith)
-  reach_enough r none items (suc n) (suc depth) zero a b types f fs g gs id e h = absurd (omega arith)
-  reach_enough r none items (suc n) (suc depth) (suc other) a b types f fs g gs id e h =
-      ap (λ ids. id ∷ ids) (stand_alike (r n) (reach_at collect typed m depth) (reach_at gather typed m other)
-      (λ types f fs g gs id e all. reach_enough r none items n depth other (omega arith) (omega arith) types f fs g gs id e all)
-      collect gather typed (f ∷ fs) (g ∷ gs) (λ T. all_alike (r (suc n)) (r n) collect gather (items n) T (f ∷ fs) (g ∷ gs) (e, h))
-      types (standing_of (m id)) (field_of (m id)))
+  -- the same under any two numbers of at least the depth
+  pub reach_enough : (P : Text → Type 0) (r : ℕ → Related F G) → ((types : List Text) (fs : List F) (gs : List G) → r zero types fs gs → ⊥)
+      → ((n : ℕ) → Keeps (r n) (r (suc n)) collect gather)
+      → (n depth other : ℕ) → n ≤ depth → n ≤ other → (types : List Text) (fs : List F) (gs : List G) (id : Text) → r n types fs gs
+      → Each P (reach_at collect typed m depth types fs id) → Each P (reach_at gather typed m other types gs id)
+  reach_enough P r none keeps zero depth other a b types fs gs id h reach = absurd (none types fs gs h)
+  reach_enough P r none keeps (suc n) zero other a b types fs gs id h reach = absurd (omega arith)
+  reach_enough P r none keeps (suc n) (suc depth) zero a b types fs gs id h reach = absurd (omega arith)
+  reach_enough P r none keeps (suc n) (suc depth) (suc other) a b types fs gs id h reach = (
+    reach.0,
+    stand_within P (r n) (reach_at collect typed m depth) (reach_at gather typed m other)
+        (λ types fs gs id h. reach_enough P r none keeps n depth other (omega arith) (omega arith) types fs gs id h)
+        collect gather typed types fs gs (λ T here. keeps n T types fs gs here h) (standing_of (m id)) (field_of (m id)) reach.1,
+  )
+
+-- related parts reach the same set of ids: what holds of each id of the one holds of each of the other
+pub reach_same : {F G : Type 0} (collect : Collect F) (gather : Collect G) (typed : Text → Text) (m : Slots)
+    (r : ℕ → Related F G) → ((n : ℕ) → Keeps (r n) (r (suc n)) collect gather)
+    → (depth : ℕ) (types : List Text) (fs : List F) (gs : List G) (id : Text) → r depth types fs gs → (P : Text → Type 0)
+    → Each P (reach_at collect typed m depth types fs id) ↔ Each P (reach_at gather typed m depth types gs id)
+reach_same collect gather typed m r keeps depth types fs gs id h P = (
+  reach_within collect gather typed m P r keeps depth types fs gs id h,
+  reach_within gather collect typed m P (λ n. Flip (r n)) (λ n. keeps_flip (r n) (r (suc n)) collect gather (keeps n)) depth types gs fs id h,
+)

@@ -1,11 +1,9 @@
 -- Worked rows of events, computed from the definitions.
-use Rattle.std.proofs.Common.{◌≡◌, refl, ℕ, List, [], ◌∷◌, ◌++◌, Option, Some, None, codes, true, false}
+use Rattle.std.proofs.Common.{◌≡◌, refl, [], ◌∷◌, Some, None, codes}
 use Rattle.std.specs.Prelude.{pos}
-use Rattle.std.specs.Fmt.{digits}
-use Rattle.serde_json.proofs.OnLiterals.{serde_json_on_literals}
 use Rattle.serde_json.specs.Data as J
 use Rattle.store_record.specs.Keys.{Text}
-use Rattle.store_model.specs.Events.{Line, too_long, not_json, no_event, no_commands, event, retain, begin, read, update, collect, of_value}
+use Rattle.store_model.specs.Events.{Line, not_json, no_event, no_commands, event, retain, begin, update, collect, of_value}
 use Rattle.store_model.specs.declared.command.Command.TheVariants as C
 
 abbrev pair : Text → Text → J.Members → J.Members

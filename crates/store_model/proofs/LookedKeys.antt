@@ -15,8 +15,8 @@ use Rattle.store_model.specs.Walks.{Slots, Fields, Standing, absent, gone, lives
 abbrev pub LooksWell : (Text → Type 0) → Form → Text → Type 0
 LooksWell Q typename key = Unit {0}
 LooksWell Q leaf key = Q key
-LooksWell Q (one types) key = Q key
-LooksWell Q (many types) key = Q key
+LooksWell Q (one b) key = Q key
+LooksWell Q (many b) key = Q key
 
 looked_null : (Q : Text → Type 0) (value : Plain) → Each (λ p. Q p.1) (null_alone value).1.looked
 looked_null Q Null = tt
@@ -35,13 +35,13 @@ looked_leaf Q (Some (Links ids)) = tt
 looked_own : (Q : Text → Type 0) (form : Form) (id key : Text) → LooksWell Q form key → Each (λ p. Q p.1) (looks_at form id key).looked
 looked_own Q typename id key h = tt
 looked_own Q leaf id key h = (h, tt)
-looked_own Q (one types) id key h = (h, tt)
-looked_own Q (many types) id key h = (h, tt)
+looked_own Q (one b) id key h = (h, tt)
+looked_own Q (many b) id key h = (h, tt)
 
 -- Q is what holds of the keys, K of the parts
 module _ {F : Type 0} (Q : Text → Type 0) (K : F → Type 0) where
   abbrev pub KeyedAsked : Asked F → Type 0
-  KeyedAsked a = LooksWell Q a.form (read_key a) × K a.part
+  KeyedAsked a = LooksWell Q a.ask.form (read_key a.ask) × K a.part
 
   abbrev pub KeyedItem : Item F → Type 0
   KeyedItem (asked a) = KeyedAsked a
@@ -99,18 +99,18 @@ module _ {F : Type 0} (Q : Text → Type 0) (K : F → Type 0) where
       looked_value : (T : Text) (form : Form) (field : Option Field) → Looked (value_at next T fs form field).1
       looked_value T typename field = tt
       looked_value T leaf field = looked_leaf Q field
-      looked_value T (one types) field = looked_one types field
-      looked_value T (many types) field = looked_many types field
+      looked_value T (one b) field = looked_one b.types field
+      looked_value T (many b) field = looked_many b.types field
 
     looked_fields : (T id : Text) (fields : Fields) (end : Shown × Trace) (groups : List (Group F)) → Looked end.1 → Each (Fits KeyedAsked) groups → Looked (fields_at next T id fields end groups).1
     looked_fields T id fields end [] before h = before
     looked_fields T id fields end (g ∷ groups) before h =
-        let look = looks_at g.first.form id (read_key g.first) in
+        let look = looks_at g.first.ask.form id (read_key g.first.ask) in
         let value = (group_at next T fields g).1 in
-        let others = each_so (λ a. (g.first.response ≡ a.response) × KeyedAsked a) KeyedAsked g.others (λ a e. e.1) h.0.1 in
+        let others = each_so (λ a. (g.first.ask.response ≡ a.ask.response) × KeyedAsked a) KeyedAsked g.others (λ a e. e.1) h.0.1 in
         each_append (λ p. Q p.1) (joined look value).looked (fields_at next T id fields end groups).1.looked
-        (each_append (λ p. Q p.1) look.looked value.looked (looked_own Q g.first.form id (read_key g.first) h.0.0.0)
-        (looked_value (parts g) (parts_keyed (members g) (h.0.0, others)) T g.first.form (fields (read_key g.first))))
+        (each_append (λ p. Q p.1) look.looked value.looked (looked_own Q g.first.ask.form id (read_key g.first.ask) h.0.0.0)
+        (looked_value (parts g) (parts_keyed (members g) (h.0.0, others)) T g.first.ask.form (fields (read_key g.first.ask))))
         (looked_fields T id fields end groups before h.1)
 
     looked_pointer : (T id : Text) (p : Pointer F) (inline : Bool) → (inline ≡ true → K p.body) → Looked (pointer_at next T id p inline).1

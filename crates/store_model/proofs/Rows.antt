@@ -323,7 +323,7 @@ abbrev paged : HandleFact → Entry
 paged h = record { facts = record { facts = []; handles = h ∷ [] }; commands = [] }
 
 pub a_first_page_asks_for_the_servers_records : looks (paged (handle Null Null (codes "friends"))) first_page
-    ≡ codes "4" ∷ codes "c" ∷ codes "a" ∷ codes "b" ∷ codes "i" ∷ []
+    ≡ codes "4" ∷ codes "c" ∷ codes "i" ∷ codes "a" ∷ codes "b" ∷ []
 unfolding serde_json_on_literals digits
 a_first_page_asks_for_the_servers_records = simp (gets) refl
 
@@ -332,8 +332,8 @@ unfolding serde_json_on_literals digits
 a_first_page_weighs_as_much = simp (gets) refl
 
 pub a_page_before_asks_for_the_old_edges_too : looks (paged (handle Null (Words (codes "c1")) (codes "older"))) older_page
-    ≡ codes "4" ∷ codes "d" ∷ connection ∷ (connection ++ codes ":pageInfo") ∷ codes "e" ∷ codes "gone" ∷ codes "f"
-    ∷ edge_named (codes "0") ∷ edge_named (codes "1") ∷ codes "j" ∷ []
+    ≡ codes "4" ∷ codes "d" ∷ connection ∷ (connection ++ codes ":pageInfo") ∷ codes "j" ∷ codes "e" ∷ codes "gone" ∷ codes "f"
+    ∷ edge_named (codes "0") ∷ edge_named (codes "1") ∷ []
 unfolding serde_json_on_literals digits
 a_page_before_asks_for_the_old_edges_too = simp (gets) refl
 
@@ -341,6 +341,19 @@ pub a_page_that_does_not_fit_asks_for_the_stored_cursor : looks (paged (handle N
     ≡ codes "4" ∷ codes "d" ∷ connection ∷ (connection ++ codes ":pageInfo") ∷ []
 unfolding serde_json_on_literals digits
 a_page_that_does_not_fit_asks_for_the_stored_cursor = simp (gets) refl
+
+-- a record that is the server's connection and the client's at once counts once, an edge as often as it stands in the list
+abbrev self_linked : Records
+self_linked =
+    with_record (codes "4") (record { type_name = codes "User"; fields = (codes "__K_friends_connection", Link (codes "4")) ∷ (codes "edges", Links (Some (codes "a") ∷ None ∷ Some (codes "a") ∷ [])) ∷ (codes "friends", Link (codes "4")) ∷ [] })
+    no_records
+
+pub an_id_that_is_asked_for_twice_counts_once : weight (paged (handle Null Null (codes "friends"))) self_linked ≡ 4
+unfolding serde_json_on_literals digits
+an_id_that_is_asked_for_twice_counts_once = simp (gets) refl
+
+pub each_command_counts_its_ids : weight (record { facts = record { facts = []; handles = [] }; commands = C.Delete (codes "4") ∷ C.Delete (codes "4") ∷ [] }) no_records ≡ 4
+each_command_counts_its_ids = refl
 
 pub ids_lead_along_links : leads_along (lives_of ((codes "4", Alive (record { type_name = codes "User"; fields = (codes "friend", Link (codes "9")) ∷ [] })) ∷ (codes "8", Alive (user (codes "Al"))) ∷ [])) (codes "4" ∷ [])
     ≡ codes "4" ∷ codes "client:4:pageInfo" ∷ codes "client:4:pageInfo" ∷ codes "9" ∷ codes "client:9:pageInfo" ∷ []

@@ -3,7 +3,7 @@ use Rattle.std.proofs.Common.{◌≡◌, ℕ, zero, suc, Bool, true, false, cond
 use Rattle.gql_plain.specs.Order.{has_text}
 use Rattle.store_record.specs.Keys.{Text}
 use Rattle.store_model.proofs.Least.{Each, each_left, each_right}
-use Rattle.store_model.specs.Items.{Asked, Group, members, parts, grouped, Collect, collect_all}
+use Rattle.store_model.specs.Items.{Ask, Group, asks, parts, Collect, groups_at}
 use Rattle.store_model.specs.Reaches.{Onward, types_of, followed, from_each, reach_asked, reach_groups, reach_stand, reach_at}
 use Rattle.store_model.specs.Walks.{Slots, Fields, Standing, absent, gone, lives, standing_of, field_of}
 
@@ -16,7 +16,7 @@ module _ (P : Text → Type 0) where
       λ i. first i ++ rest i
 
   module _ {F : Type 0} (next other : Onward F) (same : (types : List Text) (fs : List F) (id : Text) → Each P (next types fs id) → other types fs id ≡ next types fs id) (fields : Fields) where
-    asked_same : (fs : List F) (us : List (Asked F)) → Each P (reach_asked next fields fs us) → reach_asked other fields fs us ≡ reach_asked next fields fs us
+    asked_same : (fs : List F) (us : List Ask) → Each P (reach_asked next fields fs us) → reach_asked other fields fs us ≡ reach_asked next fields fs us
     asked_same fs [] h = refl
     asked_same fs (a ∷ us) h =
         let here = from_each (next (types_of a.form) fs) (followed fields a) in
@@ -27,8 +27,8 @@ module _ (P : Text → Type 0) where
     groups_same : (gs : List (Group F)) → Each P (reach_groups next fields gs) → reach_groups other fields gs ≡ reach_groups next fields gs
     groups_same [] h = refl
     groups_same (g ∷ gs) h =
-        let here = reach_asked next fields (parts g) (members g) in
-        let first = asked_same (parts g) (members g) (each_left P here (reach_groups next fields gs) h) in
+        let here = reach_asked next fields (parts g) (asks g) in
+        let first = asked_same (parts g) (asks g) (each_left P here (reach_groups next fields gs) h) in
         let rest = groups_same gs (each_right P here (reach_groups next fields gs) h) in
         λ i. first i ++ rest i
 
@@ -40,7 +40,7 @@ module _ (P : Text → Type 0) where
         → reach_stand collect typed other types fs s fields ≡ reach_stand collect typed next types fs s fields
     stand_same collect typed types fs absent h = refl
     stand_same collect typed types fs gone h = refl
-    stand_same collect typed types fs (lives name) h = possible_same (has_text types (typed name)) (grouped (collect_all collect (typed name) fs)) h
+    stand_same collect typed types fs (lives name) h = possible_same (has_text types (typed name)) (groups_at collect (typed name) fs) h
 
 module _ {F : Type 0} (collect : Collect F) (typed : Text → Text) (m n : Slots) where
   -- a reach stays the same in every map with the same slots at its ids

@@ -6,7 +6,7 @@ use Rattle.store_record.specs.declared.field.Field.{Field}
 use Rattle.store_record.specs.declared.field.Field.TheVariants.{Leaf, Link, Links}
 use Rattle.store_model.proofs.Least.{each_left, each_right}
 use Rattle.store_model.specs.Agree.{Agrees, AgreeAt, AgreeUnder}
-use Rattle.store_model.specs.Items.{Form, typename, leaf, one, many, Pointer, Group, parts, grouped, pointers, Collect, collect_all}
+use Rattle.store_model.specs.Items.{Form, typename, leaf, one, many, Pointer, Group, parts, Collect, groups_at, pointers_on}
 use Rattle.store_model.specs.Walks.{Slots, Fields, Standing, absent, gone, lives, standing_of, field_of, Trace, joined, stood, looks_at, issue, Shown, Next, or_null, with_found, with_value, leaf_at, one_at, element_at, elements_at, listed, many_at, value_at, read_key, group_at, fields_at, pointer_at, pointers_at, marks, object_at, where_possible, stand_at, read_at}
 
 -- ---- agreement on what two walks met
@@ -47,24 +47,24 @@ module _ {F : Type 0} (m n : Slots) (next other : Next F) (same : (types : List 
       → value_at other T fs form (field_of (n id) key) ≡ value_at next T fs form (field_of (m id) key)
   value_same T id fs typename key h = refl
   value_same T id fs leaf key h = ap leaf_at (sym h.fields.0)
-  value_same T id fs (one types) key h =
-      ap (one_at other types fs) (sym h.fields.0) ∙ one_same types fs (field_of (m id) key) (agrees_right m n (looks_at (one types) id key) (one_at next types fs (field_of (m id) key)).1 h)
-  value_same T id fs (many types) key h =
-      ap (many_at other types fs) (sym h.fields.0) ∙ many_same types fs (field_of (m id) key) (agrees_right m n (looks_at (many types) id key) (many_at next types fs (field_of (m id) key)).1 h)
+  value_same T id fs (one b) key h =
+      ap (one_at other b.types fs) (sym h.fields.0) ∙ one_same b.types fs (field_of (m id) key) (agrees_right m n (looks_at (one b) id key) (one_at next b.types fs (field_of (m id) key)).1 h)
+  value_same T id fs (many b) key h =
+      ap (many_at other b.types fs) (sym h.fields.0) ∙ many_same b.types fs (field_of (m id) key) (agrees_right m n (looks_at (many b) id key) (many_at next b.types fs (field_of (m id) key)).1 h)
 
   -- what was met before the fields
   met_before : (T id : Text) (end : Shown × Trace) (groups : List (Group F)) → Agrees m n (fields_at next T id (field_of (m id)) end groups).1 → Agrees m n end.1
   met_before T id end [] h = h
   met_before T id end (g ∷ groups) h =
-      met_before T id end groups (agrees_right m n (joined (looks_at g.first.form id (read_key g.first)) (group_at next T (field_of (m id)) g).1) _ h)
+      met_before T id end groups (agrees_right m n (joined (looks_at g.first.ask.form id (read_key g.first.ask)) (group_at next T (field_of (m id)) g).1) _ h)
 
   fields_same : (T id : Text) (end turned : Shown × Trace) (groups : List (Group F)) → turned ≡ end → Agrees m n (fields_at next T id (field_of (m id)) end groups).1
       → fields_at other T id (field_of (n id)) turned groups ≡ fields_at next T id (field_of (m id)) end groups
   fields_same T id end turned [] e h = e
   fields_same T id end turned (g ∷ groups) e h =
-      let first = value_same T id (parts g) g.first.form (read_key g.first) (agrees_left m n _ (fields_at next T id (field_of (m id)) end groups).1 h) in
-      let rest = fields_same T id end turned groups e (agrees_right m n (joined (looks_at g.first.form id (read_key g.first)) (group_at next T (field_of (m id)) g).1) _ h) in
-      λ i. (with_found g.first.response (first i).0 (rest i).0, joined (joined (looks_at g.first.form id (read_key g.first)) (first i).1) (rest i).1)
+      let first = value_same T id (parts g) g.first.ask.form (read_key g.first.ask) (agrees_left m n _ (fields_at next T id (field_of (m id)) end groups).1 h) in
+      let rest = fields_same T id end turned groups e (agrees_right m n (joined (looks_at g.first.ask.form id (read_key g.first.ask)) (group_at next T (field_of (m id)) g).1) _ h) in
+      λ i. (with_found g.first.ask.response (first i).0 (rest i).0, joined (joined (looks_at g.first.ask.form id (read_key g.first.ask)) (first i).1) (rest i).1)
 
   pointer_same : (T id : Text) (p : Pointer F) (inline : Bool) → Agrees m n (pointer_at next T id p inline).1 → pointer_at other T id p inline ≡ pointer_at next T id p inline
   pointer_same T id p false h = refl
@@ -82,8 +82,8 @@ module _ {F : Type 0} (m n : Slots) (next other : Next F) (same : (types : List 
     object_same : (T : Text) (fs : List F) (id : Text) → Agrees m n (object_at collect owner next T fs id (field_of (m id))).1
         → object_at collect owner other T fs id (field_of (n id)) ≡ object_at collect owner next T fs id (field_of (m id))
     object_same T fs id h =
-        let ps = pointers (collect_all collect T fs) in
-        let gs = grouped (collect_all collect T fs) in
+        let ps = pointers_on collect T fs in
+        let gs = groups_at collect T fs in
         fields_same T id _ _ gs (ap (marks owner id) (pointers_same T id ps (met_before T id (marks owner id (pointers_at next T id ps)) gs h))) h
 
     possible_same : (T : Text) (fs : List F) (id : Text) (possible : Bool) → Agrees m n (where_possible possible id (object_at collect owner next T fs id (field_of (m id)))).1

@@ -9,7 +9,7 @@ use Rattle.gql_plain.specs.declared.plain.Plain.TheVariants.{Null, Bool as Truth
 use Rattle.store_model.proofs.Least.{Each, each_append, each_left, each_right, each_so}
 use Rattle.store_model.proofs.SameRead.{read_same}
 use Rattle.store_model.specs.Agree.{AgreeAt, AgreeUnder}
-use Rattle.store_model.specs.Items.{Form, typename, leaf, one, many, Pointer, Group, parts, grouped, pointers, Collect, collect_all}
+use Rattle.store_model.specs.Items.{Form, typename, leaf, one, many, Pointer, Group, parts, Collect, groups_at, pointers_on}
 use Rattle.store_model.specs.Walks.{Slots, Fields, Standing, absent, gone, lives, standing_of, field_of, Trace, joined, looks_at, Shown, Next, leaf_at, null_alone, one_at, element_at, elements_at, many_at, value_at, read_key, group_at, fields_at, pointer_at, pointers_at, marks, object_at, where_possible, stand_at, read_at}
 
 -- what holds of each id stood at holds of each id whose field is looked at
@@ -22,8 +22,8 @@ within_joined P s t a b h = each_append (λ p. P p.0) s.looked t.looked (a (each
 within_look : (P : Text → Type 0) (form : Form) (id key : Text) → P id → Within P (looks_at form id key)
 within_look P typename id key here h = tt
 within_look P leaf id key here h = (here, tt)
-within_look P (one types) id key here h = (here, tt)
-within_look P (many types) id key here h = (here, tt)
+within_look P (one b) id key here h = (here, tt)
+within_look P (many b) id key here h = (here, tt)
 
 within_null : (P : Text → Type 0) (value : Plain) → Within P (null_alone value).1
 within_null P Null h = tt
@@ -64,16 +64,16 @@ module _ {F : Type 0} (P : Text → Type 0) (next : Next F) (within : (types : L
   within_value : (T : Text) (fs : List F) (form : Form) (field : Option Field) → Within P (value_at next T fs form field).1
   within_value T fs typename field h = tt
   within_value T fs leaf field h = within_leaf P field h
-  within_value T fs (one types) field h = within_one types fs field h
-  within_value T fs (many types) field h = within_many types fs field h
+  within_value T fs (one b) field h = within_one b.types fs field h
+  within_value T fs (many b) field h = within_many b.types fs field h
 
   within_fields : (T id : Text) (fields : Fields) (end : Shown × Trace) (groups : List (Group F)) → P id → Within P end.1 → Within P (fields_at next T id fields end groups).1
   within_fields T id fields end [] here before h = before h
   within_fields T id fields end (g ∷ groups) here before h =
-      let look = looks_at g.first.form id (read_key g.first) in
+      let look = looks_at g.first.ask.form id (read_key g.first.ask) in
       let value = (group_at next T fields g).1 in
       within_joined P (joined look value) (fields_at next T id fields end groups).1
-      (within_joined P look value (within_look P g.first.form id (read_key g.first) here) (within_value T (parts g) g.first.form (fields (read_key g.first))))
+      (within_joined P look value (within_look P g.first.ask.form id (read_key g.first.ask) here) (within_value T (parts g) g.first.ask.form (fields (read_key g.first.ask))))
       (within_fields T id fields end groups here before) h
 
   within_pointer : (T id : Text) (p : Pointer F) (inline : Bool) → Within P (pointer_at next T id p inline).1
@@ -95,9 +95,9 @@ module _ {F : Type 0} (P : Text → Type 0) (next : Next F) (within : (types : L
   within_stand collect typed owner types fs id gone fields h = tt
   within_stand collect typed owner types fs id (lives name) fields h =
       let T = typed name in
-      let ps = pointers (collect_all collect T fs) in
+      let ps = pointers_on collect T fs in
       within_possible id (has_text types T) (object_at collect owner next T fs id fields)
-      (λ here. within_fields T id fields (marks owner id (pointers_at next T id ps)) (grouped (collect_all collect T fs)) here (within_pointers T id ps)) h
+      (λ here. within_fields T id fields (marks owner id (pointers_at next T id ps)) (groups_at collect T fs) here (within_pointers T id ps)) h
 
 module _ {F : Type 0} (collect : Collect F) (typed : Text → Text) (owner : Text) (m : Slots) where
   -- every field looked at is one of an id stood at

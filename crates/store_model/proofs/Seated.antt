@@ -1,15 +1,12 @@
 -- Each field of a list stands in the group of its response key.
-use Rattle.std.proofs.Common.{◌≡◌, Bool, true, false, cond, List, [], ◌∷◌, ◌++◌, Option, Some, None, map, refl, sym, ap, subst, ◌⊎◌, inl, inr, bytes_eq}
+use Rattle.std.proofs.Common.{◌≡◌, Bool, true, false, cond, List, [], ◌∷◌, ◌++◌, Option, Some, None, map, refl, sym, ap, subst, inl, inr, bytes_eq}
 use Rattle.std.proofs.lemmas.Slice.Eq.{bytes_eq-Decides}
 use Rattle.store_record.specs.Keys.{Text}
 use Rattle.store_model.proofs.Least.{Each, each_append}
+use Rattle.store_model.specs.Alike.{Among}
 use Rattle.store_model.specs.Items.{Asked, Item, asked, pointed, Group, members, asked_of, with_asked, grouped_onto, grouped, Collect, collect_all}
 
 -- ---- members of a list
-
-abbrev pub Among : {X : Type 0} → X → List X → Type 0
-Among x [] = ⊥
-Among x (y ∷ ys) = (y ≡ x) ⊎ Among x ys
 
 pub among_left : {X : Type 0} (x : X) (xs ys : List X) → Among x xs → Among x (xs ++ ys)
 among_left x [] ys h = absurd h
@@ -40,14 +37,14 @@ of_among P x (y ∷ xs) all (inr h) = of_among P x xs all.1 h
 module _ {F : Type 0} where
   abbrev pub group_for : Text → List (Group F) → Option (Group F)
   group_for response [] = None
-  group_for response (g ∷ gs) = cond (bytes_eq g.first.response response) (Some g) (group_for response gs)
+  group_for response (g ∷ gs) = cond (bytes_eq g.first.ask.response response) (Some g) (group_for response gs)
 
   abbrev pub SeatedIn : Option (Group F) → Asked F → Type 0
   SeatedIn None x = ⊥
   SeatedIn (Some g) x = Among x (members g)
 
   abbrev pub Seated : List (Group F) → Asked F → Type 0
-  Seated gs x = SeatedIn (group_for x.response gs) x
+  Seated gs x = SeatedIn (group_for x.ask.response gs) x
 
   abbrev with_one : Group F → Asked F → Group F
   with_one g a = record { first = g.first; others = g.others ++ a ∷ [] }
@@ -58,11 +55,11 @@ module _ {F : Type 0} where
   -- the field that is added is seated, and the others stay so
   seated_new : (gs : List (Group F)) (a : Asked F) → Seated (with_asked gs a) a
   seated_new [] a =
-      subst (λ b. SeatedIn (cond b (Some (record { first = a; others = [] })) None) a) (sym ((bytes_eq-Decides a.response a.response).1 refl)) (inl refl)
+      subst (λ b. SeatedIn (cond b (Some (record { first = a; others = [] })) None) a) (sym ((bytes_eq-Decides a.ask.response a.ask.response).1 refl)) (inl refl)
   seated_new (g ∷ gs) a =
-      elim (bytes_eq g.first.response a.response) as (λ b. bytes_eq g.first.response a.response ≡ b → SeatedIn (group_for a.response (cond b (with_one g a ∷ gs) (g ∷ with_asked gs a))) a) [
-        | true ↦ λ e. subst (λ b. SeatedIn (cond b (Some (with_one g a)) (group_for a.response gs)) a) (sym e) (among_right a (members g) (a ∷ []) (inl refl))
-        | false ↦ λ e. subst (λ b. SeatedIn (cond b (Some g) (group_for a.response (with_asked gs a))) a) (sym e) (seated_new gs a)
+      elim (bytes_eq g.first.ask.response a.ask.response) as (λ b. bytes_eq g.first.ask.response a.ask.response ≡ b → SeatedIn (group_for a.ask.response (cond b (with_one g a ∷ gs) (g ∷ with_asked gs a))) a) [
+        | true ↦ λ e. subst (λ b. SeatedIn (cond b (Some (with_one g a)) (group_for a.ask.response gs)) a) (sym e) (among_right a (members g) (a ∷ []) (inl refl))
+        | false ↦ λ e. subst (λ b. SeatedIn (cond b (Some g) (group_for a.ask.response (with_asked gs a))) a) (sym e) (seated_new gs a)
       ] refl
 
   seated_either : (b : Bool) (g h : Group F) (o p : Option (Group F)) (x : Asked F) → (Among x (members g) → Among x (members h)) → (SeatedIn o x → SeatedIn p x) → SeatedIn (cond b (Some g) o) x → SeatedIn (cond b (Some h) p) x
@@ -72,9 +69,9 @@ module _ {F : Type 0} where
   seated_still : (gs : List (Group F)) (a x : Asked F) → Seated gs x → Seated (with_asked gs a) x
   seated_still [] a x s = absurd s
   seated_still (g ∷ gs) a x s =
-      elim (bytes_eq g.first.response a.response) as (λ b. SeatedIn (group_for x.response (cond b (with_one g a ∷ gs) (g ∷ with_asked gs a))) x) [
-        | true ↦ seated_either (bytes_eq g.first.response x.response) g (with_one g a) (group_for x.response gs) (group_for x.response gs) x (among_one g a x) (λ h. h) s
-        | false ↦ seated_either (bytes_eq g.first.response x.response) g g (group_for x.response gs) (group_for x.response (with_asked gs a)) x (λ h. h) (seated_still gs a x) s
+      elim (bytes_eq g.first.ask.response a.ask.response) as (λ b. SeatedIn (group_for x.ask.response (cond b (with_one g a ∷ gs) (g ∷ with_asked gs a))) x) [
+        | true ↦ seated_either (bytes_eq g.first.ask.response x.ask.response) g (with_one g a) (group_for x.ask.response gs) (group_for x.ask.response gs) x (among_one g a x) (λ h. h) s
+        | false ↦ seated_either (bytes_eq g.first.ask.response x.ask.response) g g (group_for x.ask.response gs) (group_for x.ask.response (with_asked gs a)) x (λ h. h) (seated_still gs a x) s
       ]
 
   onto_still : (gs : List (Group F)) (us : List (Asked F)) (x : Asked F) → Seated gs x → Seated (grouped_onto gs us) x
@@ -92,13 +89,13 @@ module _ {F : Type 0} where
   -- ---- what holds of each field holds of the fields of each group, which have its response key
 
   abbrev pub Fits : (Asked F → Type 0) → Group F → Type 0
-  Fits P g = P g.first × Each (λ a. (g.first.response ≡ a.response) × P a) g.others
+  Fits P g = P g.first × Each (λ a. (g.first.ask.response ≡ a.ask.response) × P a) g.others
 
   with_asked_fits : (P : Asked F → Type 0) (gs : List (Group F)) (a : Asked F) → Each (Fits P) gs → P a → Each (Fits P) (with_asked gs a)
   with_asked_fits P [] a all h = ((h, tt), tt)
   with_asked_fits P (g ∷ gs) a all h =
-      elim (bytes_eq g.first.response a.response) as (λ b. bytes_eq g.first.response a.response ≡ b → Each (Fits P) (cond b (with_one g a ∷ gs) (g ∷ with_asked gs a))) [
-        | true ↦ λ e. ((all.0.0, each_append (λ x. (g.first.response ≡ x.response) × P x) g.others (a ∷ []) all.0.1 (((bytes_eq-Decides g.first.response a.response).0 e, h), tt)), all.1)
+      elim (bytes_eq g.first.ask.response a.ask.response) as (λ b. bytes_eq g.first.ask.response a.ask.response ≡ b → Each (Fits P) (cond b (with_one g a ∷ gs) (g ∷ with_asked gs a))) [
+        | true ↦ λ e. ((all.0.0, each_append (λ x. (g.first.ask.response ≡ x.ask.response) × P x) g.others (a ∷ []) all.0.1 (((bytes_eq-Decides g.first.ask.response a.ask.response).0 e, h), tt)), all.1)
         | false ↦ λ e. (all.0, with_asked_fits P gs a all.1 h)
       ] refl
 

@@ -8,7 +8,7 @@ use Rattle.store_record.specs.declared.field.Field.{Field}
 use Rattle.store_record.specs.declared.field.Field.TheVariants.{Leaf, Link, Links}
 use Rattle.store_record.specs.declared.record.Slot.{Slot}
 use Rattle.store_record.specs.declared.record.Slot.TheVariants.{Deleted, Alive}
-use Rattle.store_model.specs.Items.{Form, typename, leaf, one, many, Item, asked, pointed, Collect}
+use Rattle.store_model.specs.Items.{Below, Form, typename, leaf, one, many, Item, asked, pointed, Collect}
 use Rattle.store_model.specs.Reaches.{reach_at}
 use Rattle.store_model.specs.Walks.{Slots, read_at}
 
@@ -36,11 +36,14 @@ typed name = cond (bytes_eq name (codes "__Root")) (codes "Query") name
 -- ---- parts, by number
 
 abbrev field : Text → Text → Form → ℕ → Item ℕ
-field response key form part = asked (record { response = response; key = key; handle = None; form = form; part = part })
+field response key form part = asked (record { ask = record { response = response; name = key; arguments = []; connection = None; form = form }; part = part })
+
+abbrev of_type : Text → Below
+of_type name = record { types = name ∷ []; identified = name ∷ []; open_type = false }
 
 -- me, with its name, a pointer P and an inline fragment J of the age
 abbrev me : Collect ℕ
-me object_type zero = field (codes "me") (codes "me") (one (codes "User" ∷ [])) 1 ∷ []
+me object_type zero = field (codes "me") (codes "me") (one (of_type (codes "User"))) 1 ∷ []
 me object_type (suc zero) =
     field (codes "name") (codes "name") leaf 0
     ∷ pointed (record { fragment = codes "P"; scope = (codes "size", whole (pos 3)) ∷ []; inline = false; body = 2 })
@@ -70,7 +73,7 @@ a_read_stands_at_its_records = refl
 
 -- the friends of a user: their type name and their name; the handle key of a connection
 abbrev friends : Collect ℕ
-friends object_type zero = field (codes "friends") (codes "friends") (many (codes "User" ∷ [])) 1 ∷ []
+friends object_type zero = field (codes "friends") (codes "friends") (many (of_type (codes "User"))) 1 ∷ []
 friends object_type (suc k) = field (codes "name") (codes "name") leaf 0 ∷ field (codes "kind") (codes "__typename") typename 0 ∷ []
 
 pub a_missing_element_is_null : (read_at friends typed (codes "o") slots 2 (codes "User" ∷ []) (0 ∷ []) (codes "4")).0
@@ -95,7 +98,7 @@ a_record_of_another_type_is_missing = refl
 -- a connection follows its own key and its handle key
 abbrev connected : Collect ℕ
 connected object_type k =
-    asked (record { response = codes "friends"; key = codes "friends"; handle = Some (codes "__K_friends_connection"); form = one (codes "UserConnection" ∷ []); part = 0 }) ∷ []
+    asked (record { ask = record { response = codes "friends"; name = codes "friends"; arguments = []; connection = Some (record { key = codes "K_friends"; filters = None }); form = one (of_type (codes "UserConnection")) }; part = 0 }) ∷ []
 
 pub a_connection_follows_both_its_keys : reach_at connected typed slots 2 (codes "User" ∷ []) (0 ∷ []) (codes "4")
     ≡ codes "4" ∷ codes "5" ∷ codes "6" ∷ codes "7" ∷ codes "h" ∷ []

@@ -18,15 +18,9 @@ fact_cmp a b = ordering_then (text_cmp a.id b.id) (text_cmp a.key b.key)
 abbrev pub handle_cmp : HandleFact → HandleFact → Ordering
 handle_cmp a b = ordering_then (text_cmp a.parent b.parent) (ordering_then (text_cmp a.handle_key b.handle_key) (text_cmp a.field_key b.field_key))
 
-abbrev pub AreFactsInOrder : List Fact → Type 0
-AreFactsInOrder facts = IsStrictlySortedBy fact_cmp facts
-
 abbrev pub AreHandlesInOrder : List HandleFact → Type 0
 AreHandlesInOrder handles = IsStrictlySortedBy handle_cmp handles
 
--- the fact stands after each of the list
-abbrev pub IsFactAfter : Fact → List Fact → Type 0
-IsFactAfter fact facts = AllByRecursion (λ before. fact_cmp before fact ≡ Less) facts
-
+-- the page stands after each of the list
 abbrev pub IsHandleAfter : HandleFact → List HandleFact → Type 0
 IsHandleAfter handle handles = AllByRecursion (λ before. handle_cmp before handle ≡ Less) handles

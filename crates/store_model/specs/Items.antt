@@ -1,21 +1,45 @@
 -- What selections ask of a record (section 6.3.2), whatever they were collected from: F is what stands below a field.
-use Rattle.std.specs.Prelude.{Bool, List, [], ◌∷◌, ◌++◌, map, cond, bytes_eq, Option}
-use Rattle.store_record.specs.Keys.{Text, Arguments}
+use Rattle.std.specs.Prelude.{Bool, List, [], ◌∷◌, ◌++◌, map, cond, bytes_eq, Option, option_map}
+use Rattle.store_record.specs.Keys.{Text, Arguments, field_key, handle_key}
 
--- what stands under a field: the type name of its record, a leaf, an object or a list of objects, of the possible types
+-- what a field of objects leads to: the possible types, those of them that have an id, and whether the named type is abstract
+pub record Below : Type 0 where
+  pub types : List Text
+  pub identified : List Text
+  pub open_type : Bool
+
+-- what stands under a field: the type name of its record, a leaf, an object or a list of objects
 pub data Form : Type 0 where
   typename : Form
   leaf : Form
-  one : (types : List Text) → Form
-  many : (types : List Text) → Form
+  one : Below → Form
+  many : Below → Form
 
--- a field: its response key, the key that it is stored under, the key of its connection, its form, and what stands below
-pub record Asked (F : Type 0) : Type 0 where
-  pub response : Text
+-- the connection that a field asks for a page of: its key, and the arguments that name it
+pub record Connection : Type 0 where
   pub key : Text
-  pub handle : Option Text
+  pub filters : Option (List Text)
+
+-- what is asked of a record: a field under a response key, with the values of its arguments
+pub record Ask : Type 0 where
+  pub response : Text
+  pub name : Text
+  pub arguments : Arguments
+  pub connection : Option Connection
   pub form : Form
+
+-- a field, and what stands below
+pub record Asked (F : Type 0) : Type 0 where
+  pub ask : Ask
   pub part : F
+
+-- the key that a field is stored under
+abbrev pub key_of : Ask → Text
+key_of a = field_key a.name a.arguments
+
+-- the key of its connection
+abbrev pub handle_of : Ask → Option Text
+handle_of a = option_map (λ c. handle_key c.key c.filters a.arguments) a.connection
 
 -- a spread that is not entered: its fragment, the values of the fragment's local variables, whether the fragment is read
 -- where the spread stands, and the fragment's body
@@ -43,6 +67,10 @@ members g = g.first ∷ g.others
 abbrev pub parts : {F : Type 0} → Group F → List F
 parts g = map (λ a. a.part) (members g)
 
+-- what the fields of a group ask for
+abbrev pub asks : {F : Type 0} → Group F → List Ask
+asks g = map (λ a. a.ask) (members g)
+
 -- ---- fields
 
 -- the fields among items
@@ -55,7 +83,7 @@ asked_of (pointed p ∷ items) = asked_of items
 abbrev pub with_asked : {F : Type 0} → List (Group F) → Asked F → List (Group F)
 with_asked [] a = record { first = a; others = [] } ∷ []
 with_asked (g ∷ groups) a =
-    cond (bytes_eq g.first.response a.response) (record { first = g.first; others = g.others ++ a ∷ [] } ∷ groups) (g ∷ with_asked groups a)
+    cond (bytes_eq g.first.ask.response a.ask.response) (record { first = g.first; others = g.others ++ a ∷ [] } ∷ groups) (g ∷ with_asked groups a)
 
 -- the groups with fields, one after another
 abbrev pub grouped_onto : {F : Type 0} → List (Group F) → List (Asked F) → List (Group F)
@@ -89,3 +117,11 @@ Collect F = Text → F → List (Item F)
 abbrev pub collect_all : {F : Type 0} → Collect F → Text → List F → List (Item F)
 collect_all collect object_type [] = []
 collect_all collect object_type (f ∷ fs) = collect object_type f ++ collect_all collect object_type fs
+
+-- the groups that parts give on an object type
+abbrev pub groups_at : {F : Type 0} → Collect F → Text → List F → List (Group F)
+groups_at collect T fs = grouped (collect_all collect T fs)
+
+-- the pointers that parts give on an object type
+abbrev pub pointers_on : {F : Type 0} → Collect F → Text → List F → List (Pointer F)
+pointers_on collect T fs = pointers (collect_all collect T fs)

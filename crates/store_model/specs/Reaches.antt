@@ -4,7 +4,7 @@ use Rattle.gql_plain.specs.Order.{has_text}
 use Rattle.store_record.specs.Keys.{Text}
 use Rattle.store_record.specs.declared.field.Field.{Field}
 use Rattle.store_model.specs.Entries.{ids_in}
-use Rattle.store_model.specs.Items.{Form, typename, leaf, one, many, Asked, Group, members, parts, grouped, Collect, collect_all}
+use Rattle.store_model.specs.Items.{Form, typename, leaf, one, many, Ask, key_of, handle_of, Group, asks, parts, Collect, groups_at}
 use Rattle.store_model.specs.Walks.{Slots, Fields, Standing, absent, gone, lives, standing_of, field_of}
 
 -- how the walk of parts goes on from an id whose possible types are given
@@ -15,8 +15,8 @@ Onward F = (types : List Text) → List F → (id : Text) → List Text
 abbrev pub types_of : Form → List Text
 types_of typename = []
 types_of leaf = []
-types_of (one types) = types
-types_of (many types) = types
+types_of (one b) = b.types
+types_of (many b) = b.types
 
 -- the ids of a field's links
 abbrev pub links_of : Option Field → List Text
@@ -29,8 +29,8 @@ links_under fields None = []
 links_under fields (Some key) = links_of (fields key)
 
 -- the links that a field follows: those under its own key, and those of its connection
-abbrev pub followed : {F : Type 0} → Fields → Asked F → List Text
-followed fields a = links_of (fields a.key) ++ links_under fields a.handle
+abbrev pub followed : Fields → Ask → List Text
+followed fields a = links_of (fields (key_of a)) ++ links_under fields (handle_of a)
 
 -- the walks from ids, one after another
 abbrev pub from_each : (Text → List Text) → List Text → List Text
@@ -38,17 +38,17 @@ from_each next [] = []
 from_each next (id ∷ ids) = next id ++ from_each next ids
 
 -- every field of a group is followed, and the joined parts of the group go on from each link
-abbrev pub reach_asked : {F : Type 0} → Onward F → Fields → List F → List (Asked F) → List Text
+abbrev pub reach_asked : {F : Type 0} → Onward F → Fields → List F → List Ask → List Text
 reach_asked next fields fs [] = []
 reach_asked next fields fs (a ∷ rest) = from_each (next (types_of a.form) fs) (followed fields a) ++ reach_asked next fields fs rest
 
 abbrev pub reach_groups : {F : Type 0} → Onward F → Fields → List (Group F) → List Text
 reach_groups next fields [] = []
-reach_groups next fields (g ∷ groups) = reach_asked next fields (parts g) (members g) ++ reach_groups next fields groups
+reach_groups next fields (g ∷ groups) = reach_asked next fields (parts g) (asks g) ++ reach_groups next fields groups
 
 -- the walk ends where the record's type is not possible
 abbrev pub reach_alive : {F : Type 0} → Collect F → Onward F → List Text → List F → Text → Fields → List Text
-reach_alive collect next types fs T fields = cond (has_text types T) (reach_groups next fields (grouped (collect_all collect T fs))) []
+reach_alive collect next types fs T fields = cond (has_text types T) (reach_groups next fields (groups_at collect T fs)) []
 
 -- the walk ends at an absent and at a deleted record; typed gives a record's type from its type name
 abbrev pub reach_stand : {F : Type 0} → Collect F → (Text → Text) → Onward F → List Text → List F → Standing → Fields → List Text

@@ -1,9 +1,9 @@
 -- Reading: the data that a walk along records gives, and what the walk meets.
-use Rattle.std.specs.Prelude.{ℕ, zero, suc, Bool, true, false, ◌||◌, List, [], ◌∷◌, ◌++◌, codes, Option, Some, None, unwrap_or}
+use Rattle.std.specs.Prelude.{ℕ, zero, suc, Bool, true, false, ◌||◌, List, [], ◌∷◌, ◌++◌, length, codes, Option, Some, None, unwrap_or}
 use Rattle.std.specs.Cmp.Lexicographic.{slice_cmp}
 use Rattle.std.specs.FinMap as map
 use Rattle.std.specs.Ordering.{nat_cmp}
-use Rattle.gql_plain.specs.Order.{has_text}
+use Rattle.gql_plain.specs.Order.{has_text, sorted_texts}
 use Rattle.gql_plain.specs.Shown.{tree_of}
 use Rattle.gql_plain.specs.Tree.{Tree, null, text, list, object, trees_of, members_of}
 use Rattle.gql_plain.specs.declared.plain.Plain.{Plain}
@@ -13,7 +13,7 @@ use Rattle.store_record.specs.declared.field.Field.{Field}
 use Rattle.store_record.specs.declared.field.Field.TheVariants.{Leaf, Link, Links}
 use Rattle.store_record.specs.declared.record.Slot.{Slot}
 use Rattle.store_record.specs.declared.record.Slot.TheVariants.{Deleted, Alive}
-use Rattle.store_model.specs.Items.{Form, typename, leaf, one, many, Asked, Pointer, Group, parts, grouped, pointers, Collect, collect_all}
+use Rattle.store_model.specs.Items.{Form, typename, leaf, one, many, Ask, key_of, handle_of, Pointer, Group, parts, Collect, groups_at, pointers_on}
 use Rattle.store_model.specs.Records.{field_at}
 
 -- ---- slots
@@ -116,6 +116,19 @@ or_null d = unwrap_or d null
 abbrev pub Next : Type 0 → Type 0
 Next F = (types : List Text) → List F → (id : Text) → Found
 
+-- what a read answers: the data as a value, null where it is missing, whether something was missing, and the ids stood at, each once
+pub record Reading : Type 0 where
+  pub value : Tree
+  pub missing : Bool
+  pub seen : List Text
+
+abbrev pub reading : Found → Reading
+reading r = record { value = or_null r.0; missing = r.1.missing; seen = sorted_texts r.1.seen }
+
+-- how often a read stands at a record
+abbrev pub standings : Found → ℕ
+standings r = length r.1.seen
+
 -- ---- fields
 
 -- the value of a leaf that stands under a field of objects: only null does
@@ -164,29 +177,29 @@ many_at next types fs (Some (Links ids)) = listed (elements_at next types fs ids
 abbrev pub value_at : {F : Type 0} → Next F → Text → List F → Form → Option Field → Found
 value_at next T fs typename field = (Some (text T), still)
 value_at next T fs leaf field = leaf_at field
-value_at next T fs (one types) field = one_at next types fs field
-value_at next T fs (many types) field = many_at next types fs field
+value_at next T fs (one b) field = one_at next b.types fs field
+value_at next T fs (many b) field = many_at next b.types fs field
 
 -- a connection is read under its handle key, any other field under its own
-abbrev pub read_key : {F : Type 0} → Asked F → Text
-read_key a = unwrap_or a.handle a.key
+abbrev pub read_key : Ask → Text
+read_key a = unwrap_or (handle_of a) (key_of a)
 
 -- the field that a form looks at; a type name looks at none
 abbrev pub looks_at : Form → Text → Text → Trace
 looks_at typename id key = still
 looks_at leaf id key = looked_at id key
-looks_at (one types) id key = looked_at id key
-looks_at (many types) id key = looked_at id key
+looks_at (one b) id key = looked_at id key
+looks_at (many b) id key = looked_at id key
 
 -- a group: the first field decides the key and the form, the parts of all are joined
 abbrev pub group_at : {F : Type 0} → Next F → Text → Fields → Group F → Found
-group_at next T fields g = value_at next T (parts g) g.first.form (fields (read_key g.first))
+group_at next T fields g = value_at next T (parts g) g.first.ask.form (fields (read_key g.first.ask))
 
 abbrev pub fields_at : {F : Type 0} → Next F → Text → Text → Fields → Shown × Trace → List (Group F) → Shown × Trace
 fields_at next T id fields end [] = end
 fields_at next T id fields end (g ∷ groups) = (
-  with_found g.first.response (group_at next T fields g).0 (fields_at next T id fields end groups).0,
-  joined (joined (looks_at g.first.form id (read_key g.first)) (group_at next T fields g).1) (fields_at next T id fields end groups).1,
+  with_found g.first.ask.response (group_at next T fields g).0 (fields_at next T id fields end groups).0,
+  joined (joined (looks_at g.first.ask.form id (read_key g.first.ask)) (group_at next T fields g).1) (fields_at next T id fields end groups).1,
 )
 
 -- ---- pointers
@@ -217,7 +230,7 @@ marks owner id r = (marked owner id r.0, r.1)
 -- the members of a live record of an object type
 abbrev pub object_at : {F : Type 0} → Collect F → Text → Next F → Text → List F → Text → Fields → Shown × Trace
 object_at collect owner next T fs id fields =
-    fields_at next T id fields (marks owner id (pointers_at next T id (pointers (collect_all collect T fs)))) (grouped (collect_all collect T fs))
+    fields_at next T id fields (marks owner id (pointers_at next T id (pointers_on collect T fs))) (groups_at collect T fs)
 
 -- a live record is missing where its type is not possible
 abbrev pub where_possible : Bool → Text → Shown × Trace → Found
@@ -236,3 +249,15 @@ abbrev pub read_at : {F : Type 0} → Collect F → (Text → Text) → Text →
 read_at collect typed owner m zero types fs id = (None, stood_lost id)
 read_at collect typed owner m (suc n) types fs id =
     stand_at collect typed owner (read_at collect typed owner m n) types fs id (standing_of (m id)) (field_of (m id))
+
+-- ---- pointers that are given, and in turn those of their reads
+
+-- the pointers that the reads of pointers give
+abbrev pub pointers_of_reads : (Issued → Found) → List Issued → List Issued
+pointers_of_reads read [] = []
+pointers_of_reads read (i ∷ is) = (read i).1.issued ++ pointers_of_reads read is
+
+-- pointers, those of their reads, and so on, n turns
+abbrev pub pointers_in_turn : (Issued → Found) → ℕ → List Issued → List Issued
+pointers_in_turn read zero is = is
+pointers_in_turn read (suc n) is = is ++ pointers_in_turn read n (pointers_of_reads read is)

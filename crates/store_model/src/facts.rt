@@ -1,11 +1,12 @@
 //! What a payload says.
 ghost use Rattle.std.specs.Prelude.{◌≡◌, ◌==◌, [], ◌∷◌, ◌++◌, length, IfOk, OnOk, OnErr};
-ghost use Rattle.store_model.specs.FactOrder.{IsFactAfter, IsHandleAfter};
+ghost use Rattle.store_model.specs.FactOrder.{IsHandleAfter};
+ghost use Rattle.store_model.specs.FactRows.{facts_of, facts_of_row, IsFactRow, AreFactRows, IsRowAfter};
 
 use gql_plain::{Id, Name, NoMemory, Plain, Words};
 use std::alloc::Global;
 use std::marker::Model;
-use store_record::Field;
+use store_record::{Field, Fields};
 
 /// One field of one record.
 #[derive(Drop)]
@@ -27,10 +28,36 @@ impl Fact {
     }
 }
 
-/// Facts in byte order of id and then of key, seen as a list: no two are of one id and key.
+/// The facts of one record: its id, the name of its type, and its other fields. The name of the type
+/// stands for the fact under `__typename`, so no field has that key.
+#[derive(Drop)]
+pub struct FactRow {
+    pub id: Id,
+    pub type_name: Name,
+    pub fields: Fields,
+}
+
+impl FactRow {
+    /// An equal row.
+    pub fn copy(&self) -> Result<FactRow, NoMemory>
+        ensures { IfOk result (λ row. row ≡ self.now) }
+    {
+        let id = self.id.copy()?;
+        let type_name = self.type_name.copy()?;
+        let fields = self.fields.copy()?;
+        Ok(FactRow {
+            id,
+            type_name,
+            fields,
+        })
+    }
+}
+
+/// Facts by rows in byte order of their ids, seen as the list of the facts: those of one id stand
+/// together, in byte order of their keys.
 #[derive(Drop)]
 pub struct FactList {
-    pub items: Vec<Fact>,
+    pub rows: Vec<FactRow>,
 }
 
 impl Model for FactList {
@@ -43,11 +70,11 @@ impl Model for FactList {
 
     ghost coded = { coded_list fact.the_row.coded };
 
-    ghost view = { λ a. a.items.items };
+    ghost use Rattle.store_model.specs.FactRows.{facts_of, AreFactRows};
 
-    ghost use Rattle.store_model.specs.FactOrder.{AreFactsInOrder};
+    ghost view = { λ a. facts_of a.rows.items };
 
-    ghost invariant = { λ a. AreFactsInOrder a.items.items };
+    ghost invariant = { λ a. AreFactRows a.rows.items };
 }
 
 impl FactList {
@@ -56,50 +83,38 @@ impl FactList {
         ensures { result ≡ [] }
     {
         FactList {
-            items: Vec::new(alloc),
+            rows: Vec::new(alloc),
         }
     }
 
-    /// Puts a fact to the end, which stands after the last one.
-    pub fn push(&mut self, fact: Fact) -> Result<(), NoMemory>
-        requires { IsFactAfter fact self.old }
-        ensures ok { OnOk result (self.new ≡ self.old ++ fact ∷ []) }
+    /// Puts the facts of a row to the end; its id stands after those before it.
+    pub fn push_row(&mut self, row: FactRow) -> Result<(), NoMemory>
+        requires row { IsFactRow row }
+        requires after { IsRowAfter row self.old }
+        ensures ok { OnOk result (self.new ≡ self.old ++ facts_of_row row) }
         ensures err { OnErr result (self.new ≡ self.old) }
     {
-        self.items.push(fact)?;
+        self.rows.push(row)?;
         Ok(())
     }
 
-    /// How many facts; takes no memory.
-    pub fn len(&self) -> usize
-        ensures { result ≡ length self.now }
+    /// The rows, one for each id; takes no memory.
+    pub fn rows(&self) -> &[FactRow]
+        ensures facts { facts_of result.now ≡ self.now }
+        ensures order { AreFactRows result.now }
     {
-        self.items.len()
-    }
-
-    /// Whether there is none; takes no memory.
-    pub fn is_empty(&self) -> bool
-        ensures { result ≡ (length self.now == 0) }
-    {
-        self.items.is_empty()
-    }
-
-    /// The facts; takes no memory.
-    pub fn as_slice(&self) -> &[Fact]
-        ensures { result.now ≡ self.now }
-    {
-        self.items.as_slice()
+        self.rows.as_slice()
     }
 
     /// An equal list.
     pub fn copy(&self) -> Result<FactList, NoMemory>
         ensures { IfOk result (λ copy. copy ≡ self.now) }
     {
-        let mut items = Vec::new(*self.items.allocator());
-        'items: for fact in &self.items {
-            items.push(fact.copy()?)?;
+        let mut rows = Vec::new(*self.rows.allocator());
+        'rows: for row in &self.rows {
+            rows.push(row.copy()?)?;
         }
-        Ok(FactList { items })
+        Ok(FactList { rows })
     }
 }
 
@@ -217,8 +232,8 @@ impl HandleFacts {
     }
 }
 
-/// What a payload says: the fields of records, and the pages of connections. Each id of the facts has
-/// a fact under `__typename`, whose value is a text that is a Name; each handle key begins with `__`.
+/// What a payload says: the fields of records, and the pages of connections. Each handle key begins
+/// with `__`, as no key of a field of a schema does.
 #[derive(Drop)]
 pub struct Facts {
     pub facts: FactList,
@@ -226,7 +241,7 @@ pub struct Facts {
 }
 
 impl Model for Facts {
-    ghost use Rattle.store_model.specs.Said.{Said, AreSaid};
+    ghost use Rattle.store_model.specs.Said.{Said, HaveHandleKeys};
 
     ghost Value = { Said };
 
@@ -238,7 +253,7 @@ impl Model for Facts {
 
     ghost view = { λ a. record { facts = a.facts; handles = a.handles } };
 
-    ghost invariant = { λ a. AreSaid a.facts a.handles };
+    ghost invariant = { λ a. HaveHandleKeys a.handles };
 }
 
 impl Facts {

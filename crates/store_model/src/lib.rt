@@ -7,13 +7,14 @@ pub mod command;
 pub mod entry;
 pub mod event;
 pub mod facts;
+pub mod laws;
 pub mod leads;
 pub mod payload_fault;
 
 pub use command::{Command, Commands, EdgeEdit};
 pub use entry::Entry;
 pub use event::{Answer, Event, Part, Target};
-pub use facts::{Fact, FactList, Facts, HandleFact, HandleFacts};
+pub use facts::{Fact, FactList, FactRow, Facts, HandleFact, HandleFacts};
 pub use leads::leads_is_least;
 pub use payload_fault::{Cause, PathStep, PathSteps, PayloadFault};
 

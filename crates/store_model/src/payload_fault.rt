@@ -1,5 +1,5 @@
 //! Why a payload is refused.
-ghost use Rattle.std.specs.Prelude.{◌≡◌, ◌==◌, [], ◌∷◌, ◌++◌, length, IfOk, OnOk, OnErr};
+ghost use Rattle.std.specs.Prelude.{◌≡◌, ◌==◌, [], ◌∷◌, ◌++◌, length, OnOk, OnErr};
 
 use gql_plain::{Id, NoMemory, Words};
 use std::alloc::Global;
@@ -13,18 +13,6 @@ pub enum PathStep {
     Key(Words),
     /// The place of an element of a list, from 0.
     Index(u64),
-}
-
-impl PathStep {
-    /// An equal step.
-    pub fn copy(&self) -> Result<PathStep, NoMemory>
-        ensures { IfOk result (λ step. step ≡ self.now) }
-    {
-        match self {
-            PathStep::Key(key) => Ok(PathStep::Key(key.copy()?)),
-            PathStep::Index(index) => Ok(PathStep::Index(*index)),
-        }
-    }
 }
 
 /// Steps from a response to a value in it, seen as a list.
@@ -85,17 +73,6 @@ impl PathSteps {
     {
         self.items.as_slice()
     }
-
-    /// An equal list.
-    pub fn copy(&self) -> Result<PathSteps, NoMemory>
-        ensures { IfOk result (λ copy. copy ≡ self.now) }
-    {
-        let mut items = Vec::new(*self.items.allocator());
-        'items: for step in &self.items {
-            items.push(step.copy()?)?;
-        }
-        Ok(PathSteps { items })
-    }
 }
 
 /// What is wrong there.
@@ -122,47 +99,9 @@ pub enum Cause {
     },
 }
 
-impl Cause {
-    /// An equal cause.
-    pub fn copy(&self) -> Result<Cause, NoMemory>
-        ensures { IfOk result (λ cause. cause ≡ self.now) }
-    {
-        match self {
-            Cause::NoData => Ok(Cause::NoData),
-            Cause::Shape => Ok(Cause::Shape),
-            Cause::NotWhole => Ok(Cause::NotWhole),
-            Cause::IdShape => Ok(Cause::IdShape),
-            Cause::ReservedId => Ok(Cause::ReservedId),
-            Cause::Typename => Ok(Cause::Typename),
-            Cause::Conflict {
-                id,
-                key,
-                first,
-                second,
-            } => Ok(Cause::Conflict {
-                id: id.copy()?,
-                key: key.copy()?,
-                first: first.copy()?,
-                second: second.copy()?,
-            }),
-        }
-    }
-}
-
 /// The first fault of a payload.
 #[derive(Drop)]
 pub struct PayloadFault {
     pub path: PathSteps,
     pub cause: Cause,
-}
-
-impl PayloadFault {
-    /// An equal fault.
-    pub fn copy(&self) -> Result<PayloadFault, NoMemory>
-        ensures { IfOk result (λ fault. fault ≡ self.now) }
-    {
-        let path = self.path.copy()?;
-        let cause = self.cause.copy()?;
-        Ok(PayloadFault { path, cause })
-    }
 }

@@ -1,12 +1,11 @@
 use crate::{
-    Answer, Cause, Command, Commands, EdgeEdit, Entry, Event, Fact, FactList, Facts, HandleFact,
-    HandleFacts, Part, PathStep, PathSteps, PayloadFault, Target,
+    Command, Commands, EdgeEdit, Entry, FactList, FactRow, Facts, HandleFact, HandleFacts,
+    PathStep, PathSteps,
 };
 use gql_plain::{NoMemory, OptIds, Pairs, Plain, Words};
-use serde_json::Value;
 use std::alloc::Global;
 use std::test::Fail;
-use store_record::Field;
+use store_record::{Field, Fields};
 
 fn word(alloc: Global, text: &str) -> Result<Words, NoMemory> {
     Words::new(alloc, text)
@@ -146,24 +145,31 @@ fn entries_are_copied_whole(rt: HostRuntime) -> Result<(), Fail> {
     Ok(())
 }
 
-fn facts(alloc: Global) -> Result<FactList, NoMemory> {
-    let mut facts = FactList::new(alloc);
-    facts.push(Fact {
+fn row(alloc: Global) -> Result<FactRow, NoMemory> {
+    let mut fields = Fields::new(alloc);
+    fields.put(word(alloc, "best")?, Field::Link(word(alloc, "5")?))?;
+    Ok(FactRow {
         id: word(alloc, "4")?,
-        key: word(alloc, "name")?,
-        value: Field::Link(word(alloc, "5")?),
-    })?;
-    Ok(facts)
+        type_name: word(alloc, "User")?,
+        fields,
+    })
 }
 
 #[test]
-fn facts_are_copied_whole(rt: HostRuntime) -> Result<(), Fail> {
+fn rows_are_copied_whole(rt: HostRuntime) -> Result<(), Fail> {
     let alloc = rt.alloc();
-    let facts = facts(alloc)?;
-    assert_eq!(rt; facts.copy()?.len(), 1);
-    for fact in facts.copy()?.as_slice() {
-        assert!(rt; matches!(&fact.value, Field::Link(id) if id.as_str() == "5"));
-    }
+    let row = row(alloc)?;
+    let copy = row.copy()?;
+    assert_eq!(rt; copy.type_name.as_str(), "User");
+    assert!(rt; matches!(copy.fields.get("best"), Some(Field::Link(id)) if id.as_str() == "5"));
+    Ok(())
+}
+
+#[test]
+fn no_facts_are_copied_as_none(rt: HostRuntime) -> Result<(), Fail> {
+    let alloc = rt.alloc();
+    let facts = FactList::new(alloc);
+    assert_eq!(rt; facts.copy()?.rows().len(), 0);
     Ok(())
 }
 
@@ -188,55 +194,6 @@ fn pages_are_copied_whole(rt: HostRuntime) -> Result<(), Fail> {
     Ok(())
 }
 
-#[test]
-fn events_are_copied_whole(rt: HostRuntime) -> Result<(), Fail> {
-    let alloc = rt.alloc();
-    let event = Event::Begin {
-        layer: word(alloc, "l")?,
-        answer: Some(Answer {
-            handle: word(alloc, "h")?,
-            response: Value::Bool(true),
-        }),
-        updates: Commands::new(alloc),
-    };
-    let begun = matches!(
-        event.copy()?,
-        Event::Begin {
-            answer: Some(Answer {
-                response: Value::Bool(true),
-                ..
-            }),
-            ..
-        }
-    );
-    assert!(rt; begun);
-    Ok(())
-}
-
-#[test]
-fn reads_are_copied_whole(rt: HostRuntime) -> Result<(), Fail> {
-    let alloc = rt.alloc();
-    let read = Event::Read {
-        target: Target {
-            handle: word(alloc, "h")?,
-            part: Some(Part {
-                fragment: word(alloc, "Friend")?,
-                id: word(alloc, "4")?,
-                args: Pairs::new(alloc),
-            }),
-        },
-    };
-    assert!(rt;
-        matches!(
-            read.copy()?,
-            Event::Read {
-                target: Target { part: Some(_), .. }
-            }
-        )
-    );
-    Ok(())
-}
-
 fn path(alloc: Global) -> Result<PathSteps, NoMemory> {
     let mut path = PathSteps::new(alloc);
     path.push(PathStep::Key(word(alloc, "friends")?))?;
@@ -245,18 +202,10 @@ fn path(alloc: Global) -> Result<PathSteps, NoMemory> {
 }
 
 #[test]
-fn faults_are_copied_whole(rt: HostRuntime) -> Result<(), Fail> {
+fn a_path_has_its_steps_in_order(rt: HostRuntime) -> Result<(), Fail> {
     let alloc = rt.alloc();
-    let fault = PayloadFault {
-        path: path(alloc)?,
-        cause: Cause::Conflict {
-            id: word(alloc, "4")?,
-            key: word(alloc, "name")?,
-            first: Field::Leaf(Plain::Null),
-            second: Field::Leaf(Plain::Int(1)),
-        },
-    };
-    let copy = fault.copy()?;
-    assert!(rt; copy.path.len() == 2 && matches!(copy.cause, Cause::Conflict { .. }));
+    let path = path(alloc)?;
+    assert_eq!(rt; path.len(), 2);
+    assert!(rt; matches!(path.as_slice(), [PathStep::Key(_), PathStep::Index(1)]));
     Ok(())
 }
