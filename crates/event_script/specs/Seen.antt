@@ -4,6 +4,7 @@ use Rattle.serde_json.specs.Data as J
 use Rattle.store_record.specs.Keys.{Text}
 use Rattle.store_model.specs.Events as events
 use Rattle.store_model.specs.declared.command.Command.{Command}
+use Rattle.serde_json.specs.Find.{get_member}
 use Rattle.serde_json.specs.View.{view}
 use Rattle.store_model.specs.declared.event.Answer.{Answer}
 use Rattle.store_model.specs.declared.event.Event.{Event}
@@ -49,6 +50,18 @@ target_seen t = record { handle = t.handle; part = option_map part_seen t.part }
 
 abbrev pub answer_seen : Answer → events.Answer
 answer_seen a = record { handle = a.handle; response = view a.response }
+
+abbrev pub handle_of : events.Answer → Text
+handle_of a = a.handle
+
+-- the response that the handle was given
+abbrev pub answer_to : Text → J.Members → Option events.Answer
+answer_to handle ms = option_map (λ response. record { handle = handle; response = response }) (get_member (codes "response") ms)
+
+-- the same, where there is a handle
+abbrev pub optional_answer_to : Option Text → J.Members → Option (Option events.Answer)
+optional_answer_to None ms = Some None
+optional_answer_to (Some handle) ms = option_map Some (answer_to handle ms)
 
 -- an event, its response as the data that the JSON value stands for
 abbrev pub event_seen : Event → events.Event

@@ -1,14 +1,13 @@
 //! The event of a line.
 ghost use Rattle.std.specs.Prelude.{◌≡◌, Ok, Err};
 ghost use Rattle.serde_json.specs.Read.{read as read_text};
-ghost use Rattle.serde_json.specs.View.{view, members_view};
+ghost use Rattle.serde_json.specs.View.{view};
 ghost use Rattle.store_model.specs.Events as events;
 ghost use Rattle.event_script.specs.Seen.{event_seen, Says};
 
 use crate::fault::LineFault;
-use crate::members::text_ref;
-use crate::rows::event_named;
-use serde_json::{Map, Value};
+use crate::rows::event_in;
+use serde_json::Value;
 use std::alloc::Global;
 use store_model::Event;
 
@@ -33,7 +32,7 @@ fn event_of_text(alloc: Global, text: &str) -> Result<Event, LineFault>
     ensures { Says result (events.of_value (read_text text.now)) }
 {
     match Value::from_str(alloc, text) {
-        Ok(value) => event_of_value(alloc, &value),
+        Ok(value) => event_of_value(alloc, value),
         Err(error) => {
             if error.is_memory() {
                 return Err(LineFault::NoMemory);
@@ -43,20 +42,11 @@ fn event_of_text(alloc: Global, text: &str) -> Result<Event, LineFault>
     }
 }
 
-fn event_of_value(alloc: Global, value: &Value) -> Result<Event, LineFault>
-    ensures { Says result (events.of_shape (events.shape_of (view value.now))) }
+fn event_of_value(alloc: Global, value: Value) -> Result<Event, LineFault>
+    ensures { Says result (events.of_shape (events.shape_of (view value))) }
 {
-    match value.as_object() {
-        Some(members) => event_in(alloc, members),
-        None => Err(LineFault::EventShape),
-    }
-}
-
-fn event_in(alloc: Global, members: &Map<String, Value>) -> Result<Event, LineFault>
-    ensures { Says result (events.of_shape (events.shape_in (members_view members.now.entries))) }
-{
-    match text_ref(members, "do") {
-        Some(name) => event_named(alloc, name, members),
-        None => Err(LineFault::EventShape),
+    match value {
+        Value::Object(members) => event_in(alloc, members),
+        _ => Err(LineFault::EventShape),
     }
 }

@@ -1,13 +1,11 @@
 //! The members of JSON objects.
 ghost use Rattle.std.specs.Prelude.{◌≡◌, map, option_map, IfOk};
-ghost use Rattle.std.specs.List.{list_all};
 ghost use Rattle.gql_plain.specs.Order.{has_text};
 ghost use Rattle.serde_json.specs.Find.{get_member};
 ghost use Rattle.serde_json.specs.View.{view, members_view};
 ghost use Rattle.store_model.specs.Events as events;
-ghost use Rattle.store_record.specs.Keys as keys;
 
-use gql_plain::{Id, Name, NoMemory, Words};
+use gql_plain::{Id, Name, NoMemory, Words, is_name};
 use serde_json::{Map, Value};
 use std::alloc::Global;
 
@@ -142,38 +140,5 @@ pub fn field_name_at(
 fn is_field_name(text: &str) -> bool
     ensures { result ≡ events.is_field_name text.now }
 {
-    is_name(text.as_bytes()) && !text.starts_with("__")
-}
-
-/// Whether the bytes are a letter or `_`, then letters, digits and `_`, all ASCII.
-fn is_name(bytes: &[u8]) -> bool
-    ensures { result ≡ keys.is_name bytes.now }
-{
-    match bytes {
-        [first, more @ ..] => is_letter(*first) && are_name_bytes(more),
-        [] => false,
-    }
-}
-
-fn are_name_bytes(bytes: &[u8]) -> bool
-    ensures { result ≡ list_all keys.is_name_byte bytes.now }
-{
-    'bytes: for byte in bytes {
-        if !is_name_byte(*byte) {
-            return false;
-        }
-    }
-    true
-}
-
-fn is_letter(byte: u8) -> bool
-    ensures { result ≡ keys.is_letter byte }
-{
-    byte.is_ascii_alphabetic() || byte == b'_'
-}
-
-fn is_name_byte(byte: u8) -> bool
-    ensures { result ≡ keys.is_name_byte byte }
-{
-    is_letter(byte) || byte.is_ascii_digit()
+    is_name(text) && !text.starts_with("__")
 }

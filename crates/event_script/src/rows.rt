@@ -3,13 +3,13 @@ ghost use Rattle.std.specs.Prelude.{◌≡◌, ◌||◌, codes, option_map, is_s
 ghost use Rattle.serde_json.specs.Find.{get_member};
 ghost use Rattle.serde_json.specs.View.{view, members_view};
 ghost use Rattle.store_model.specs.Events as events;
-ghost use Rattle.event_script.specs.Seen.{answer_seen, part_seen, target_seen, whole_part_of, Says};
+ghost use Rattle.event_script.specs.Seen.{answer_seen, handle_of, answer_to, optional_answer_to, part_seen, target_seen, whole_part_of, Says};
 
 use crate::commands::updates_at;
 use crate::fault::LineFault;
-use crate::members::{has_only, id_at, member_at, name_at, text_at};
+use crate::members::{has_only, id_at, member_at, name_at, text_at, text_ref};
 use crate::values::object_at;
-use gql_plain::NoMemory;
+use gql_plain::{NoMemory, Words};
 use serde_json::{Map, Value};
 use std::alloc::Global;
 use store_model::{Answer, Event, Part, Target};
@@ -44,20 +44,6 @@ fn release_of(alloc: Global, members: &Map<String, Value>) -> Result<Event, Line
     Ok(Event::Release { handle })
 }
 
-/// The response that a handle was given.
-fn answer_of(alloc: Global, members: &Map<String, Value>) -> Result<Option<Answer>, NoMemory>
-    ensures { IfOk result (λ answer. option_map answer_seen answer ≡ events.answer_of (members_view members.now.entries)) }
-{
-    let Some(handle) = name_at(alloc, members, "handle")? else {
-        return Ok(None);
-    };
-    let Some(value) = member_at(members, "response") else {
-        return Ok(None);
-    };
-    let response = value.clone()?;
-    Ok(Some(Answer { handle, response }))
-}
-
 /// Whether the key stands; takes no memory.
 fn has(members: &Map<String, Value>, key: &str) -> bool
     ensures { result ≡ is_some (get_member key.now (members_view members.now.entries)) }
@@ -65,37 +51,74 @@ fn has(members: &Map<String, Value>, key: &str) -> bool
     member_at(members, key).is_some()
 }
 
-/// The response that a handle was given, where both stand; None where just one of them does.
-fn optional_answer(
+/// The handle that a response is given to; None where one of both is missing.
+fn answered(alloc: Global, members: &Map<String, Value>) -> Result<Option<Words>, NoMemory>
+    ensures { IfOk result (λ handle. handle ≡ option_map handle_of (events.answer_of (members_view members.now.entries))) }
+{
+    if !has(members, "response") {
+        return Ok(None);
+    }
+    name_at(alloc, members, "handle")
+}
+
+/// The handle that a response is given to, where both stand; None where just one of them does.
+fn optional_answered(
     alloc: Global,
     members: &Map<String, Value>,
-) -> Result<Option<Option<Answer>>, NoMemory>
+) -> Result<Option<Option<Words>>, NoMemory>
     ensures { IfOk result
-        (λ answer. option_map (λ a. option_map answer_seen a) answer
-        ≡ events.optional_answer (members_view members.now.entries)) }
+        (λ handle. handle
+        ≡ option_map (option_map handle_of) (events.optional_answer (members_view members.now.entries))) }
 {
     if !has(members, "handle") && !has(members, "response") {
         return Ok(Some(None));
     }
-    match answer_of(alloc, members)? {
-        Some(answer) => Ok(Some(Some(answer))),
+    match answered(alloc, members)? {
+        Some(handle) => Ok(Some(Some(handle))),
         None => Ok(None),
     }
 }
 
-fn payload_of(alloc: Global, members: &Map<String, Value>) -> Result<Event, LineFault>
-    ensures { Says result (events.of_shape (events.payload_of (members_view members.now.entries))) }
+/// The response that the handle was given, taken out of its event.
+fn answer_in(handle: Words, mut members: Map<String, Value>) -> Option<Answer>
+    ensures { option_map answer_seen result ≡ answer_to handle (members_view members.entries) }
 {
-    if !has_only(members, &["do", "handle", "response", "updates"]) {
+    match members.remove("response") {
+        Some(response) => Some(Answer { handle, response }),
+        None => None,
+    }
+}
+
+/// The response that the handle was given, where there is a handle, taken out of its event.
+fn optional_answer_in(handle: Option<Words>, members: Map<String, Value>) -> Option<Option<Answer>>
+    ensures { option_map (option_map answer_seen) result
+        ≡ optional_answer_to handle (members_view members.entries) }
+{
+    match handle {
+        Some(handle) => match answer_in(handle, members) {
+            Some(answer) => Some(Some(answer)),
+            None => None,
+        },
+        None => Some(None),
+    }
+}
+
+fn payload_of(alloc: Global, members: Map<String, Value>) -> Result<Event, LineFault>
+    ensures { Says result (events.of_shape (events.payload_of (members_view members.entries))) }
+{
+    if !has_only(&members, &["do", "handle", "response", "updates"]) {
         return Err(LineFault::EventShape);
     }
-    let Some(answer) = answer_of(alloc, members)? else {
+    let Some(handle) = answered(alloc, &members)? else {
         return Err(LineFault::EventShape);
     };
-    let Some(updates) = updates_at(alloc, members)? else {
+    let Some(updates) = updates_at(alloc, &members)? else {
         return Err(LineFault::UpdateShape);
     };
-    Ok(Event::Payload { answer, updates })
+    match answer_in(handle, members) {
+        Some(answer) => Ok(Event::Payload { answer, updates }),
+        None => Err(LineFault::EventShape),
+    }
 }
 
 fn update_of(alloc: Global, members: &Map<String, Value>) -> Result<Event, LineFault>
@@ -117,48 +140,54 @@ fn has_layer_keys(members: &Map<String, Value>) -> bool
     has_only(members, &["do", "layer", "handle", "response", "updates"])
 }
 
-fn begin_of(alloc: Global, members: &Map<String, Value>) -> Result<Event, LineFault>
-    ensures { Says result (events.of_shape (events.layered events.begin (members_view members.now.entries))) }
+fn begin_of(alloc: Global, members: Map<String, Value>) -> Result<Event, LineFault>
+    ensures { Says result (events.of_shape (events.layered events.begin (members_view members.entries))) }
 {
-    if !has_layer_keys(members) {
+    if !has_layer_keys(&members) {
         return Err(LineFault::EventShape);
     }
-    let Some(layer) = name_at(alloc, members, "layer")? else {
+    let Some(layer) = name_at(alloc, &members, "layer")? else {
         return Err(LineFault::EventShape);
     };
-    let Some(answer) = optional_answer(alloc, members)? else {
+    let Some(handle) = optional_answered(alloc, &members)? else {
         return Err(LineFault::EventShape);
     };
-    let Some(updates) = updates_at(alloc, members)? else {
+    let Some(updates) = updates_at(alloc, &members)? else {
         return Err(LineFault::UpdateShape);
     };
-    Ok(Event::Begin {
-        layer,
-        answer,
-        updates,
-    })
+    match optional_answer_in(handle, members) {
+        Some(answer) => Ok(Event::Begin {
+            layer,
+            answer,
+            updates,
+        }),
+        None => Err(LineFault::EventShape),
+    }
 }
 
-fn finish_of(alloc: Global, members: &Map<String, Value>) -> Result<Event, LineFault>
-    ensures { Says result (events.of_shape (events.layered events.finish (members_view members.now.entries))) }
+fn finish_of(alloc: Global, members: Map<String, Value>) -> Result<Event, LineFault>
+    ensures { Says result (events.of_shape (events.layered events.finish (members_view members.entries))) }
 {
-    if !has_layer_keys(members) {
+    if !has_layer_keys(&members) {
         return Err(LineFault::EventShape);
     }
-    let Some(layer) = name_at(alloc, members, "layer")? else {
+    let Some(layer) = name_at(alloc, &members, "layer")? else {
         return Err(LineFault::EventShape);
     };
-    let Some(answer) = optional_answer(alloc, members)? else {
+    let Some(handle) = optional_answered(alloc, &members)? else {
         return Err(LineFault::EventShape);
     };
-    let Some(updates) = updates_at(alloc, members)? else {
+    let Some(updates) = updates_at(alloc, &members)? else {
         return Err(LineFault::UpdateShape);
     };
-    Ok(Event::Finish {
-        layer,
-        answer,
-        updates,
-    })
+    match optional_answer_in(handle, members) {
+        Some(answer) => Ok(Event::Finish {
+            layer,
+            answer,
+            updates,
+        }),
+        None => Err(LineFault::EventShape),
+    }
 }
 
 fn revert_of(alloc: Global, members: &Map<String, Value>) -> Result<Event, LineFault>
@@ -278,36 +307,35 @@ fn collect_of(members: &Map<String, Value>) -> Result<Event, LineFault>
     }
 }
 
-/// The event of that name.
-pub fn event_named(
-    alloc: Global,
-    name: &str,
-    members: &Map<String, Value>,
-) -> Result<Event, LineFault>
-    ensures { Says result (events.of_shape (events.shape_named name.now (members_view members.now.entries))) }
+/// The event of an object, by its `do`. The response moves out of the object.
+pub fn event_in(alloc: Global, members: Map<String, Value>) -> Result<Event, LineFault>
+    ensures { Says result (events.of_shape (events.shape_in (members_view members.entries))) }
 {
+    let Some(name) = text_ref(&members, "do") else {
+        return Err(LineFault::EventShape);
+    };
     if name == "retain" {
-        retain_of(alloc, members)
+        retain_of(alloc, &members)
     } else if name == "release" {
-        release_of(alloc, members)
+        release_of(alloc, &members)
     } else if name == "payload" {
         payload_of(alloc, members)
     } else if name == "update" {
-        update_of(alloc, members)
+        update_of(alloc, &members)
     } else if name == "begin" {
         begin_of(alloc, members)
     } else if name == "finish" {
         finish_of(alloc, members)
     } else if name == "revert" {
-        revert_of(alloc, members)
+        revert_of(alloc, &members)
     } else if name == "read" {
-        read_of(alloc, members)
+        read_of(alloc, &members)
     } else if name == "watch" {
-        watch_of(alloc, members)
+        watch_of(alloc, &members)
     } else if name == "unwatch" {
-        unwatch_of(alloc, members)
+        unwatch_of(alloc, &members)
     } else if name == "collect" {
-        collect_of(members)
+        collect_of(&members)
     } else {
         Err(LineFault::EventShape)
     }
