@@ -1,6 +1,9 @@
 pub mod AsMap
+pub mod ByBytes
 pub mod Kept
+pub mod KeyOrder
 pub mod Low
 pub mod Opened
 pub mod Order
+pub mod Seen
 pub mod Sides

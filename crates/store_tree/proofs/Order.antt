@@ -1,8 +1,6 @@
 -- Pairs in the order of their keys, around one of them: what `find`, `put` and `where_key` do on either side.
 use Rattle.std.proofs.Common.{◌≡◌, Bool, true, false, cond, T, List, [], ◌∷◌, ◌++◌, Some, None, refl, ap, ◌∙◌}
-use Rattle.std.specs.Prelude.{not, ◌&&◌, map}
-use Rattle.std.specs.List.{AllByRecursion}
-use Rattle.std.specs.List.Sorted.{IsStrictlySortedBy}
+use Rattle.std.specs.Prelude.{not, ◌&&◌}
 use Rattle.std.specs.declared.cmp.Ordering.{Ordering}
 use Rattle.std.specs.declared.cmp.Ordering.TheVariants.{Less, Equal, Greater}
 use Rattle.std.specs.Ordering.{is_lt, is_eq, ordering_reverse, eq_by_cmp}
@@ -13,11 +11,11 @@ both : (a b : Bool) → T a → T b → T (a && b)
 both true b p q = q
 both false b p q = p
 
-first : (a b : Bool) → T (a && b) → T a
+pub first : (a b : Bool) → T (a && b) → T a
 first true b p = tt
 first false b p = p
 
-second : (a b : Bool) → T (a && b) → T b
+pub second : (a b : Bool) → T (a && b) → T b
 second true b p = p
 second false b p = absurd p
 
@@ -30,6 +28,11 @@ by_order-append : {A : Type 0} (o : Ordering) (a b c m : List A) → by_order o 
 by_order-append Less a b c m = refl
 by_order-append Equal a b c m = refl
 by_order-append Greater a b c m = refl
+
+-- a key below each key of the list is not found in it
+pub find-below : {K X : Type 0} (R : K → K → Ordering) (k : K) (r : List (K × X)) → T (below_all R k r) → find R k r ≡ None
+find-below R k [] h = refl
+find-below R k (x ∷ r) h = ap (λ t. cond (is_eq t) (Some x.1) (find R k r)) (less _ (first _ _ h)) ∙ find-below R k r (second _ _ h)
 
 abbrev others : {K : Type 0} → (K → K → Ordering) → K → K → Bool
 others R k x = not (eq_by_cmp R k x)
@@ -157,12 +160,3 @@ module _ {K X : Type 0} {R : K → K → Ordering} (o : IsTotalOrder R) where
       without-passes k l (e ∷ r) (passes_before k l e r p h)
       ∙ ap (λ t. l ++ cond (not (is_eq t)) (e ∷ where_key R (others R k) r) (where_key R (others R k) r)) p
       ∙ ap (λ t. l ++ t) (without-precedes k r (precedes_after k l e r p h))
-
-below_each : {K X : Type 0} (R : K → K → Ordering) (k : K) (es : List (K × X)) → T (below_all R k es) → AllByRecursion (λ x. R k x ≡ Less) (map (λ e. e.0) es)
-below_each R k [] h = tt
-below_each R k (e ∷ es) h = (less _ (first _ _ h), below_each R k es (second _ _ h))
-
-pub keys_rise : {K X : Type 0} (R : K → K → Ordering) (es : List (K × X)) → T (is_sorted R es) → IsStrictlySortedBy R (map (λ e. e.0) es)
-unfolding IsStrictlySortedBy
-keys_rise R [] h = tt
-keys_rise R (e ∷ es) h = (below_each R e.0 es (first _ _ h), keys_rise R es (second _ _ h))

@@ -1,3 +1,4 @@
 pub mod Contents
 pub mod Heights
+pub mod KeyOrder
 pub mod Shape

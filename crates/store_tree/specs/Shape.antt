@@ -1,19 +1,14 @@
 -- What a branch of the tree is seen as, and what holds of it.
-use Rattle.std.specs.Prelude.{◌≡◌, ℕ, ◌+◌, ◌^◌, ◌<◌, ◌≤◌, max, List, [], ◌∷◌, ◌++◌, length, Option, Some, None}
+use Rattle.std.specs.Prelude.{◌≡◌, ◌+◌, ◌^◌, ◌<◌, ◌≤◌, max, [], ◌∷◌, ◌++◌, length, Option, Some, None}
 use Rattle.std.specs.declared.rc.Rc.{Rc}
 use Rattle.std.specs.declared.alloc.Global.{Global}
 use Rattle.store_tree.specs.Contents.{Contents}
 use Rattle.store_tree.specs.Heights.{least, DifferByAtMost}
-use Rattle.store_tree.specs.declared.branch.Entry.{Entry}
 use Rattle.store_tree.specs.declared.branch.Node.{Node}
-
--- the key and the value
-abbrev pub pair_of : {V : Type 0} → Entry V → List ℕ × V
-pair_of e = (e.key, e.value.value)
 
 abbrev pub contents_of : {V : Type 0} → Option (Rc (Node V) Global) → Contents V
 contents_of None = record { pairs = []; height = 0 }
-contents_of (Some n) = record { pairs = n.value.left.pairs ++ pair_of n.value.entry.value ∷ n.value.right.pairs; height = n.value.height }
+contents_of (Some n) = record { pairs = n.value.left.pairs ++ n.value.item ∷ n.value.right.pairs; height = n.value.height }
 
 -- the sides' heights differ by at most one, the stored count and height are right, and a node of its height
 -- has enough entries, of which 64 bits hold the count

@@ -1,47 +1,46 @@
 //! What brings a branch back into balance.
 ghost use Rattle.std.specs.Prelude.{◌≡◌, ◌+◌, ◌≤◌, max, ◌∷◌, ◌++◌, IfOk};
 ghost use Rattle.store_tree.specs.Heights.{DifferByAtMost, IsSettledHeight};
-ghost use Rattle.store_tree.specs.Shape.{pair_of};
 
-use crate::branch::{Branch, Entry, Node, fork, share};
+use crate::branch::{Branch, Node, fork};
+use crate::item::Item;
 use gql_plain::{NoMemory, Steps};
 use std::alloc::Global;
-use std::rc::Rc;
 
 /// An entry between two sides whose heights differ by at most two, in balance.
 pub(crate) fn balance<V: Drop, C: Steps>(
     alloc: Global,
     left: Branch<V>,
-    entry: Rc<Entry<V>>,
+    item: Item<V>,
     right: Branch<V>,
     steps: &mut C,
 ) -> Result<Branch<V>, NoMemory>
     requires { DifferByAtMost 2 left.height right.height }
-    ensures pairs { IfOk result (λ b. b.pairs ≡ left.pairs ++ pair_of entry.value ∷ right.pairs) }
+    ensures pairs { IfOk result (λ b. b.pairs ≡ left.pairs ++ item ∷ right.pairs) }
     ensures height { IfOk result (λ b. IsSettledHeight left.height right.height b.height) }
     ensures looks { C.looks steps.new ≡ C.looks steps.old }
     ensures applies { C.applies steps.new ≡ C.applies steps.old }
     ensures nodes { C.nodes steps.new ≤ C.nodes steps.old + 3 }
 {
     if left.height() > right.height() + 1 {
-        rotate_right(alloc, &left, entry, right, steps)
+        rotate_right(alloc, &left, item, right, steps)
     } else if right.height() > left.height() + 1 {
-        rotate_left(alloc, left, entry, &right, steps)
+        rotate_left(alloc, left, item, &right, steps)
     } else {
-        fork(alloc, left, entry, right, steps)
+        fork(alloc, left, item, right, steps)
     }
 }
 
 /// An entry between two sides of which the left is two levels higher, in balance.
-fn rotate_right<V: Drop, C: Steps>(
+pub(crate) fn rotate_right<V: Drop, C: Steps>(
     alloc: Global,
     left: &Branch<V>,
-    entry: Rc<Entry<V>>,
+    item: Item<V>,
     right: Branch<V>,
     steps: &mut C,
 ) -> Result<Branch<V>, NoMemory>
     requires { left.now.height ≡ right.height + 2 }
-    ensures pairs { IfOk result (λ b. b.pairs ≡ left.now.pairs ++ pair_of entry.value ∷ right.pairs) }
+    ensures pairs { IfOk result (λ b. b.pairs ≡ left.now.pairs ++ item ∷ right.pairs) }
     ensures height { IfOk result (λ b. (left.now.height ≤ b.height) × (b.height ≤ left.now.height + 1)) }
     ensures looks { C.looks steps.new ≡ C.looks steps.old }
     ensures applies { C.applies steps.new ≡ C.applies steps.old }
@@ -52,8 +51,8 @@ fn rotate_right<V: Drop, C: Steps>(
     };
     let (outer, inner) = (&node.left, &node.right);
     if outer.height() >= inner.height() {
-        let right = fork(alloc, inner.share()?, entry, right, steps)?;
-        return fork(alloc, outer.share()?, share(&node.entry)?, right, steps);
+        let right = fork(alloc, inner.share()?, item, right, steps)?;
+        return fork(alloc, outer.share()?, node.item.share()?, right, steps);
     }
     let Some(middle) = &inner.link else {
         unreachable!()
@@ -61,24 +60,24 @@ fn rotate_right<V: Drop, C: Steps>(
     part(
         alloc,
         outer.share()?,
-        share(&node.entry)?,
+        node.item.share()?,
         middle,
-        entry,
+        item,
         right,
         steps,
     )
 }
 
 /// An entry between two sides of which the right is two levels higher, in balance.
-fn rotate_left<V: Drop, C: Steps>(
+pub(crate) fn rotate_left<V: Drop, C: Steps>(
     alloc: Global,
     left: Branch<V>,
-    entry: Rc<Entry<V>>,
+    item: Item<V>,
     right: &Branch<V>,
     steps: &mut C,
 ) -> Result<Branch<V>, NoMemory>
     requires { right.now.height ≡ left.height + 2 }
-    ensures pairs { IfOk result (λ b. b.pairs ≡ left.pairs ++ pair_of entry.value ∷ right.now.pairs) }
+    ensures pairs { IfOk result (λ b. b.pairs ≡ left.pairs ++ item ∷ right.now.pairs) }
     ensures height { IfOk result (λ b. (right.now.height ≤ b.height) × (b.height ≤ right.now.height + 1)) }
     ensures looks { C.looks steps.new ≡ C.looks steps.old }
     ensures applies { C.applies steps.new ≡ C.applies steps.old }
@@ -89,8 +88,8 @@ fn rotate_left<V: Drop, C: Steps>(
     };
     let (inner, outer) = (&node.left, &node.right);
     if outer.height() >= inner.height() {
-        let left = fork(alloc, left, entry, inner.share()?, steps)?;
-        return fork(alloc, left, share(&node.entry)?, outer.share()?, steps);
+        let left = fork(alloc, left, item, inner.share()?, steps)?;
+        return fork(alloc, left, node.item.share()?, outer.share()?, steps);
     }
     let Some(middle) = &inner.link else {
         unreachable!()
@@ -98,9 +97,9 @@ fn rotate_left<V: Drop, C: Steps>(
     part(
         alloc,
         left,
-        entry,
+        item,
         middle,
-        share(&node.entry)?,
+        node.item.share()?,
         outer.share()?,
         steps,
     )
@@ -110,9 +109,9 @@ fn rotate_left<V: Drop, C: Steps>(
 fn part<V: Drop, C: Steps>(
     alloc: Global,
     left: Branch<V>,
-    first: Rc<Entry<V>>,
+    first: Item<V>,
     middle: &Node<V>,
-    last: Rc<Entry<V>>,
+    last: Item<V>,
     right: Branch<V>,
     steps: &mut C,
 ) -> Result<Branch<V>, NoMemory>
@@ -120,8 +119,8 @@ fn part<V: Drop, C: Steps>(
     requires before { DifferByAtMost 1 left.height middle.now.left.height }
     requires after { DifferByAtMost 1 right.height middle.now.right.height }
     requires not_higher { max middle.now.left.height middle.now.right.height ≤ left.height }
-    ensures pairs { IfOk result (λ b. b.pairs ≡ (left.pairs ++ pair_of first.value ∷ middle.now.left.pairs)
-        ++ pair_of middle.now.entry.value ∷ (middle.now.right.pairs ++ pair_of last.value ∷ right.pairs)) }
+    ensures pairs { IfOk result (λ b. b.pairs ≡ (left.pairs ++ first ∷ middle.now.left.pairs)
+        ++ middle.now.item ∷ (middle.now.right.pairs ++ last ∷ right.pairs)) }
     ensures height { IfOk result (λ b. b.height ≡ left.height + 2) }
     ensures looks { C.looks steps.new ≡ C.looks steps.old }
     ensures applies { C.applies steps.new ≡ C.applies steps.old }
@@ -129,5 +128,5 @@ fn part<V: Drop, C: Steps>(
 {
     let low = fork(alloc, left, first, middle.left.share()?, steps)?;
     let high = fork(alloc, middle.right.share()?, last, right, steps)?;
-    fork(alloc, low, share(&middle.entry)?, high, steps)
+    fork(alloc, low, middle.item.share()?, high, steps)
 }

@@ -1,26 +1,18 @@
-//! The nodes of the tree, which are shared between versions and never change.
+//! The nodes of the tree, which versions share. One that two versions hold never changes.
 ghost use Rattle.std.specs.Prelude.{◌≡◌, ◌+◌, ◌^◌, ◌<◌, ◌≤◌, max, [], ◌∷◌, ◌++◌, length, IfOk, IfSome, OnOk, T};
-ghost use Rattle.std.specs.Cmp.Lexicographic.{slice_cmp};
 ghost use Rattle.std.specs.FinMap.{find, is_sorted};
 ghost use Rattle.std.specs.Option.{option_copied};
-ghost use Rattle.std.specs.Ordering.{nat_cmp};
 ghost use Rattle.gql_plain.specs.Counted.{next_count};
 ghost use Rattle.store_tree.specs.Contents.{Contents, keys_of};
 ghost use Rattle.store_tree.specs.Heights.{least, DifferByAtMost};
-ghost use Rattle.store_tree.specs.Shape.{pair_of};
+ghost use Rattle.store_tree.specs.KeyOrder.{digest_of, key_cmp};
 
+use crate::item::Item;
 use gql_plain::{NoMemory, Steps, Words};
 use std::alloc::Global;
 use std::cmp::Ordering;
 use std::marker::Model;
 use std::rc::Rc;
-
-/// A key with its value, shared whole.
-#[derive(Drop)]
-pub(crate) struct Entry<V> {
-    pub(crate) key: Words,
-    pub(crate) value: Rc<V>,
-}
 
 /// A part of the tree, which may be empty.
 #[cycle(branch)]
@@ -34,7 +26,7 @@ pub(crate) struct Branch<V> {
 #[derive(Drop)]
 pub(crate) struct Node<V> {
     pub(crate) left: Branch<V>,
-    pub(crate) entry: Rc<Entry<V>>,
+    pub(crate) item: Item<V>,
     pub(crate) right: Branch<V>,
     pub(crate) count: u64,
     pub(crate) height: u64,
@@ -102,22 +94,23 @@ impl<V: Drop> Branch<V> {
         }
     }
 
-    /// The value at the key; takes no memory.
-    pub(crate) fn get(&self, key: &str) -> Option<&V>
-        requires { T (is_sorted (slice_cmp nat_cmp) self.now.pairs) }
-        ensures { option_copied result ≡ find (slice_cmp nat_cmp) key.now self.now.pairs }
+    /// The value at the key, which is given with its digest; takes no memory.
+    pub(crate) fn get(&self, digest: u64, key: &str) -> Option<&V>
+        requires digest { digest ≡ digest_of key.now }
+        requires in_order { T (is_sorted key_cmp self.now.pairs) }
+        ensures { option_copied result ≡ find key_cmp key.now self.now.pairs }
     {
         let Some(node) = &self.link else {
             return None;
         };
-        match key.cmp(node.entry.key.as_str()) {
-            Ordering::Less => node.left.get(key),
-            Ordering::Equal => Some(node.entry.value.as_ref()),
-            Ordering::Greater => node.right.get(key),
+        match node.item.order(digest, key) {
+            Ordering::Less => node.left.get(digest, key),
+            Ordering::Equal => Some(node.item.value()),
+            Ordering::Greater => node.right.get(digest, key),
         }
     }
 
-    /// Puts the keys in order to the end of a list.
+    /// Puts the keys, in the order of the tree, to the end of a list.
     pub(crate) fn add_keys(&self, keys: &mut Vec<Words>) -> Result<(), NoMemory>
         ensures { OnOk result (keys.new.items ≡ keys.old.items ++ keys_of self.now.pairs) }
     {
@@ -125,28 +118,21 @@ impl<V: Drop> Branch<V> {
             return Ok(());
         };
         node.left.add_keys(keys)?;
-        keys.push(node.entry.key.copy()?)?;
+        keys.push(node.item.copy_key()?)?;
         node.right.add_keys(keys)
     }
-}
-
-/// The same entry once more, in constant time.
-pub(crate) fn share<V: Drop>(entry: &Rc<Entry<V>>) -> Result<Rc<Entry<V>>, NoMemory>
-    ensures { IfOk result (λ e. e.value ≡ entry.now.value) }
-{
-    Ok(entry.clone()?)
 }
 
 /// A new node: an entry between the entries before it and those after it.
 pub(crate) fn fork<V: Drop, C: Steps>(
     alloc: Global,
     left: Branch<V>,
-    entry: Rc<Entry<V>>,
+    item: Item<V>,
     right: Branch<V>,
     steps: &mut C,
 ) -> Result<Branch<V>, NoMemory>
     requires { DifferByAtMost 1 left.height right.height }
-    ensures pairs { IfOk result (λ b. b.pairs ≡ left.pairs ++ pair_of entry.value ∷ right.pairs) }
+    ensures pairs { IfOk result (λ b. b.pairs ≡ left.pairs ++ item ∷ right.pairs) }
     ensures height { IfOk result (λ b. b.height ≡ max left.height right.height + 1) }
     ensures looks { C.looks steps.new ≡ C.looks steps.old }
     ensures applies { C.applies steps.new ≡ C.applies steps.old }
@@ -159,7 +145,7 @@ pub(crate) fn fork<V: Drop, C: Steps>(
     };
     let node = Node {
         left,
-        entry,
+        item,
         right,
         count,
         height,
@@ -170,7 +156,7 @@ pub(crate) fn fork<V: Drop, C: Steps>(
 }
 
 /// The sum and one more, if 64 bits hold it.
-fn one_more_than(left: u64, right: u64) -> Option<u64>
+pub(crate) fn one_more_than(left: u64, right: u64) -> Option<u64>
     ensures sum { IfSome result (λ n. n ≡ left + right + 1) }
     ensures fits { IfSome result (λ n. n < 2 ^ 64) }
 {

@@ -4,6 +4,8 @@
 mod balance;
 mod branch;
 mod change;
+mod in_place;
+mod item;
 pub mod tree;
 
 pub use tree::Tree;

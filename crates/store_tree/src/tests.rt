@@ -6,7 +6,7 @@ use std::test::Fail;
 
 /// A text that stands among such texts where the number stands among those below 100,000.
 fn key_of(alloc: Global, number: u64) -> Result<Words, NoMemory> {
-    Ok(Words::from_string(format!(in alloc; "{number:05}")?))
+    Ok(Words::from_string(format!(in alloc; "client:node:{number:05}")?))
 }
 
 fn with_number(
@@ -76,7 +76,7 @@ fn trees_agree_with_sorted_lists(rt: HostRuntime) -> Result<(), Fail> {
             }
         }
         assert!(rt; agrees(alloc, &tree, &kept)?, "{count} by {step}");
-        assert!(rt; tree.get("00003").is_none());
+        assert!(rt; tree.get("client:node:00003").is_none());
     }
     Ok(())
 }

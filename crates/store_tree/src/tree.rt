@@ -1,13 +1,16 @@
 //! The tree: a map from text whose versions share their nodes.
-ghost use Rattle.std.specs.Prelude.{◌≡◌, ◌+◌, ◌*◌, ◌≤◌, [], length, map, IfOk};
+ghost use Rattle.std.specs.Prelude.{◌≡◌, ◌+◌, ◌*◌, ◌≤◌, [], length, map, IfOk, T};
 ghost use Rattle.std.specs.Cmp.Lexicographic.{slice_cmp};
-ghost use Rattle.std.specs.FinMap.{find, put};
+ghost use Rattle.std.specs.FinMap.{find, put, is_sorted};
 ghost use Rattle.std.specs.Option.{option_copied};
 ghost use Rattle.std.specs.Ordering.{nat_cmp};
-ghost use Rattle.store_tree.specs.Contents.{Contents, KeysRise, binary_digits, keys_of, without_key};
+ghost use Rattle.store_tree.specs.Contents.{Contents, KeysRise, binary_digits, by_bytes, keys_of, without_key};
+ghost use Rattle.store_tree.specs.KeyOrder.{key_cmp};
 
-use crate::branch::{Branch, Entry};
+use crate::branch::Branch;
 use crate::change::{with_entry, without_entry};
+use crate::in_place::put_entry;
+use crate::item::{Item, digest};
 use gql_plain::{Ids, NoMemory, Steps, Words};
 use std::alloc::Global;
 use std::marker::Model;
@@ -16,21 +19,25 @@ use std::rc::Rc;
 /// A map from text to shared values, seen as its pairs in the byte order of the keys, and its
 /// height.
 ///
-/// A tree never changes: `insert` and `remove` give a new version, which shares with the old one
-/// all nodes but those on the way to the key. Each node made is counted by `Steps::node`.
+/// `insert` and `remove` leave the tree as it is, and give a new version, which shares with the old
+/// one all nodes but those on the way to the key. `put` takes the tree, and writes in place the nodes
+/// that no other version holds. Each node made is counted by `Steps::node`.
 #[derive(Drop)]
 pub struct Tree<V> {
     root: Branch<V>,
 }
 
 impl<V> Model for Tree<V> {
-    ghost use Rattle.store_tree.specs.Contents.{Contents, KeysRise};
+    ghost use Rattle.std.specs.Prelude.{T};
+    ghost use Rattle.std.specs.FinMap.{is_sorted};
+    ghost use Rattle.store_tree.specs.Contents.{Contents, by_bytes};
+    ghost use Rattle.store_tree.specs.KeyOrder.{key_cmp};
 
     ghost Value = { Contents V };
 
-    ghost view = { λ t. t.root };
+    ghost view = { λ t. record { pairs = by_bytes t.root.pairs; height = t.root.height } };
 
-    ghost invariant = { λ t. KeysRise t.root.pairs };
+    ghost invariant = { λ t. T (is_sorted key_cmp t.root.pairs) };
 }
 
 impl<V: Drop> Tree<V> {
@@ -50,9 +57,7 @@ impl<V: Drop> Tree<V> {
         ensures in_order { KeysRise self.now.pairs }
         ensures low { self.now.height ≤ 2 * binary_digits (length self.now.pairs) }
     {
-        let root = &self.root;
-        let _ = &root.link;
-        root.count()
+        self.root().count()
     }
 
     /// The value at the key; takes no memory.
@@ -60,7 +65,7 @@ impl<V: Drop> Tree<V> {
         ensures found { option_copied result ≡ find (slice_cmp nat_cmp) key.now self.now.pairs }
         ensures in_order { KeysRise self.now.pairs }
     {
-        self.root.get(key)
+        self.root().get(digest(key), key)
     }
 
     /// An equal tree that shares the nodes, in constant time.
@@ -69,7 +74,7 @@ impl<V: Drop> Tree<V> {
         ensures in_order { KeysRise self.now.pairs }
     {
         Ok(Tree {
-            root: self.root.share()?,
+            root: self.root().share()?,
         })
     }
 
@@ -91,11 +96,36 @@ impl<V: Drop> Tree<V> {
         ensures bound { C.nodes steps.new ≤ C.nodes steps.old
             + 8 * (2 * binary_digits (length self.now.pairs) + 1) }
     {
-        let root = &self.root;
-        let _ = &root.link;
-        let entry = Rc::new(alloc, Entry { key, value })?;
+        let root = self.root();
+        let item = Item::new(alloc, key, value)?;
         Ok(Tree {
-            root: with_entry(alloc, root, entry, steps)?,
+            root: with_entry(alloc, root, item, steps)?,
+        })
+    }
+
+    /// The map with the value at the key, in place of one that stands there. A node that no other
+    /// version holds is written in place. After an error the tree is gone.
+    ///
+    /// `nodes` rises by at most `8 * (h + 1)`, where `h` is the height before.
+    pub fn put<C: Steps>(
+        self,
+        alloc: Global,
+        key: Words,
+        value: Rc<V>,
+        steps: &mut C,
+    ) -> Result<Tree<V>, NoMemory>
+        ensures pairs { IfOk result (λ t. t.pairs ≡ put (slice_cmp nat_cmp) key value.value self.pairs) }
+        ensures in_order { KeysRise self.pairs }
+        ensures looks { C.looks steps.new ≡ C.looks steps.old }
+        ensures applies { C.applies steps.new ≡ C.applies steps.old }
+        ensures nodes { C.nodes steps.new ≤ C.nodes steps.old + 8 * (self.height + 1) }
+        ensures bound { C.nodes steps.new ≤ C.nodes steps.old
+            + 8 * (2 * binary_digits (length self.pairs) + 1) }
+    {
+        let root = self.into_root();
+        let item = Item::new(alloc, key, value)?;
+        Ok(Tree {
+            root: put_entry(alloc, root, item, steps)?,
         })
     }
 
@@ -116,10 +146,9 @@ impl<V: Drop> Tree<V> {
         ensures bound { C.nodes steps.new ≤ C.nodes steps.old
             + 8 * (2 * binary_digits (length self.now.pairs) + 1) }
     {
-        let root = &self.root;
-        let _ = &root.link;
+        let root = self.root();
         Ok(Tree {
-            root: without_entry(alloc, root, key, steps)?,
+            root: without_entry(alloc, root, digest(key), key, steps)?,
         })
     }
 
@@ -129,7 +158,34 @@ impl<V: Drop> Tree<V> {
         ensures in_order { KeysRise self.now.pairs }
     {
         let mut items = Vec::new(alloc);
-        self.root.add_keys(&mut items)?;
-        Ok(Ids { items })
+        self.root().add_keys(&mut items)?;
+        Ids::sorted(items)
+    }
+
+    /// The root, whose pairs stand in the order of the tree; takes no memory.
+    fn root(&self) -> &Branch<V>
+        ensures pairs { by_bytes result.now.pairs ≡ self.now.pairs }
+        ensures height { result.now.height ≡ self.now.height }
+        ensures sorted { T (is_sorted key_cmp result.now.pairs) }
+        ensures in_order { KeysRise self.now.pairs }
+        ensures len { length result.now.pairs ≡ length self.now.pairs }
+        ensures low { self.now.height ≤ 2 * binary_digits (length self.now.pairs) }
+    {
+        let root = &self.root;
+        let _ = &root.link;
+        root
+    }
+
+    /// The root alone, whose pairs stand in the order of the tree; takes no memory.
+    fn into_root(self) -> Branch<V>
+        ensures pairs { by_bytes result.pairs ≡ self.pairs }
+        ensures height { result.height ≡ self.height }
+        ensures sorted { T (is_sorted key_cmp result.pairs) }
+        ensures in_order { KeysRise self.pairs }
+        ensures low { self.height ≤ 2 * binary_digits (length self.pairs) }
+    {
+        let root = self.root;
+        let _ = &root.link;
+        root
     }
 }
