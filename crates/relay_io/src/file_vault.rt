@@ -45,7 +45,11 @@ impl<F: Files> FileVault<F> {
 }
 
 // All that a reader has left, which is at most `limit` bytes.
-fn read_whole<R: Read + Drop>(alloc: Global, reader: R, limit: u64) -> Result<Vec<u8>, VaultFault>
+pub(crate) fn read_whole<R: Read + Drop>(
+    alloc: Global,
+    reader: R,
+    limit: u64,
+) -> Result<Vec<u8>, VaultFault>
     ensures bound { IfOk result (λ bytes. vec_len bytes ≤ limit) }
     ensures bytes { IfOk result (λ bytes. IfSome (R.remaining reader) (λ xs. bytes.items ≡ xs)) }
     ensures too_long { IsErrOf result TooLong → IfSome (R.remaining reader) (λ xs. limit < length xs) }

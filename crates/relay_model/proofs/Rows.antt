@@ -16,7 +16,7 @@ use Rattle.relay_model.specs.Records.{leaf, link, no_records, put_all}
 use Rattle.relay_model.specs.Payload.{says}
 use Rattle.relay_model.specs.Read.{read_root}
 use Rattle.relay_model.specs.Events.{retain, payload, read, not_json as no_json, other}
-use Rattle.relay_model.specs.Machine.{Project, State, beginning, accept, refuse, step_event, step_line}
+use Rattle.relay_model.specs.Machine.{Project, State, Step, beginning, accept, step_event, step_line}
 use Rattle.relay_model.specs.Script.{lines_of}
 
 abbrev field_of : List ℕ → TypeTree → FieldTree
@@ -83,15 +83,18 @@ pub an_operation_is_read : step_event project paid 3 (read (codes "h"))
 unfolding serde_json_on_literals digits
 an_operation_is_read = refl
 
+abbrev refused_with : List ℕ → State → Step
+refused_with line s = record { text = line; refused = true; state = s }
+
 pub an_unknown_handle_is_refused : step_event project beginning 2 (read (codes "z"))
-    ≡ refuse (codes "{\"code\":7,\"error\":\"UnknownHandle\",\"n\":2,\"name\":\"z\"}\n") beginning
+    ≡ refused_with (codes "{\"code\":7,\"error\":\"UnknownHandle\",\"n\":2,\"name\":\"z\"}\n") beginning
 unfolding serde_json_on_literals digits
 an_unknown_handle_is_refused = refl
 
-pub no_json_is_refused : step_line project beginning 1 no_json ≡ refuse (codes "{\"code\":1,\"error\":\"NotJson\",\"n\":1}\n") beginning
+pub no_json_is_refused : step_line project beginning 1 no_json ≡ refused_with (codes "{\"code\":1,\"error\":\"NotJson\",\"n\":1}\n") beginning
 unfolding serde_json_on_literals digits
 no_json_is_refused = refl
 
-pub another_event_is_not_taken_yet : step_line project beginning 3 other ≡ refuse (codes "{\"code\":90,\"error\":\"NotYet\",\"n\":3}\n") beginning
+pub another_event_is_not_taken_yet : step_line project beginning 3 other ≡ refused_with (codes "{\"code\":90,\"error\":\"NotYet\",\"n\":3}\n") beginning
 unfolding serde_json_on_literals digits
 another_event_is_not_taken_yet = refl

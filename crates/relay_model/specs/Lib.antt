@@ -5,6 +5,7 @@ pub mod Payload
 pub mod Read
 pub mod Events
 pub mod Order
+pub mod Refusals
 pub mod Printed
 pub mod Machine
 pub mod Script

@@ -4,6 +4,7 @@ use Rattle.gql_plain.specs.Tree.{Tree, null, truth, whole, text, list, object, t
 use Rattle.gql_plain.specs.ToJson.{compact}
 use Rattle.relay_model.specs.Keys.{Text}
 use Rattle.relay_model.specs.Read.{Answer}
+use Rattle.relay_model.specs.Refusals.{Refusal, code_of, name_of, keys_of}
 -- the distinct texts of a list, in byte order
 use Rattle.relay_model.specs.Order.{in_order}
 
@@ -28,27 +29,9 @@ shown n answer =
     ∷ (codes "seen", list (trees_of (map text (in_order answer.1.seen))))
     ∷ [])
 
--- a refusal that names nothing
-abbrev pub refusal : ℕ → Text → ℕ → Text
-refusal code error n = line ((codes "code", number code) ∷ (codes "error", text error) ∷ (codes "n", number n) ∷ [])
-
--- a refusal that names what is not there
-abbrev pub refusal_of : ℕ → Text → ℕ → Text → Text
-refusal_of code error n name =
-    line ((codes "code", number code) ∷ (codes "error", text error) ∷ (codes "n", number n) ∷ (codes "name", text name) ∷ [])
-
-abbrev pub not_json : ℕ → Text
-not_json n = refusal 1 (codes "NotJson") n
-
-abbrev pub unknown_operation : ℕ → Text → Text
-unknown_operation n name = refusal_of 5 (codes "UnknownOperation") n name
-
-abbrev pub unknown_handle : ℕ → Text → Text
-unknown_handle n name = refusal_of 7 (codes "UnknownHandle") n name
-
--- a line whose form is not taken yet
-abbrev pub not_yet : ℕ → Text
-not_yet n = refusal 90 (codes "NotYet") n
+-- a refused line: the refusal's code and name, the number of the line, and the further keys
+abbrev pub refusal : ℕ → Refusal → Text
+refusal n r = line ((codes "code", number (code_of r)) ∷ (codes "error", text (name_of r)) ∷ (codes "n", number n) ∷ keys_of r)
 
 -- a project that is refused: the file at fault with the line and the column, and the rule
 abbrev pub project_fault : (file : Text) → (line column : ℕ) → (rule : Text) → Text

@@ -1,5 +1,5 @@
 -- The course of a call, from what its parts gave and took.
-use Rattle.std.proofs.Common.{◌≡◌, ◌⊎◌, ◌↔◌, ◌≤◌, ◌+◌, ◌++◌, ℕ, [], length, take, true, false, IsTrue, Option, None, Some, refl, sym, ap, subst, inl, inr, ◌∙◌, arith}
+use Rattle.std.proofs.Common.{◌≡◌, ◌⊎◌, ◌↔◌, ◌≤◌, ◌+◌, ◌++◌, ℕ, List, [], length, take, true, false, IsTrue, Option, None, Some, refl, sym, ap, subst, inl, inr, ◌∙◌, arith}
 use Rattle.std.specs.Io.KnownBytes.{IsAtEnd}
 use Rattle.std.proofs.lemmas.Bool.{false≢true}
 use Rattle.std.proofs.lemmas.List.{take_all}
@@ -8,8 +8,10 @@ use Rattle.relay_io.proofs.Streaming.{appended-none}
 use Rattle.relay_model.specs.Keys.{Text}
 use Rattle.relay_model.specs.Machine.{Project}
 use Rattle.relay_model.specs.Printed.{project_fault}
-use Rattle.relay_run.specs.Answers.{refused, accepted, Ran, EndsLine, IsWhole}
-use Rattle.relay_run.specs.Output.{max_script, written, has_refusal, IsDone}
+use Rattle.relay_run.specs.Answers.{unknown, refused, accepted, due, Ran, EndsLine, IsWhole}
+use Rattle.relay_run.specs.Output.{max_script, written, has_refusal}
+use Rattle.relay_run.specs.Statuses.{IsDone}
+use Rattle.relay_run.specs.Words.{Form, run}
 use Rattle.relay_run.specs.declared.status.Status.{Status}
 use Rattle.relay_run.specs.declared.status.Status.TheVariants.{DoneWithRefusals, ProjectRefused, ReadFault, WriteFault, NoMemory, ScriptTooLong}
 
@@ -18,13 +20,13 @@ nothing_given None = refl
 nothing_given (Some xs) = refl
 
 -- no line is answered
-pub ran_unanswered : (p : Project) (status : Status) (left left_now : Option Text) (reads reads_now : ℕ) (held : Option Text) (puts : ℕ) (given : Text)
+pub ran_unanswered : (form : Form) (p : Project) (status : Status) (left left_now : Option Text) (reads reads_now : ℕ) (held : Option Text) (puts : ℕ) (given : Text)
     → left ≡ prepended given left_now → reads_now ≤ reads + length given + 1 → length given ≤ max_script + 1
     → (length given ≡ max_script + 1 → (status ≡ ScriptTooLong) ⊎ ((status ≡ WriteFault) ⊎ (status ≡ NoMemory)))
     → (status ≡ ScriptTooLong → length given ≡ max_script + 1)
     → (IsWhole status → ⊥)
-    → Ran (accepted p) status left left_now reads reads_now held held puts puts
-ran_unanswered p status left left_now reads reads_now held puts given is most within over too_long partial = record {
+    → Ran form (accepted p) status left left_now reads reads_now held held puts puts
+ran_unanswered form p status left left_now reads reads_now held puts given is most within over too_long partial = record {
   taken = given;
   ended = false;
   took = record {
@@ -38,11 +40,13 @@ ran_unanswered p status left left_now reads reads_now held puts given is most wi
     done = λ d. absurd (partial (inl d));
   };
   reads_most = most;
+  unread = tt;
   added = [];
   adds = sym (appended-none held);
   puts_most = omega arith;
+  unwritten = tt;
   ends = inr (inl refl);
-  more = written p (take max_script given) false;
+  more = due form (accepted p) (take max_script given) false;
   part = refl;
   whole = λ w. absurd (partial w);
   refusals = λ d. absurd (partial (inl d));
@@ -58,14 +62,14 @@ not_other status other a b c form e = elim form [
 ]
 
 -- the lines are answered, as far as they are
-pub ran_answered : (p : Project) (status : Status) (left left_now : Option Text) (reads reads_now : ℕ) (held held_now : Option Text) (puts puts_now : ℕ) (given : Text)
+pub ran_answered : (buffer : ℕ) (schema : Text) (documents : List Text) (p : Project) (status : Status) (left left_now : Option Text) (reads reads_now : ℕ) (held held_now : Option Text) (puts puts_now : ℕ) (given : Text)
     → left ≡ prepended given left_now → reads_now ≤ reads + length given + 1 → length given ≤ max_script → IsAtEnd left_now
     → IsAnswered status
     → (added : Text) × (held_now ≡ appended held added) × (puts_now ≤ puts + length added + 1) × ((status ≡ WriteFault) ⊎ EndsLine added)
-    × (more : Text) × (added ++ more ≡ written p given true) × (IsDone status → more ≡ [])
-    → (IsDone status → (status ≡ DoneWithRefusals) ↔ IsTrue (has_refusal p given))
-    → Ran (accepted p) status left left_now reads reads_now held held_now puts puts_now
-ran_answered p status left left_now reads reads_now held held_now puts puts_now given is most within at_end form w refusals = record {
+    × (more : Text) × (added ++ more ≡ written p buffer given true) × (IsDone status → more ≡ [])
+    → (IsDone status → (status ≡ DoneWithRefusals) ↔ IsTrue (has_refusal p buffer given))
+    → Ran (run buffer schema documents) (accepted p) status left left_now reads reads_now held held_now puts puts_now
+ran_answered buffer schema documents p status left left_now reads reads_now held held_now puts puts_now given is most within at_end kind w refusals = record {
   taken = given;
   ended = true;
   took = record {
@@ -74,20 +78,22 @@ ran_answered p status left left_now reads reads_now held held_now puts puts_now 
     end = λ _. at_end;
     most = omega (arith, within);
     over = λ e. absurd (omega (arith, e, within));
-    too_long = λ e. absurd (not_other status ScriptTooLong (λ d. d) (λ x. cc) (λ x. cc) form e);
-    read_fault = λ e. absurd (not_other status ReadFault (λ d. d) (λ x. cc) (λ x. cc) form e);
+    too_long = λ e. absurd (not_other status ScriptTooLong (λ d. d) (λ x. cc) (λ x. cc) kind e);
+    read_fault = λ e. absurd (not_other status ReadFault (λ d. d) (λ x. cc) (λ x. cc) kind e);
     done = λ _. refl;
   };
   reads_most = most;
+  unread = tt;
   added = w.0;
   adds = w.1;
   puts_most = w.2;
+  unwritten = tt;
   ends = w.3;
   more = w.4;
-  part = w.5 ∙ ap (λ t. written p t true) (sym (take_all max_script given within));
+  part = w.5 ∙ ap (λ t. written p buffer t true) (sym (take_all max_script given within));
   whole = λ d. elim d [
     | inl done ↦ w.6 done
-    | inr e ↦ absurd (not_other status ProjectRefused (λ d. d) (λ x. cc) (λ x. cc) form e)
+    | inr e ↦ absurd (not_other status ProjectRefused (λ d. d) (λ x. cc) (λ x. cc) kind e)
   ];
   refusals = refusals;
 }
@@ -108,12 +114,12 @@ not_done status sink form d = elim form [
 ]
 
 -- the line of the project's fault is put, as far as it is
-pub ran_refused : (file : Text) (line column : ℕ) (rule : Text) (status : Status) (sink : Type 0) (left : Option Text) (reads : ℕ) (held held_now : Option Text) (puts puts_now : ℕ)
+pub ran_refused : (form : Form) (file : Text) (line column : ℕ) (rule : Text) (status : Status) (sink : Type 0) (left : Option Text) (reads : ℕ) (held held_now : Option Text) (puts puts_now : ℕ)
     → IsRefused status sink
     → (added : Text) × (held_now ≡ appended held added) × (puts_now ≤ puts + length added + 1) × ((status ≡ WriteFault) ⊎ EndsLine added)
     × (more : Text) × (added ++ more ≡ project_fault file line column rule) × (status ≡ ProjectRefused → more ≡ [])
-    → Ran (refused file line column rule) status left left reads reads held held_now puts puts_now
-ran_refused file line column rule status sink left reads held held_now puts puts_now form w = record {
+    → Ran form (refused file line column rule) status left left reads reads held held_now puts puts_now
+ran_refused form file line column rule status sink left reads held held_now puts puts_now kind w = record {
   taken = [];
   ended = false;
   took = record {
@@ -122,17 +128,63 @@ ran_refused file line column rule status sink left reads held held_now puts puts
     end = λ e. absurd (false≢true e);
     most = omega arith;
     over = λ e. absurd (omega (arith, e));
-    too_long = λ e. absurd (not_after status ScriptTooLong sink (λ x. cc) (λ x. cc) (λ x. cc) form e);
+    too_long = λ e. absurd (not_after status ScriptTooLong sink (λ x. cc) (λ x. cc) (λ x. cc) kind e);
     read_fault = λ _. refl;
-    done = λ d. absurd (not_done status sink form d);
+    done = λ d. absurd (not_done status sink kind d);
   };
   reads_most = omega arith;
+  unread = (refl, refl);
   added = w.0;
   adds = w.1;
   puts_most = w.2;
+  unwritten = tt;
   ends = w.3;
   more = w.4;
   part = w.5;
-  whole = λ d. elim d [ inl done ↦ absurd (not_done status sink form done) | inr e ↦ w.6 e ];
-  refusals = λ d. absurd (not_done status sink form d);
+  whole = λ d. elim d [ inl done ↦ absurd (not_done status sink kind done) | inr e ↦ w.6 e ];
+  refusals = λ d. absurd (not_done status sink kind d);
 }
+
+-- nothing came to be known of the project
+pub ran_unknown : (form : Form) (status : Status) (left : Option Text) (reads : ℕ) (held : Option Text) (puts : ℕ) → (status ≡ ReadFault) ⊎ (status ≡ NoMemory)
+    → Ran form unknown status left left reads reads held held puts puts
+ran_unknown form status left reads held puts kind = record {
+  taken = [];
+  ended = false;
+  took = record {
+    is = nothing_given left;
+    read = refl;
+    end = λ e. absurd (false≢true e);
+    most = omega arith;
+    over = λ e. absurd (omega (arith, e));
+    too_long = λ e. absurd (elim kind [ inl r ↦ other r e | inr m ↦ other_too m e ]);
+    read_fault = λ _. refl;
+    done = λ d. absurd (not_done_then d);
+  };
+  reads_most = omega arith;
+  unread = (refl, refl);
+  added = [];
+  adds = sym (appended-none held);
+  puts_most = omega arith;
+  unwritten = (refl, refl);
+  ends = inr (inl refl);
+  more = [];
+  part = refl;
+  whole = λ w. absurd (elim w [ inl d ↦ not_done_then d | inr e ↦ elim kind [ inl r ↦ refused_too r e | inr m ↦ refused_either m e ] ]);
+  refusals = λ d. absurd (not_done_then d);
+}
+  where
+    other : status ≡ ReadFault → status ≡ ScriptTooLong → ⊥
+    other r e = cc
+
+    other_too : status ≡ NoMemory → status ≡ ScriptTooLong → ⊥
+    other_too m e = cc
+
+    refused_too : status ≡ ReadFault → status ≡ ProjectRefused → ⊥
+    refused_too r e = cc
+
+    refused_either : status ≡ NoMemory → status ≡ ProjectRefused → ⊥
+    refused_either m e = cc
+
+    not_done_then : IsDone status → ⊥
+    not_done_then d = elim kind [ inl r ↦ subst IsDone r d | inr m ↦ subst IsDone m d ]

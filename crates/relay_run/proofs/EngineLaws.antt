@@ -4,7 +4,8 @@ use Rattle.std.specs.Prelude.{ℕ}
 use Rattle.relay_model.specs.Keys.{Text}
 use Rattle.relay_model.specs.Machine.{Project, State, accept, refuse, confirm, folded, base, under, is_live, max_handles, retain_with, step_retain}
 use Rattle.relay_model.specs.Payload.{Said}
-use Rattle.relay_model.specs.Printed.{done, not_yet}
+use Rattle.relay_model.specs.Printed.{done}
+use Rattle.relay_model.specs.Refusals.{not_yet}
 use Rattle.relay_model.specs.Records as model
 use Rattle.relay_model.specs.Records.{Records, no_records, put_all}
 use Rattle.gql_ast.specs.Sels.{Sels}
@@ -16,7 +17,7 @@ length-named (e ∷ es) = ap (λ n. suc n) (length-named es)
 
 pub confirm-plain : (s : State) (n : ℕ) (said : Said) → said.plain ≡ true → confirm s n said ≡ accept (done (codes "payload") n) (record { entries = s.entries ++ said.facts ∷ []; handles = s.handles })
 confirm-plain s n said plain =
-    ap (λ b. cond b (accept (done (codes "payload") n) (record { entries = s.entries ++ said.facts ∷ []; handles = s.handles })) (refuse (not_yet n) s)) plain
+    ap (λ b. cond b (accept (done (codes "payload") n) (record { entries = s.entries ++ said.facts ∷ []; handles = s.handles })) (refuse n not_yet s)) plain
 
 folded-push : (entries : List (List model.Fact)) (entry : List model.Fact) (records : Records) → folded (entries ++ entry ∷ []) records ≡ put_all entry (folded entries records)
 folded-push [] entry records = refl
@@ -37,7 +38,7 @@ pub step-started : (p : Project) (s : State) (n : ℕ) (handle operation : Text)
     → under operation p.operations ≡ Some selections
     → step_retain p s n handle operation ≡ accept (done (codes "retain") n) (record { entries = s.entries; handles = s.handles ++ (handle, selections) ∷ [] })
 step-started p s n handle operation selections h found =
-    ap (λ b. cond b (refuse (not_yet n) s) (retain_with (under operation p.operations) s n handle operation)) h ∙ ap (λ o. retain_with o s n handle operation) found
+    ap (λ b. cond b (refuse n not_yet s) (retain_with (under operation p.operations) s n handle operation)) h ∙ ap (λ o. retain_with o s n handle operation) found
 
 -- whether the handle is live, or as many are as may be, as the engine sees it
 pub taken-so : (held now : List (Text × Sels)) (handle : Text) (b : Bool) → held ≡ now → b ≡ (is_some (under handle held) || (length held == max_handles))

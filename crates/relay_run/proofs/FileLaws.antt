@@ -12,10 +12,10 @@ use Rattle.relay_run.specs.Files.{Files, Given, absent, too_long, told, within, 
 use Rattle.relay_run.specs.Reads.{GivesDocuments, GivesFiles, IsDocumentAbsent, GoesOn, IsFileClosedBy, AreClosedBy}
 use Rattle.relay_run.specs.Rules.{rule_text}
 use Rattle.relay_run.specs.Verdicts.{AreOnlyProject, HaveOnlyFault, AreProjectFiles, AreRefusedFiles}
-use Rattle.relay_run.specs.Words.{Form}
+use Rattle.relay_run.specs.Words.{Form, run}
 use Rattle.relay_run.specs.declared.files.Closed.{Closed}
 use Rattle.relay_run.specs.declared.files.Closed.TheVariants as C
-use Rattle.relay_run.specs.declared.project.ProjectRefusal.TheVariants.{Fault, NotTaken}
+use Rattle.relay_run.specs.declared.interim.project.ProjectRefusal.TheVariants.{Fault, NotTaken}
 use Rattle.schema_types.specs.declared.fault.ProjectFault.{ProjectFault}
 
 -- ---- one file
@@ -170,51 +170,57 @@ module _ (files : Files) (form : Form) where
       subst P (sym e) (h.is, h.only, λ file line column rule x. h.sound x.0 line column rule x.2)
 
 -- the schema was read, and then the documents
-module _ (form : Form) (schema : Text) where
-  given_after : (files : Files) → file_of form.schema files ≡ Some schema → length schema ≤ min max_file max_all
-      → given form files ≡ documents_from files schema [] (max_all - length schema) form.documents
-  given_after files e h = found_is form.schema max_all (λ s. documents_from files s [] (max_all - length s) form.documents) (file_of form.schema files) schema e h
+module _ (buffer : ℕ) (name : Text) (names : List Text) (schema : Text) where
+  abbrev form_given : Form
+  form_given = run buffer name names
 
-  pub project_given : (files : Option Files) (texts : List Text) (p : Project) → GivesFile files form.schema schema → length schema ≤ min max_file max_all
-      → GivesDocuments files (max_all - length schema) form.documents (λ s. told s texts) → AreOnlyProject schema texts p → IsTheProjectOf files form p
+  given_after : (files : Files) → file_of name files ≡ Some schema → length schema ≤ min max_file max_all
+      → given form_given files ≡ documents_from files schema [] (max_all - length schema) names
+  given_after files e h = found_is name max_all (λ s. documents_from files s [] (max_all - length s) names) (file_of name files) schema e h
+
+  pub project_given : (files : Option Files) (texts : List Text) (p : Project) → GivesFile files name schema → length schema ≤ min max_file max_all
+      → GivesDocuments files (max_all - length schema) names (λ s. told s texts) → AreOnlyProject schema texts p → IsTheProjectOf files form_given p
   project_given None texts p e h g x = tt
-  project_given (Some files) texts p e h g x = project_of_texts files form schema texts p (given_after files e h ∙ g schema) x
+  project_given (Some files) texts p e h g x = project_of_texts files form_given schema texts p (given_after files e h ∙ g schema) x
 
-  pub fault_given : (files : Option Files) (texts : List Text) (n line column : ℕ) (rule : Text) → GivesFile files form.schema schema → length schema ≤ min max_file max_all
-      → GivesDocuments files (max_all - length schema) form.documents (λ s. told s texts) → HaveOnlyFault schema texts n line column rule
-      → IsTheFaultOf files form (name_of form n) line column rule
+  pub fault_given : (files : Option Files) (texts : List Text) (n line column : ℕ) (rule : Text) → GivesFile files name schema → length schema ≤ min max_file max_all
+      → GivesDocuments files (max_all - length schema) names (λ s. told s texts) → HaveOnlyFault schema texts n line column rule
+      → IsTheFaultOf files form_given (name_of form_given n) line column rule
   fault_given None texts n line column rule e h g x = tt
-  fault_given (Some files) texts n line column rule e h g x = fault_of_texts files form schema texts n line column rule (given_after files e h ∙ g schema) x
+  fault_given (Some files) texts n line column rule e h g x = fault_of_texts files form_given schema texts n line column rule (given_after files e h ∙ g schema) x
 
 -- as the files are read: the schema, and then these files
-module _ (form : Form) (schema : Text × Text) (files fs : Option Files) where
+module _ (buffer : ℕ) (name : Text) (names : List Text) (schema : Text × Text) (files fs : Option Files) where
+  abbrev form_opened : Form
+  form_opened = run buffer name names
+
   abbrev Opened : (here kept : plan.Files) → Type 0
-  Opened here kept = (fs ≡ files) × (here ≡ kept) × GivesFile files form.schema schema.1 × (length schema.1 ≤ min max_file max_all) × GivesFiles fs schema form.documents kept
+  Opened here kept = (fs ≡ files) × (here ≡ kept) × GivesFile files name schema.1 × (length schema.1 ≤ min max_file max_all) × GivesFiles fs schema names kept
 
   abbrev given_documents : List Text → Type 0
-  given_documents texts = GivesDocuments files (max_all - length schema.1) form.documents (λ s. told s texts)
+  given_documents texts = GivesDocuments files (max_all - length schema.1) names (λ s. told s texts)
 
-  pub project_opened : (here kept : plan.Files) (p : Project) → Opened here kept → AreProjectFiles here p → IsTheProjectOf files form p
+  pub project_opened : (here kept : plan.Files) (p : Project) → Opened here kept → AreProjectFiles here p → IsTheProjectOf files form_opened p
   project_opened here [] p o x = absurd o.4
   project_opened here (first ∷ documents) p o x =
       let texts = plan.texts_of documents in
       let only : AreOnlyProject first.1 texts p = subst (λ fs. AreProjectFiles fs p) o.1 x in
-      let told_here : given_documents texts = subst (λ f. GivesDocuments f (max_all - length schema.1) form.documents (λ s. told s texts)) o.0 o.4.1 in
-      project_given form schema.1 files texts p o.2 o.3 told_here (subst (λ (s : Text × Text). AreOnlyProject s.1 texts p) o.4.0 only)
+      let told_here : given_documents texts = subst (λ f. GivesDocuments f (max_all - length schema.1) names (λ s. told s texts)) o.0 o.4.1 in
+      project_given buffer name names schema.1 files texts p o.2 o.3 told_here (subst (λ (s : Text × Text). AreOnlyProject s.1 texts p) o.4.0 only)
 
-  found_opened : (first : Text × Text) (documents : plan.Files) (n line column : ℕ) (rule : Text) → (fs ≡ files) × GivesFile files form.schema schema.1 × (length schema.1 ≤ min max_file max_all)
-      × GivesFiles fs schema form.documents (first ∷ documents) → HaveOnlyFault first.1 (plan.texts_of documents) n line column rule → IsTheFaultOf files form (name_of form n) line column rule
+  found_opened : (first : Text × Text) (documents : plan.Files) (n line column : ℕ) (rule : Text) → (fs ≡ files) × GivesFile files name schema.1 × (length schema.1 ≤ min max_file max_all)
+      × GivesFiles fs schema names (first ∷ documents) → HaveOnlyFault first.1 (plan.texts_of documents) n line column rule → IsTheFaultOf files form_opened (name_of form_opened n) line column rule
   found_opened first documents n line column rule o x =
       let texts = plan.texts_of documents in
-      let told_here : given_documents texts = subst (λ f. GivesDocuments f (max_all - length schema.1) form.documents (λ s. told s texts)) o.0 o.3.1 in
-      fault_given form schema.1 files texts n line column rule o.1 o.2 told_here (subst (λ (s : Text × Text). HaveOnlyFault s.1 texts n line column rule) o.3.0 x)
+      let told_here : given_documents texts = subst (λ f. GivesDocuments f (max_all - length schema.1) names (λ s. told s texts)) o.0 o.3.1 in
+      fault_given buffer name names schema.1 files texts n line column rule o.1 o.2 told_here (subst (λ (s : Text × Text). HaveOnlyFault s.1 texts n line column rule) o.3.0 x)
 
-  pub fault_opened : (here kept : plan.Files) (f : ProjectFault) → Opened here kept → AreRefusedFiles here (Fault f) → IsTheFaultOf files form (name_of form f.file) f.line f.column (rule_text f.rule)
+  pub fault_opened : (here kept : plan.Files) (f : ProjectFault) → Opened here kept → AreRefusedFiles here (Fault f) → IsTheFaultOf files form_opened (name_of form_opened f.file) f.line f.column (rule_text f.rule)
   fault_opened here [] f o x = absurd o.4
   fault_opened here (first ∷ documents) f o x =
       found_opened first documents f.file f.line f.column (rule_text f.rule) (o.0, o.2, o.3, o.4) (subst (λ fs. AreRefusedFiles fs (Fault f)) o.1 x)
 
-  pub not_taken_opened : (here kept : plan.Files) (n : ℕ) → Opened here kept → AreRefusedFiles here (NotTaken n) → IsTheFaultOf files form (name_of form n) 1 1 (codes "N1")
+  pub not_taken_opened : (here kept : plan.Files) (n : ℕ) → Opened here kept → AreRefusedFiles here (NotTaken n) → IsTheFaultOf files form_opened (name_of form_opened n) 1 1 (codes "N1")
   not_taken_opened here [] n o x = absurd o.4
   not_taken_opened here (first ∷ documents) n o x =
       found_opened first documents n 1 1 (codes "N1") (o.0, o.2, o.3, o.4) (subst (λ fs. AreRefusedFiles fs (NotTaken n)) o.1 x)

@@ -1,4 +1,5 @@
 pub mod Pieces
+pub mod Numbers
 pub mod FirstLine
 pub mod Written
 pub mod Courses

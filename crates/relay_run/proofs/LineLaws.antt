@@ -8,7 +8,7 @@ use Rattle.serde_json.proofs.Views.{members_len-members_view}
 use Rattle.relay_model.specs.Events as model
 use Rattle.relay_model.specs.Keys.{Text}
 use Rattle.relay_run.specs.Lines.{line_shown}
-use Rattle.relay_run.specs.declared.event.Line.{Line}
+use Rattle.relay_run.specs.declared.interim.event.Line.{Line}
 use Rattle.gql_plain.specs.declared.memory.NoMemory.{NoMemory}
 
 pub line_of-within : (bytes : Text) (is_text : Bool) → length bytes ≤ model.max_line → is_utf8 bytes ≡ is_text → model.line_of_text is_text bytes ≡ model.line_of bytes

@@ -8,7 +8,7 @@ use Rattle.relay_model.specs.Payload.{object_ids, all_differ}
 use Rattle.relay_run.proofs.Saying.{drop_cons_at}
 use Rattle.relay_run.specs.Said.{has_text}
 use Rattle.relay_run.specs.Stored.{facts_shown}
-use Rattle.relay_run.specs.declared.records.Fact.{Fact}
+use Rattle.relay_run.specs.declared.interim.records.Fact.{Fact}
 
 -- none of the texts was noted
 abbrev pub none_of : (Text → Bool) → List Text → Bool

@@ -13,7 +13,7 @@ use Rattle.relay_run.specs.Plain.{Plain, taken, not_taken, plain}
 use Rattle.relay_run.specs.Projects.{trees_of}
 use Rattle.relay_run.specs.Rules.{rule_text}
 use Rattle.relay_run.specs.Verdicts.{AreOnlyProject, HaveOnlyFault, AreProjectFiles, AreRefusedFiles}
-use Rattle.relay_run.specs.declared.project.ProjectRefusal.TheVariants.{Fault, NotTaken}
+use Rattle.relay_run.specs.declared.interim.project.ProjectRefusal.TheVariants.{Fault, NotTaken}
 use Rattle.schema_types.specs.Types.{Defs}
 use Rattle.schema_types.specs.declared.fault.ProjectFault.{ProjectFault}
 

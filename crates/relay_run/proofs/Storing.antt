@@ -4,7 +4,7 @@ use Rattle.std.proofs.lemmas.Slice.Eq.{bytes_eq-Decides}
 use Rattle.relay_model.specs.Keys.{Text}
 use Rattle.relay_model.specs.Records.{Records, put, put_all}
 use Rattle.relay_run.specs.Stored.{fact_shown, facts_shown}
-use Rattle.relay_run.specs.declared.records.Fact.{Fact}
+use Rattle.relay_run.specs.declared.interim.records.Fact.{Fact}
 
 pub same_answer : (a b : Bool) → (a ≡ true → b ≡ true) → (b ≡ true → a ≡ true) → a ≡ b
 same_answer true b f g = sym (f refl)

@@ -6,7 +6,7 @@ use Rattle.relay_model.specs.Keys.{Text}
 use Rattle.relay_model.specs.Machine.{Project}
 use Rattle.relay_run.specs.Projects.{IsPlainProject, IsNotTaken}
 use Rattle.relay_run.specs.Rules.{rule_text}
-use Rattle.relay_run.specs.Words.{Form}
+use Rattle.relay_run.specs.Words.{Form, run, file_names}
 use Rattle.schema_types.specs.declared.fault.ProjectFault.{ProjectFault}
 
 abbrev pub Files : Type 0
@@ -40,28 +40,25 @@ documents_from files schema before left [] = told schema before
 documents_from files schema before left (name ∷ names) =
     found name left (file_of name files) (λ bytes. documents_from files schema (before ++ bytes ∷ []) (left - length bytes) names)
 
+-- what the files of a form hold
 abbrev pub given : Form → Files → Given
-given form files =
-    found form.schema max_all (file_of form.schema files) (λ schema. documents_from files schema [] (max_all - length schema) form.documents)
+given (run buffer schema documents) files =
+    found schema max_all (file_of schema files) (λ bytes. documents_from files bytes [] (max_all - length bytes) documents)
 
 -- the first that is absent or too long is absent
 abbrev pub IsFirstAbsent : Option Files → Form → Type 0
 IsFirstAbsent None form = ⊥
 IsFirstAbsent (Some files) form = given form files ≡ absent
 
--- the project that the files are, where they are told
+-- the project that the files are
 abbrev pub IsProject : Given → Project → Type 0
 IsProject absent project = ⊥
 IsProject (too_long file) project = ⊥
 IsProject (told schema texts) project = IsPlainProject schema texts project
 
-abbrev pub IsProjectOf : Option Files → Form → Project → Type 0
-IsProjectOf None form project = ⊤
-IsProjectOf (Some files) form project = IsProject (given form files) project
-
 -- the name of a file by its number: the schema is 0, documents are numbered from 1
 abbrev pub name_of : Form → ℕ → Text
-name_of form n = slice_index_or (form.schema ∷ form.documents) n []
+name_of form n = slice_index_or (file_names form) n []
 
 -- a rule is not met at a place of a file; the first that is told of a text, else of the schema, else of the documents
 pub record BreaksRule (schema : Text) (texts : List Text) (n line column : ℕ) (rule : Text) : Type 0 where
@@ -88,7 +85,3 @@ abbrev pub IsFault : Form → Given → (file : Text) → (line column : ℕ) �
 IsFault form absent file line column rule = ⊥
 IsFault form (too_long name) file line column rule = (file ≡ name) × (line ≡ 1) × (column ≡ 1) × (rule ≡ codes "F1")
 IsFault form (told schema texts) file line column rule = (n : ℕ) × (file ≡ name_of form n) × IsFaultIn schema texts n line column rule
-
-abbrev pub IsFaultOf : Option Files → Form → (file : Text) → (line column : ℕ) → (rule : Text) → Type 0
-IsFaultOf None form file line column rule = ⊤
-IsFaultOf (Some files) form file line column rule = IsFault form (given form files) file line column rule

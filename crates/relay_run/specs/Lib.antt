@@ -1,6 +1,9 @@
 pub mod Shown
 pub mod Stands
 pub mod Words
+pub mod Statuses
+pub mod FormShown
+pub mod RefusalShown
 pub mod Files
 pub mod Output
 pub mod Answers

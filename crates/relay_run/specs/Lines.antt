@@ -2,10 +2,10 @@
 use Rattle.std.specs.Prelude.{Some}
 use Rattle.relay_model.specs.Events as model
 use Rattle.serde_json.specs.View.{view}
-use Rattle.relay_run.specs.declared.event.Event.{Event}
-use Rattle.relay_run.specs.declared.event.Event.TheVariants.{Retain, Payload, Read}
-use Rattle.relay_run.specs.declared.event.Line.{Line}
-use Rattle.relay_run.specs.declared.event.Line.TheVariants.{TooLong, NotJson, Json}
+use Rattle.relay_run.specs.declared.interim.event.Event.{Event}
+use Rattle.relay_run.specs.declared.interim.event.Event.TheVariants.{Retain, Payload, Read}
+use Rattle.relay_run.specs.declared.interim.event.Line.{Line}
+use Rattle.relay_run.specs.declared.interim.event.Line.TheVariants.{TooLong, NotJson, Json}
 
 abbrev pub event_shown : Event → model.Event
 event_shown (Retain handle operation) = model.retain handle.now operation.now

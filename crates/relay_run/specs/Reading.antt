@@ -13,8 +13,8 @@ use Rattle.relay_model.specs.Payload.{is_set}
 use Rattle.relay_model.specs.Read as model
 use Rattle.relay_model.specs.Records.{Records, Stored, leaf, link}
 use Rattle.relay_model.specs.Schema.{Schema, type_of}
-use Rattle.relay_run.specs.declared.reading.Reading.{Reading}
-use Rattle.relay_run.specs.declared.trace.Trace.{Trace}
+use Rattle.relay_run.specs.declared.interim.reading.Reading.{Reading}
+use Rattle.relay_run.specs.declared.interim.trace.Trace.{Trace}
 
 abbrev pub trace_shown : Trace → model.Trace
 trace_shown t = record { missing = t.missing; seen = t.seen.items }

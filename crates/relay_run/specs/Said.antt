@@ -11,9 +11,9 @@ use Rattle.relay_model.specs.Keys.{Text}
 use Rattle.relay_model.specs.Payload as model
 use Rattle.relay_model.specs.Schema.{Schema, type_of}
 use Rattle.relay_run.specs.Stored.{facts_shown}
-use Rattle.relay_run.specs.declared.object_id.ObjectId.{ObjectId}
-use Rattle.relay_run.specs.declared.records.Fact.{Fact}
-use Rattle.relay_run.specs.declared.said.Said.{Said}
+use Rattle.relay_run.specs.declared.interim.object_id.ObjectId.{ObjectId}
+use Rattle.relay_run.specs.declared.interim.records.Fact.{Fact}
+use Rattle.relay_run.specs.declared.interim.said.Said.{Said}
 
 abbrev pub said_shown : Said → model.Said
 said_shown s = record { plain = s.plain; facts = facts_shown s.facts.items }

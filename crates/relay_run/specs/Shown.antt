@@ -4,7 +4,7 @@ use Rattle.std.specs.declared.alloc.Global.{Global}
 use Rattle.gql_ast.specs.Sels.{Sels}
 use Rattle.relay_model.specs.Keys.{Text}
 use Rattle.relay_model.specs.Machine as machine
-use Rattle.relay_run.specs.declared.project.Project.{Project}
+use Rattle.relay_run.specs.declared.interim.project.Project.{Project}
 
 -- the names as texts, each with its selections, in order
 abbrev pub named : List (String Global × Sels) → List (Text × Sels)

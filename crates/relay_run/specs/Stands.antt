@@ -6,10 +6,10 @@ use Rattle.relay_model.specs.Records.{Stored, leaf, link}
 use Rattle.relay_model.specs.Machine.{Project, State, base, step}
 use Rattle.gql_plain.specs.Shown.{tree_of}
 use Rattle.relay_run.specs.Shown.{named, project_shown}
-use Rattle.relay_run.specs.declared.engine.Engine.{Engine}
-use Rattle.relay_run.specs.declared.engine.Answer.{Answer}
-use Rattle.relay_run.specs.declared.engine.Field.{Field}
-use Rattle.relay_run.specs.declared.engine.Field.TheVariants.{Leaf, Link}
+use Rattle.relay_run.specs.declared.interim.engine.Engine.{Engine}
+use Rattle.relay_run.specs.declared.interim.engine.Answer.{Answer}
+use Rattle.relay_run.specs.declared.interim.engine.Field.{Field}
+use Rattle.relay_run.specs.declared.interim.engine.Field.TheVariants.{Leaf, Link}
 
 abbrev pub field_shown : Field → Stored
 field_shown (Leaf value) = leaf (tree_of value)

@@ -2,8 +2,8 @@
 use Rattle.std.specs.Prelude.{◌≡◌}
 use Rattle.relay_model.specs.Machine.{Project, State, Step}
 use Rattle.relay_run.specs.Stands.{StandsFor}
-use Rattle.relay_run.specs.declared.engine.Answer.{Answer}
-use Rattle.relay_run.specs.declared.engine.Engine.{Engine}
+use Rattle.relay_run.specs.declared.interim.engine.Answer.{Answer}
+use Rattle.relay_run.specs.declared.interim.engine.Engine.{Engine}
 
 -- the answer is the step's, and the engine stands for the state after it
 pub record IsStep (p : Project) (step : Step) (a : Answer) (e : Engine) : Type 0 where

@@ -5,8 +5,8 @@ use Rattle.std.specs.declared.alloc.Global.{Global}
 use Rattle.relay_model.specs.Keys.{Text}
 use Rattle.relay_model.specs.Records as model
 use Rattle.relay_run.specs.Stands.{field_shown}
-use Rattle.relay_run.specs.declared.engine.Field.{Field}
-use Rattle.relay_run.specs.declared.records.Fact.{Fact}
+use Rattle.relay_run.specs.declared.interim.engine.Field.{Field}
+use Rattle.relay_run.specs.declared.interim.records.Fact.{Fact}
 
 -- the fields of one record
 abbrev pub FieldMap : Type 0

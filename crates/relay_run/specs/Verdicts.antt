@@ -6,8 +6,8 @@ use Rattle.relay_model.specs.Machine.{Project}
 use Rattle.relay_run.specs.Files.{IsFaultIn}
 use Rattle.relay_run.specs.Projects.{IsPlainProject}
 use Rattle.relay_run.specs.Rules.{rule_text}
-use Rattle.relay_run.specs.declared.project.ProjectRefusal.{ProjectRefusal}
-use Rattle.relay_run.specs.declared.project.ProjectRefusal.TheVariants.{Fault, NotTaken, NoMemory}
+use Rattle.relay_run.specs.declared.interim.project.ProjectRefusal.{ProjectRefusal}
+use Rattle.relay_run.specs.declared.interim.project.ProjectRefusal.TheVariants.{Fault, NotTaken, NoMemory}
 
 -- the texts are this project, no other, and have no fault
 pub record AreOnlyProject (schema : Text) (texts : List Text) (project : Project) : Type 0 where

@@ -1,5 +1,5 @@
 -- The forms of the program's words.
-use Rattle.std.specs.Prelude.{ℕ, length, ◌+◌, ◌-◌, ◌*◌, List, [], ◌∷◌, Bool, true, false, ◌&&◌, ◌||◌, ◌==◌, not, cond, codes, bytes_eq, nat_le, Option, Some, None, fold}
+use Rattle.std.specs.Prelude.{ℕ, length, ◌≤◌, ◌+◌, ◌-◌, ◌*◌, List, [], ◌∷◌, Bool, true, false, ◌&&◌, ◌||◌, ◌==◌, not, cond, codes, bytes_eq, nat_le, Option, Some, None, fold}
 use Rattle.std.specs.List.{list_all}
 use Rattle.relay_model.specs.Keys.{Text}
 
@@ -18,7 +18,7 @@ is_decimal (b ∷ bs) = list_all is_digit (b ∷ bs) && (not (b == 48) || not (i
 abbrev pub decimal : Text → ℕ
 decimal = fold (λ n b. 10 * n + (b - 48)) 0
 
--- how many released operations are kept: 1 to 100
+-- a number of released operations that are kept: 1 to 100
 abbrev pub is_buffer : Text → Bool
 is_buffer text = is_decimal text && nat_le 1 (decimal text) && nat_le (decimal text) 100
 
@@ -29,14 +29,22 @@ max_documents = 1000
 abbrev pub are_documents : List Text → Bool
 are_documents names = nat_le 1 (length names) && nat_le (length names) max_documents
 
--- `run B SCHEMA DOC..`: the names of the files
-pub record Form : Type 0 where
-  pub schema : Text
-  pub documents : List Text
+-- What the words ask for. `run B SCHEMA DOC..` runs a script against the project of these files, and keeps at
+-- most B released operations.
+pub data Form : Type 0 where
+  run : (buffer : ℕ) (schema : Text) (documents : List Text) → Form
 
 abbrev pub form_of : List Text → Option Form
 form_of (first ∷ buffer ∷ schema ∷ documents) =
-    cond (bytes_eq first (codes "run") && is_buffer buffer && are_documents documents) (Some (record { schema = schema; documents = documents })) None
+    cond (bytes_eq first (codes "run") && is_buffer buffer && are_documents documents) (Some (run (decimal buffer) schema documents)) None
 form_of [] = None
 form_of (first ∷ []) = None
 form_of (first ∷ buffer ∷ []) = None
+
+-- the names of the files that a form reads, in their order
+abbrev pub file_names : Form → List Text
+file_names (run buffer schema documents) = schema ∷ documents
+
+-- the numbers of a form are within their limits
+abbrev pub IsWithin : Form → Type 0
+IsWithin (run buffer schema documents) = (1 ≤ buffer) × (buffer ≤ 100) × (1 ≤ length documents) × (length documents ≤ max_documents)

@@ -1,15 +1,15 @@
 //! Reading the files of the project.
-ghost use Rattle.std.specs.Prelude.{◌≡◌, ◌≤◌, ◌+◌, ◌-◌, map, min, length, IfOk, IfErr};
+ghost use Rattle.std.specs.Prelude.{◌≡◌, ◌≤◌, ◌+◌, ◌-◌, ℕ, map, min, length, IfOk, IfErr};
 ghost use Rattle.gql_plain.specs.Counted.{next_count};
 ghost use Rattle.relay_io.specs.Causes.{Rose};
 ghost use Rattle.relay_io.specs.Files.{GivesFile};
-ghost use Rattle.relay_run.specs.Answers.{the_form, IsTheProjectOf};
+ghost use Rattle.relay_run.specs.Answers.{IsTheProjectOf};
 ghost use Rattle.relay_run.specs.Files.{max_all, max_file, name_of};
 ghost use Rattle.relay_run.specs.Reads.{GivesFiles, IsClosedBy, AreClosedBy, IsFileClosedBy};
 ghost use Rattle.relay_run.specs.Shown.{project_shown};
-ghost use Rattle.relay_run.specs.Words.{max_documents};
+ghost use Rattle.relay_run.specs.Words.{max_documents, run};
 
-use crate::project::{Project, ProjectRefusal, read_project};
+use crate::interim::project::{Project, ProjectRefusal, read_project};
 use gql_plain::{NoMemory, Words};
 use plan_project::ProjectFile;
 use relay_io::{Vault, VaultFault};
@@ -46,8 +46,8 @@ pub fn open_project<'a, V: Vault>(
     requires least { 1 ≤ length documents.now }
     requires most { length documents.now ≤ max_documents }
     ensures same { V.files vault.new ≡ V.files vault.old }
-    ensures project { IfOk result (λ p. IsTheProjectOf (V.files vault.old) (the_form schema.now (map (λ w. w.now) documents.now)) (project_shown p)) }
-    ensures closed { IfErr result (λ closed. IsClosedBy (V.files vault.old) (the_form schema.now (map (λ w. w.now) documents.now)) closed
+    ensures project { IfOk result (λ p. (buffer : ℕ) → IsTheProjectOf (V.files vault.old) (run buffer schema.now (map (λ w. w.now) documents.now)) (project_shown p)) }
+    ensures closed { IfErr result (λ closed. (buffer : ℕ) → IsClosedBy (V.files vault.old) (run buffer schema.now (map (λ w. w.now) documents.now)) closed
         (Rose (V.faults vault.old) (V.faults vault.new))) }
     ensures later { V.faults vault.old ≤ V.faults vault.new }
     ensures calls { V.calls vault.new ≤ V.calls vault.old + (length documents.now + 1) }
@@ -130,7 +130,7 @@ fn read_file<'a, V: Vault>(
 /// The name of a file by its number: the schema is 0, documents are numbered from 1. The empty text
 /// where there is none; takes no memory.
 pub fn name_at<'a>(schema: &'a str, documents: &[&'a str], file: u32) -> &'a str
-    ensures { result.now ≡ name_of (the_form schema.now (map (λ w. w.now) documents.now)) file }
+    ensures { (buffer : ℕ) → result.now ≡ name_of (run buffer schema.now (map (λ w. w.now) documents.now)) file }
 {
     if file == 0 {
         return schema;

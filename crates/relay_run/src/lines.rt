@@ -8,19 +8,20 @@ ghost use Rattle.relay_model.specs.Machine as machine;
 ghost use Rattle.relay_model.specs.Machine.{State};
 ghost use Rattle.relay_model.specs.Script.{lines_of};
 ghost use Rattle.relay_run.specs.Answers.{EndsLine};
-ghost use Rattle.relay_run.specs.Output.{max_script, written, has_refusal, IsDone};
+ghost use Rattle.relay_run.specs.Output.{max_script, written, has_refusal};
+ghost use Rattle.relay_run.specs.Statuses.{IsDone};
 ghost use Rattle.relay_run.specs.Shown.{project_shown};
 ghost use Rattle.relay_run.specs.Stands.{StandsFor};
 
-use crate::engine::Engine;
-use crate::project::Project;
+use crate::interim::engine::Engine;
+use crate::interim::project::Project;
 use crate::put::put_all;
 use crate::status::Status;
 use relay_io::Sink;
 use std::alloc::Global;
 
 /// The most bytes of a line that is looked at: 8 MiB.
-const MAX_LINE: usize = 1 << 23;
+pub const MAX_LINE: usize = 1 << 23;
 
 /// Why the answering stops before the last line.
 #[derive(Clone, Copy, Debug, Drop)]
@@ -31,18 +32,24 @@ pub enum Stop {
 }
 
 /// Answers the lines of a script one after the other, and puts each answer as one piece.
-pub fn answer_lines<K: Sink>(alloc: Global, project: Project, script: &[u8], out: &mut K) -> Status
+pub fn answer_lines<K: Sink>(
+    alloc: Global,
+    project: Project,
+    buffer: u64,
+    script: &[u8],
+    out: &mut K,
+) -> Status
     requires { length script.now ≤ max_script }
     ensures added { (added : List ℕ) × (K.held out.new ≡ appended (K.held out.old) added)
         × (K.calls out.new ≤ K.calls out.old + length added + 1)
         × ((result ≡ Status.WriteFault) ⊎ EndsLine added)
-        × (more : List ℕ) × (added ++ more ≡ written (project_shown project) script.now true) × (IsDone result → more ≡ []) }
-    ensures refusals { IsDone result → ((result ≡ Status.DoneWithRefusals) ↔ IsTrue (has_refusal (project_shown project) script.now)) }
+        × (more : List ℕ) × (added ++ more ≡ written (project_shown project) buffer script.now true) × (IsDone result → more ≡ []) }
+    ensures refusals { IsDone result → ((result ≡ Status.DoneWithRefusals) ↔ IsTrue (has_refusal (project_shown project) buffer script.now)) }
     ensures form { IsDone result ⊎ ((result ≡ Status.WriteFault) ⊎ (result ≡ Status.NoMemory)) }
     ensures write_fault { result ≡ Status.WriteFault → Rose (K.faults out.old) (K.faults out.new) }
     ensures later { K.faults out.old ≤ K.faults out.new }
 {
-    let mut engine = Engine::new(alloc, project);
+    let mut engine = Engine::new(alloc, project, buffer);
     let mut rest = script;
     let mut n = 1;
     let mut refused = false;

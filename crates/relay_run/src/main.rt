@@ -1,36 +1,26 @@
 //! A client of a GraphQL server: it compiles a project, and runs a script of events against its store.
 #![tactic(auto)]
 
-mod engine;
-mod event;
-mod field_types;
+ghost use Rattle.std.specs.Prelude.{◌≡◌, ◌⊎◌, IfErr};
+
 mod files;
+mod interim;
 mod lines;
-mod members;
-mod object_id;
-mod operations;
-mod payload;
-mod plain;
-mod plain_fields;
 mod printed;
-mod project;
+mod project_fault;
 mod put;
-mod reading;
-mod records;
 mod refusal;
 mod rules;
-mod said;
 mod script;
 mod status;
 #[cfg(test)]
 mod tests;
 mod top;
-mod trace;
 mod words;
 
 use gql_plain::Counts;
 use relay_io::{FileVault, StdSink, StdSource};
-use status::Status;
+use status::{Status, exit_of};
 use std::process::ExitCode;
 use std::{env, io};
 use top::relay_top;
@@ -38,18 +28,30 @@ use top::relay_top;
 const USAGE: &str = "usage: relay_run run B SCHEMA DOC.. | compile SCHEMA DOC.. | bulk SEED COUNT";
 
 fn main(rt: HostRuntime) -> ExitCode {
-    let status = match words_of(&rt) {
-        Ok(words) => run(&rt, &words),
+    let status = run(&rt);
+    say_usage(&rt, status);
+    ExitCode::from(exit_of(status))
+}
+
+// Runs the arguments over files, standard input and standard output.
+fn run(rt: &HostRuntime) -> Status {
+    match words_of(rt) {
+        Ok(words) => run_words(rt, &words),
         Err(status) => status,
-    };
+    }
+}
+
+// Says on standard error which words there are, where the words were no form.
+fn say_usage(rt: &HostRuntime, status: Status) {
     if status == Status::Usage {
         let _ = eprintln!(rt; "{}", USAGE);
     }
-    ExitCode::from(status.code())
 }
 
 // The arguments after the program's name. One that is not UTF-8 is no word.
-fn words_of(rt: &HostRuntime) -> Result<Vec<String>, Status> {
+fn words_of(rt: &HostRuntime) -> Result<Vec<String>, Status>
+    ensures { IfErr result (λ status. (status ≡ Status.NoMemory) ⊎ (status ≡ Status.Usage)) }
+{
     match env::args(rt) {
         Ok(words) => {
             let mut rest = Vec::new(rt.alloc());
@@ -66,7 +68,7 @@ fn words_of(rt: &HostRuntime) -> Result<Vec<String>, Status> {
 }
 
 // Runs these words over files, standard input and standard output.
-fn run(rt: &HostRuntime, words: &[String]) -> Status {
+fn run_words(rt: &HostRuntime, words: &[String]) -> Status {
     let mut borrowed = Vec::new(rt.alloc());
     'words: for word in words {
         if borrowed.push(word.as_str()).is_err() {

@@ -1,171 +1,97 @@
-//! The lines of the answers: compact JSON with keys in byte order, each ended by LF (this
-//! project's own).
-ghost use Rattle.std.specs.Prelude.{◌≡◌, ℕ, pos, List, [], ◌∷◌, map, codes, Option, string_bytes, option_map, unwrap_or, IfOk, OnOk};
-ghost use Rattle.gql_plain.specs.Tree.{Tree, null, text, list, trees_of, members_of};
-ghost use Rattle.gql_plain.specs.ToJson.{data_of, members_data};
-ghost use Rattle.serde_json.specs.Data as J;
-ghost use Rattle.serde_json.specs.View.{view, members_view};
-ghost use Rattle.relay_model.specs.Order.{in_order};
+//! The printed lines: compact JSON with keys in byte order, each ended by LF (this project's own).
+ghost use Rattle.std.specs.Prelude.{◌≡◌, ◌<◌, ◌^◌, ◌++◌, ◌∷◌, [], codes, IfOk, OnOk};
+ghost use Rattle.gql_plain.specs.Order.{IsAfter};
+ghost use Rattle.gql_plain.specs.Tree.{text};
+ghost use Rattle.std.specs.Map.{keys_of};
 ghost use Rattle.relay_model.specs.Printed as model;
-ghost use Rattle.relay_model.specs.Read.{Answer};
-ghost use Rattle.relay_run.specs.Reading.{IsReading};
+ghost use Rattle.relay_model.specs.Refusals as refusals;
+ghost use Rattle.relay_run.specs.RefusalShown.{refusal_shown};
 
-use crate::members::put_member;
-use crate::reading::Reading;
-use gql_plain::{NoMemory, Words};
-use serde_json::{Map, Value};
+use crate::refusal::Refusal;
+use gql_plain::{NoMemory, Pairs, Plain, Words, text_of};
 use std::alloc::Global;
-use std::collections::BTreeMap;
 
-/// The line of an object, where its tree has these members.
-#[tactic(auto, using(crate::proofs::PrintingLaws::lines))]
-fn line(alloc: Global, members: Map<String, Value>) -> Result<Words, NoMemory>
-    ensures { IfOk result (λ words. (ms : List (List ℕ × Tree))
-        → members_view members.entries ≡ members_data (members_of ms) → words ≡ model.line ms) }
+/// The line of an object with these members.
+fn line_of(alloc: Global, members: Pairs) -> Result<Words, NoMemory>
+    ensures { IfOk result (λ words. words ≡ model.line members) }
 {
-    let mut text = Value::Object(members).to_string(alloc)?;
-    text.push_str("\n")?;
+    let mut text = text_of(alloc, &Plain::Tree(members))?.into_string();
+    text.push('\n')?;
     Ok(Words::from_string(text))
 }
 
-/// Puts a text under a key.
-fn put_text(
-    alloc: Global,
-    members: &mut Map<String, Value>,
-    key: &str,
-    text: &str,
-) -> Result<(), NoMemory>
-    ensures { OnOk result (members_view members.new.entries ≡ J.put key.now (J.string text.now) (members_view members.old.entries)) }
+/// Puts a text under a key that comes after all others in byte order.
+fn put_text(alloc: Global, members: &mut Pairs, key: &str, value: &str) -> Result<(), NoMemory>
+    requires { IsAfter key.now (keys_of members.old) }
+    ensures { OnOk result (members.new ≡ members.old ++ (key.now, text value.now) ∷ []) }
 {
-    let value = Value::String(String::from_str(alloc, text)?);
-    put_member(alloc, members, key, value)
+    members.push(
+        Words::new(alloc, key)?,
+        Plain::Text(Words::new(alloc, value)?),
+    )
 }
 
-/// Puts a number under a key.
-fn put_number(
-    alloc: Global,
-    members: &mut Map<String, Value>,
-    key: &str,
-    number: u64,
-) -> Result<(), NoMemory>
-    ensures { OnOk result (members_view members.new.entries ≡ J.put key.now (J.number (J.unsigned number)) (members_view members.old.entries)) }
+/// Puts a number under a key that comes after all others in byte order.
+fn put_number(alloc: Global, members: &mut Pairs, key: &str, number: u64) -> Result<(), NoMemory>
+    requires after { IsAfter key.now (keys_of members.old) }
+    requires within { number < 2 ^ 63 }
+    ensures { OnOk result (members.new ≡ members.old ++ (key.now, model.number number) ∷ []) }
 {
-    put_member(alloc, members, key, Value::from(number))
+    members.push(Words::new(alloc, key)?, Plain::Int(number as i64))
 }
 
-/// An object with the number of a line.
-fn numbered(alloc: Global, n: u64) -> Result<Map<String, Value>, NoMemory>
-    ensures { IfOk result (λ members. members_view members.entries ≡ J.member (codes "n") (J.number (J.unsigned n)) J.no_members) }
-{
-    let mut members = Map::new(alloc);
-    put_number(alloc, &mut members, "n", n)?;
-    Ok(members)
-}
-
-/// The answer of an event that shows nothing.
+/// The answer of an event that shows nothing: the event's name, and the number of the line.
 pub fn done(alloc: Global, name: &str, n: u64) -> Result<Words, NoMemory>
+    requires { n < 2 ^ 63 }
     ensures { IfOk result (λ words. words ≡ model.done name.now n) }
 {
-    let mut members = numbered(alloc, n)?;
+    let mut members = Pairs::new(alloc);
+    put_number(alloc, &mut members, "n", n)?;
     put_text(alloc, &mut members, "ok", name)?;
-    line(alloc, members)
+    line_of(alloc, members)
 }
 
-/// An object with what all refusals have.
-fn refused(alloc: Global, code: u64, error: &str, n: u64) -> Result<Map<String, Value>, NoMemory>
-    ensures { IfOk result (λ members. members_view members.entries
-        ≡ J.member (codes "code") (J.number (J.unsigned code))
-        (J.member (codes "error") (J.string error.now) (J.member (codes "n") (J.number (J.unsigned n)) J.no_members))) }
+/// The line of a refusal: its code and name, the number of the line, and its further keys.
+pub fn refusal(alloc: Global, refusal: Refusal<'_>, n: u64) -> Result<Words, NoMemory>
+    requires { n < 2 ^ 63 }
+    ensures { IfOk result (λ words. words ≡ model.refusal n (refusal_shown refusal.entry)) }
 {
-    let mut members = numbered(alloc, n)?;
-    put_number(alloc, &mut members, "code", code)?;
-    put_text(alloc, &mut members, "error", error)?;
-    Ok(members)
+    let mut members = Pairs::new(alloc);
+    put_number(alloc, &mut members, "code", refusal.code())?;
+    put_text(alloc, &mut members, "error", refusal.name())?;
+    put_number(alloc, &mut members, "n", n)?;
+    put_keys(alloc, &mut members, refusal)?;
+    line_of(alloc, members)
 }
 
-/// A refusal that names nothing.
-pub fn refusal(alloc: Global, code: u64, error: &str, n: u64) -> Result<Words, NoMemory>
-    ensures { IfOk result (λ words. words ≡ model.refusal code error.now n) }
+/// Puts the further keys of a refusal.
+fn put_keys(alloc: Global, members: &mut Pairs, refusal: Refusal<'_>) -> Result<(), NoMemory>
+    requires { IsAfter (codes "name") (keys_of members.old) }
+    ensures { OnOk result (members.new ≡ members.old ++ refusals.keys_of (refusal_shown refusal.entry)) }
 {
-    let members = refused(alloc, code, error, n)?;
-    line(alloc, members)
+    match refusal {
+        Refusal::UnknownOperation(name) => put_text(alloc, members, "name", name),
+        Refusal::UnknownHandle(name) => put_text(alloc, members, "name", name),
+        Refusal::NotJson => Ok(()),
+        Refusal::NotYet => Ok(()),
+    }
 }
 
-/// A refusal that names what is not there.
-pub fn refusal_of(
+/// The line of a project that is refused: the file at fault with the line and the column, from 1, and
+/// the rule.
+pub fn fault_line(
     alloc: Global,
-    code: u64,
-    error: &str,
-    n: u64,
-    name: &str,
+    file: &str,
+    line: u32,
+    column: u32,
+    rule: &str,
 ) -> Result<Words, NoMemory>
-    ensures { IfOk result (λ words. words ≡ model.refusal_of code error.now n name.now) }
+    ensures { IfOk result (λ text. text ≡ model.project_fault file.now line column rule.now) }
 {
-    let mut members = refused(alloc, code, error, n)?;
-    put_text(alloc, &mut members, "name", name)?;
-    line(alloc, members)
-}
-
-/// The distinct texts of a list, in byte order.
-fn ordered(alloc: Global, mut texts: Vec<Words>) -> Result<BTreeMap<String, ()>, NoMemory>
-    ensures { IfOk result (λ keys. map (λ e. string_bytes e.0) keys.entries ≡ in_order texts.items) }
-{
-    let mut keys = BTreeMap::new(alloc);
-    'texts: while let Some(text) = texts.pop() {
-        drop(keys.insert(text.into_string(), ())?);
-    }
-    Ok(keys)
-}
-
-/// The distinct texts of a list, in byte order, as a JSON list.
-fn value_of_texts(alloc: Global, texts: Vec<Words>) -> Result<Value, NoMemory>
-    ensures { IfOk result (λ value. view value ≡ data_of (list (trees_of (map text (in_order texts.items))))) }
-{
-    let keys = ordered(alloc, texts)?;
-    let mut items = Vec::new(alloc);
-    'keys: for (key, _) in keys {
-        items.push(Value::String(key))?;
-    }
-    Ok(Value::Array(items))
-}
-
-/// The value, or null where there is none; takes no memory.
-fn value_or_null(value: Option<Value>) -> Value
-    ensures { (found : Option Tree) → option_map view value ≡ option_map data_of found
-        → view result ≡ data_of (unwrap_or found null) }
-{
-    match value {
-        Some(value) => value,
-        None => Value::Null,
-    }
-}
-
-/// The answer of a read.
-pub fn shown(alloc: Global, n: u64, reading: Reading) -> Result<Words, NoMemory>
-    ensures { IfOk result (λ words. (answer : Answer) → IsReading reading answer → words ≡ model.shown n answer) }
-{
-    let Reading { value, trace } = reading;
-    let seen = value_of_texts(alloc, trace.seen)?;
-    let mut members = read_members(alloc, n, value_or_null(value), trace.missing)?;
-    put_member(alloc, &mut members, "seen", seen)?;
-    line(alloc, members)
-}
-
-/// What the answer of a read has but for the ids.
-fn read_members(
-    alloc: Global,
-    n: u64,
-    value: Value,
-    missing: bool,
-) -> Result<Map<String, Value>, NoMemory>
-    ensures { IfOk result (λ members. members_view members.entries
-        ≡ J.member (codes "data") (view value)
-        (J.member (codes "missing") (J.boolean missing)
-        (J.member (codes "n") (J.number (J.unsigned n)) (J.member (codes "ok") (J.string (codes "read")) J.no_members)))) }
-{
-    let mut members = numbered(alloc, n)?;
-    put_text(alloc, &mut members, "ok", "read")?;
-    put_member(alloc, &mut members, "missing", Value::Bool(missing))?;
-    put_member(alloc, &mut members, "data", value)?;
-    Ok(members)
+    let mut members = Pairs::new(alloc);
+    put_number(alloc, &mut members, "column", column as u64)?;
+    put_text(alloc, &mut members, "file", file)?;
+    put_number(alloc, &mut members, "line", line as u64)?;
+    put_text(alloc, &mut members, "rule", rule)?;
+    line_of(alloc, members)
 }

@@ -1,63 +1,43 @@
-//! Refusing a project.
-ghost use Rattle.std.specs.Prelude.{◌≡◌, ◌⊎◌, ◌≤◌, ◌+◌, ◌++◌, [], ℕ, List, length, IfOk};
-ghost use Rattle.relay_io.specs.Causes.{Rose};
-ghost use Rattle.relay_io.specs.Streams.{appended};
-ghost use Rattle.relay_model.specs.Printed.{project_fault};
-ghost use Rattle.relay_run.specs.Answers.{EndsLine};
+//! Why a line is refused.
+ghost use Rattle.std.specs.Prelude.{◌≡◌};
+ghost use Rattle.relay_model.specs.Refusals as model;
+ghost use Rattle.relay_run.specs.RefusalShown.{refusal_shown};
 
-use crate::put::put_all;
-use crate::status::Status;
-use gql_plain::{NoMemory, Pairs, Plain, Words, text_of};
-use relay_io::Sink;
-use std::alloc::Global;
-
-/// Puts the line of a project that is refused: the file at fault with the line and the column, and
-/// the rule.
-pub fn refuse<K: Sink>(
-    alloc: Global,
-    file: &str,
-    line: u32,
-    column: u32,
-    rule: &str,
-    out: &mut K,
-) -> Status
-    ensures added { (added : List ℕ) × (K.held out.new ≡ appended (K.held out.old) added)
-        × (K.calls out.new ≤ K.calls out.old + length added + 1)
-        × ((result ≡ Status.WriteFault) ⊎ EndsLine added)
-        × (more : List ℕ) × (added ++ more ≡ project_fault file.now line column rule.now) × (result ≡ Status.ProjectRefused → more ≡ []) }
-    ensures form { (result ≡ Status.ProjectRefused) ⊎ (((result ≡ Status.WriteFault) × Rose (K.faults out.old) (K.faults out.new)) ⊎ (result ≡ Status.NoMemory)) }
-{
-    let Ok(text) = fault_line(alloc, file, line, column, rule) else {
-        return Status::NoMemory;
-    };
-    let Ok(()) = put_all(out, text.as_str().as_bytes()) else {
-        return Status::WriteFault;
-    };
-    Status::ProjectRefused
+/// Why a line is refused.
+#[derive(Clone, Copy, Debug)]
+pub enum Refusal<'a> {
+    /// The line is no JSON.
+    NotJson,
+    /// The project has no operation of this name.
+    UnknownOperation(&'a str),
+    /// No handle of this name is live.
+    UnknownHandle(&'a str),
+    /// The form of the line is not taken yet.
+    NotYet,
 }
 
-/// The line: compact JSON with its keys in byte order, ended by LF.
-fn fault_line(
-    alloc: Global,
-    file: &str,
-    line: u32,
-    column: u32,
-    rule: &str,
-) -> Result<Words, NoMemory>
-    ensures { IfOk result (λ text. text ≡ project_fault file.now line column rule.now) }
-{
-    let mut members = Pairs::new(alloc);
-    members.push(Words::new(alloc, "column")?, Plain::Int(column as i64))?;
-    members.push(
-        Words::new(alloc, "file")?,
-        Plain::Text(Words::new(alloc, file)?),
-    )?;
-    members.push(Words::new(alloc, "line")?, Plain::Int(line as i64))?;
-    members.push(
-        Words::new(alloc, "rule")?,
-        Plain::Text(Words::new(alloc, rule)?),
-    )?;
-    let mut text = text_of(alloc, &Plain::Tree(members))?.into_string();
-    text.push('\n')?;
-    Ok(Words::from_string(text))
+impl<'a> Refusal<'a> {
+    /// The code, as it is printed.
+    pub fn code(self) -> u64
+        ensures { result ≡ model.code_of (refusal_shown self.entry) }
+    {
+        match self {
+            Refusal::NotJson => 1,
+            Refusal::UnknownOperation(_) => 5,
+            Refusal::UnknownHandle(_) => 7,
+            Refusal::NotYet => 90,
+        }
+    }
+
+    /// The name, as it is printed.
+    pub fn name(self) -> &'static str
+        ensures { result.now ≡ model.name_of (refusal_shown self.entry) }
+    {
+        match self {
+            Refusal::NotJson => "NotJson",
+            Refusal::UnknownOperation(_) => "UnknownOperation",
+            Refusal::UnknownHandle(_) => "UnknownHandle",
+            Refusal::NotYet => "NotYet",
+        }
+    }
 }

@@ -1,24 +1,26 @@
 //! The top call: from the words, the files and the script to what is written.
-ghost use Rattle.std.specs.Prelude.{◌≡◌, ◌⊎◌, ◌↔◌, ℕ, ◌+◌, ◌≤◌, List, [], ◌++◌, length, map, Bool, true, Option, None, Some, IsTrue, IfSome, codes};
-ghost use Rattle.std.specs.Io.KnownBytes.{IsAtEnd};
+ghost use Rattle.std.specs.Prelude.{◌≡◌, ◌⊎◌, ◌↔◌, ℕ, ◌+◌, ◌≤◌, List, length, map, take, Bool, true, None, Some, IsTrue};
 ghost use Rattle.relay_io.specs.Causes.{Rose};
 ghost use Rattle.relay_io.specs.Streams.{appended, prepended};
 ghost use Rattle.relay_model.specs.Machine as machine;
 ghost use Rattle.relay_model.specs.Printed.{project_fault};
-ghost use Rattle.relay_run.specs.Answers.{Course, IsCourse, IsTheProjectOf, Took, Ran, Answering, EndsLine, accepted, due, the_form};
-ghost use Rattle.relay_run.specs.Files.{Files, given, IsProject, IsProjectOf, IsFault, IsFaultOf, IsFirstAbsent};
-ghost use Rattle.relay_run.specs.Output.{max_script, written, has_refusal, IsDone, AddsPartOf};
+ghost use Rattle.relay_run.specs.Answers.{Course, IsCourse, IsTheProjectOf, IsTheFaultOf, Took, Ran, Answering, EndsLine, accepted, due, refuses, left_over, IsReadWhole, IsScriptFor};
+ghost use Rattle.relay_run.specs.Files.{Files, given, IsProject, IsFault, IsFirstAbsent};
+ghost use Rattle.relay_run.specs.FormShown.{form_shown};
+ghost use Rattle.relay_run.specs.Output.{max_script, AddsPartOf};
 ghost use Rattle.relay_run.specs.Shown.{project_shown};
-ghost use Rattle.relay_run.specs.Words.{Form, form_of, max_documents};
+ghost use Rattle.relay_run.specs.Statuses.{IsDone};
+ghost use Rattle.relay_run.specs.Words as forms;
+ghost use Rattle.relay_run.specs.Words.{form_of, file_names, max_documents, IsWithin};
 
 use crate::files::{Closed, name_at, open_project};
+use crate::interim::project::Project;
 use crate::lines::answer_lines;
-use crate::project::Project;
-use crate::refusal::refuse;
+use crate::project_fault::refuse;
 use crate::rules::rule_text;
 use crate::script::{ScriptFault, read_script};
 use crate::status::Status;
-use crate::words::form;
+use crate::words::{Form, form_of};
 use gql_plain::Counts;
 use relay_io::{Sink, Source, Vault};
 use std::alloc::Global;
@@ -37,65 +39,90 @@ pub fn relay_top<V: Vault, S: Source, K: Sink>(
     ensures untouched { result ≡ Status.Usage
         → (V.calls vault.new ≡ V.calls vault.old) × (S.calls script.new ≡ S.calls script.old) × (K.calls out.new ≡ K.calls out.old)
         × (S.left script.new ≡ S.left script.old) × (K.held out.new ≡ K.held out.old) }
-    // What is written is what the machine writes, line by line.
-    ensures done { (files : Files) (form : Form) (project : machine.Project) (bytes : List ℕ)
+    // What is written is what is due of the form: for `run` what the machine writes, line by line.
+    ensures done { (files : Files) (form : forms.Form) (project : machine.Project) (bytes : List ℕ)
         → form_of (map (λ w. w.now) words.now) ≡ Some form
         → V.files vault.old ≡ Some files → IsProject (given form files) project
         → S.left script.old ≡ Some bytes → IsDone result
-        → (S.left script.new ≡ Some []) × (K.held out.new ≡ appended (K.held out.old) (written project bytes true))
-        × ((result ≡ Status.DoneWithRefusals) ↔ IsTrue (has_refusal project bytes)) }
-    ensures accepted { (form : Form) → form_of (map (λ w. w.now) words.now) ≡ Some form → IsDone result
-        → (project : machine.Project) × IsProjectOf (V.files vault.old) form project }
-    ensures whole { (form : Form) → form_of (map (λ w. w.now) words.now) ≡ Some form → IsDone result
+        → (S.left script.new ≡ Some (left_over form bytes)) × (K.held out.new ≡ appended (K.held out.old) (due form (accepted project) bytes true))
+        × ((result ≡ Status.DoneWithRefusals) ↔ IsTrue (refuses form (accepted project) bytes)) }
+    ensures whole { (form : forms.Form) → form_of (map (λ w. w.now) words.now) ≡ Some form → IsDone result
         → (project : machine.Project) × IsTheProjectOf (V.files vault.old) form project
-        × (taken : List ℕ) × (S.left script.old ≡ prepended taken (S.left script.new)) × IsAtEnd (S.left script.new) × (length taken ≤ max_script)
-        × (K.held out.new ≡ appended (K.held out.old) (written project taken true))
-        × ((result ≡ Status.DoneWithRefusals) ↔ IsTrue (has_refusal project taken)) }
+        × (taken : List ℕ) × (S.left script.old ≡ prepended taken (S.left script.new)) × IsReadWhole form taken (S.left script.new)
+        × (K.held out.new ≡ appended (K.held out.old) (due form (accepted project) taken true))
+        × ((result ≡ Status.DoneWithRefusals) ↔ IsTrue (refuses form (accepted project) taken)) }
     // Where nothing fails and memory is had, all is written.
-    ensures complete { (files : Files) (form : Form) (project : machine.Project) (bytes : List ℕ)
+    ensures complete { (files : Files) (form : forms.Form) (project : machine.Project) (bytes : List ℕ)
         → form_of (map (λ w. w.now) words.now) ≡ Some form
         → V.files vault.old ≡ Some files → IsProject (given form files) project
-        → S.left script.old ≡ Some bytes → length bytes ≤ max_script
+        → S.left script.old ≡ Some bytes → IsScriptFor form bytes
         → ¬ Rose (V.faults vault.old) (V.faults vault.new) → ¬ Rose (S.faults script.old) (S.faults script.new) → ¬ Rose (K.faults out.old) (K.faults out.new)
-        → (result ≡ Status.NoMemory) ⊎ (IsDone result × (S.left script.new ≡ Some []) × (K.held out.new ≡ appended (K.held out.old) (written project bytes true))) }
-    // At each answer what is written is a part of what is due, from its beginning on: by the fault of the
-    // project, or by the bytes that the script gave.
-    ensures part { (form : Form) → form_of (map (λ w. w.now) words.now) ≡ Some form
+        → (result ≡ Status.NoMemory)
+        ⊎ (IsDone result × (S.left script.new ≡ Some (left_over form bytes)) × (K.held out.new ≡ appended (K.held out.old) (due form (accepted project) bytes true))) }
+    // At each answer what is written is a part of what is due, from its beginning on: of the line of the
+    // project's fault, or by the first 2^30 bytes that the script gave. A script that is too long gave a byte more.
+    ensures part { (form : forms.Form) → form_of (map (λ w. w.now) words.now) ≡ Some form
         → (course : Course) × IsCourse (V.files vault.old) form course
         × (taken : List ℕ) × (ended : Bool) × Took course result (S.left script.old) (S.left script.new) taken ended
-        × AddsPartOf (K.held out.old) (K.held out.new) (due course taken ended) }
+        × AddsPartOf (K.held out.old) (K.held out.new) (due form course (take max_script taken) ended) }
     ensures ends { (result ≡ Status.WriteFault) ⊎ ((added : List ℕ) × (K.held out.new ≡ appended (K.held out.old) added) × EndsLine added) }
-    // How often the outside is called.
-    ensures vault_calls { (form : Form) → form_of (map (λ w. w.now) words.now) ≡ Some form → V.calls vault.new ≤ V.calls vault.old + (length form.documents + 1) }
+    // What is outside is called so often, and files stay as they are.
+    ensures files { V.files vault.new ≡ V.files vault.old }
+    ensures vault_calls { (form : forms.Form) → form_of (map (λ w. w.now) words.now) ≡ Some form → V.calls vault.new ≤ V.calls vault.old + length (file_names form) }
     ensures script_calls { (taken : List ℕ) × (S.left script.old ≡ prepended taken (S.left script.new)) × (S.calls script.new ≤ S.calls script.old + length taken + 1) }
-    ensures unread { result ≡ Status.ProjectRefused → S.calls script.new ≡ S.calls script.old }
     ensures sink_calls { (added : List ℕ) × (K.held out.new ≡ appended (K.held out.old) added) × (K.calls out.new ≤ K.calls out.old + length added + 1) }
+    // The script is not read of a project that is refused.
+    ensures unread { result ≡ Status.ProjectRefused → (S.left script.new ≡ S.left script.old) × (S.calls script.new ≡ S.calls script.old) }
+    // Where a file could not be read, nothing is read of the script and nothing is written.
+    ensures unopened { result ≡ Status.ReadFault → ¬ Rose (S.faults script.old) (S.faults script.new)
+        → (S.left script.new ≡ S.left script.old) × (S.calls script.new ≡ S.calls script.old)
+        × (K.held out.new ≡ K.held out.old) × (K.calls out.new ≡ K.calls out.old) }
     // Each other answer has its cause.
-    ensures refused { (form : Form) → form_of (map (λ w. w.now) words.now) ≡ Some form → result ≡ Status.ProjectRefused
-        → (file : List ℕ) × (line : ℕ) × (column : ℕ) × (rule : List ℕ) × IsFaultOf (V.files vault.old) form file line column rule
+    ensures refused { (form : forms.Form) → form_of (map (λ w. w.now) words.now) ≡ Some form → result ≡ Status.ProjectRefused
+        → (file : List ℕ) × (line : ℕ) × (column : ℕ) × (rule : List ℕ) × IsTheFaultOf (V.files vault.old) form file line column rule
         × (K.held out.new ≡ appended (K.held out.old) (project_fault file line column rule)) }
-    ensures faulty { (files : Files) (form : Form) (file : List ℕ) (line column : ℕ) (rule : List ℕ)
+    ensures faulty { (files : Files) (form : forms.Form) (file : List ℕ) (line column : ℕ) (rule : List ℕ)
         → form_of (map (λ w. w.now) words.now) ≡ Some form
         → V.files vault.old ≡ Some files → IsFault form (given form files) file line column rule
         → ((result ≡ Status.ProjectRefused) × (K.held out.new ≡ appended (K.held out.old) (project_fault file line column rule)))
         ⊎ (((result ≡ Status.ReadFault) × Rose (V.faults vault.old) (V.faults vault.new)) ⊎ ((result ≡ Status.WriteFault) ⊎ (result ≡ Status.NoMemory))) }
-    ensures read_fault { (form : Form) → form_of (map (λ w. w.now) words.now) ≡ Some form → result ≡ Status.ReadFault
+    ensures read_fault { (form : forms.Form) → form_of (map (λ w. w.now) words.now) ≡ Some form → result ≡ Status.ReadFault
         → Rose (V.faults vault.old) (V.faults vault.new) ⊎ Rose (S.faults script.old) (S.faults script.new)
         ⊎ IsFirstAbsent (V.files vault.old) form }
     ensures write_fault { result ≡ Status.WriteFault → Rose (K.faults out.old) (K.faults out.new) }
-    ensures too_long { result ≡ Status.ScriptTooLong
-        → (taken : List ℕ) × (length taken ≡ max_script + 1) × (S.left script.old ≡ prepended taken (S.left script.new)) }
 {
     let _ = steps;
-    match form(words) {
-        Some((schema, documents)) => run(alloc, schema, documents, vault, script, out),
+    match form_of(words) {
+        Some(form) => answer_form(alloc, form, vault, script, out),
         None => Status::Usage,
     }
 }
 
-/// Runs the script against the project of these files.
+/// Does what the words ask for.
+fn answer_form<V: Vault, S: Source, K: Sink>(
+    alloc: Global,
+    form: Form<'_, '_>,
+    vault: &mut V,
+    script: &mut S,
+    out: &mut K,
+) -> Status
+    requires { IsWithin (form_shown form) }
+    ensures ran { (course : Course) × IsCourse (V.files vault.old) (form_shown form.entry) course
+        × Answering course result (Rose (V.faults vault.old) (V.faults vault.new) ⊎ IsFirstAbsent (V.files vault.old) (form_shown form.entry))
+        (Rose (S.faults script.old) (S.faults script.new)) (Rose (K.faults out.old) (K.faults out.new))
+        × Ran (form_shown form.entry) course result (S.left script.old) (S.left script.new) (S.calls script.old) (S.calls script.new)
+        (K.held out.old) (K.held out.new) (K.calls out.old) (K.calls out.new) }
+    ensures files { V.files vault.new ≡ V.files vault.old }
+    ensures vault_calls { V.calls vault.new ≤ V.calls vault.old + length (file_names (form_shown form.entry)) }
+{
+    let (buffer, schema, documents) = form.parts();
+    run(alloc, buffer, schema, documents, vault, script, out)
+}
+
+/// Runs the script against the project of these files, and keeps at most so many released operations.
 fn run<V: Vault, S: Source, K: Sink>(
     alloc: Global,
+    buffer: u64,
     schema: &str,
     documents: &[&str],
     vault: &mut V,
@@ -104,16 +131,16 @@ fn run<V: Vault, S: Source, K: Sink>(
 ) -> Status
     requires least { 1 ≤ length documents.now }
     requires most { length documents.now ≤ max_documents }
-    ensures ran { (course : Course) × IsCourse (V.files vault.old) (the_form schema.now (map (λ w. w.now) documents.now)) course
-        × Answering course result (Rose (V.faults vault.old) (V.faults vault.new) ⊎ IsFirstAbsent (V.files vault.old) (the_form schema.now (map (λ w. w.now) documents.now)))
+    ensures ran { (course : Course) × IsCourse (V.files vault.old) (forms.run buffer schema.now (map (λ w. w.now) documents.now)) course
+        × Answering course result (Rose (V.faults vault.old) (V.faults vault.new) ⊎ IsFirstAbsent (V.files vault.old) (forms.run buffer schema.now (map (λ w. w.now) documents.now)))
         (Rose (S.faults script.old) (S.faults script.new)) (Rose (K.faults out.old) (K.faults out.new))
-        × Ran course result (S.left script.old) (S.left script.new) (S.calls script.old) (S.calls script.new)
+        × Ran (forms.run buffer schema.now (map (λ w. w.now) documents.now)) course result (S.left script.old) (S.left script.new) (S.calls script.old) (S.calls script.new)
         (K.held out.old) (K.held out.new) (K.calls out.old) (K.calls out.new) }
+    ensures files { V.files vault.new ≡ V.files vault.old }
     ensures vault_calls { V.calls vault.new ≤ V.calls vault.old + (length documents.now + 1) }
-    ensures unread { result ≡ Status.ProjectRefused → S.calls script.new ≡ S.calls script.old }
 {
     match open_project(alloc, vault, schema, documents) {
-        Ok(project) => run_project(alloc, project, script, out),
+        Ok(project) => run_project(alloc, project, buffer, script, out),
         Err(Closed::TooLong(name)) => refuse(alloc, name, 1, 1, "F1", out),
         Err(Closed::Fault(fault)) => {
             let name = name_at(schema, documents, fault.file);
@@ -132,15 +159,17 @@ fn run<V: Vault, S: Source, K: Sink>(
 fn run_project<S: Source, K: Sink>(
     alloc: Global,
     project: Project,
+    buffer: u64,
     script: &mut S,
     out: &mut K,
 ) -> Status
     ensures answering { Answering (accepted (project_shown project)) result ⊥ (Rose (S.faults script.old) (S.faults script.new)) (Rose (K.faults out.old) (K.faults out.new)) }
-    ensures ran { Ran (accepted (project_shown project)) result (S.left script.old) (S.left script.new) (S.calls script.old) (S.calls script.new)
+    ensures ran { (schema : List ℕ) (documents : List (List ℕ))
+        → Ran (forms.run buffer schema documents) (accepted (project_shown project)) result (S.left script.old) (S.left script.new) (S.calls script.old) (S.calls script.new)
         (K.held out.old) (K.held out.new) (K.calls out.old) (K.calls out.new) }
 {
     match read_script(alloc, script) {
-        Ok(bytes) => answer_lines(alloc, project, &bytes, out),
+        Ok(bytes) => answer_lines(alloc, project, buffer, &bytes, out),
         Err(ScriptFault::Failed) => Status::ReadFault,
         Err(ScriptFault::TooLong) => Status::ScriptTooLong,
         Err(ScriptFault::NoMemory) => Status::NoMemory,

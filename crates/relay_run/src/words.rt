@@ -1,20 +1,54 @@
 //! The words of the program.
-ghost use Rattle.std.specs.Prelude.{◌≡◌, map, option_map};
-ghost use Rattle.relay_run.specs.Answers.{the_form};
-ghost use Rattle.relay_run.specs.Words.{form_of, is_buffer, are_documents};
+ghost use Rattle.std.specs.Prelude.{◌≡◌, true, map, option_map, IfSome};
+ghost use Rattle.relay_run.specs.FormShown.{form_shown};
+ghost use Rattle.relay_run.specs.Words.{form_of, is_buffer, are_documents, decimal, IsWithin, run};
 
 /// The most documents of a project.
 const MAX_DOCUMENTS: usize = 1_000;
 
-/// The names of the schema and of the documents, where the words are `run B SCHEMA DOC..` with a B
-/// of 1 to 100 and 1 to 1,000 documents; takes no memory.
-pub fn form<'a, 'b>(words: &'b [&'a str]) -> Option<(&'a str, &'b [&'a str])>
-    ensures { option_map (λ f. the_form f.0.now (map (λ w. w.now) f.1.now)) result ≡ form_of (map (λ w. w.now) words.now) }
+/// What the words ask for.
+#[derive(Clone, Copy, Debug)]
+pub enum Form<'a, 'b> {
+    /// Runs a script against the project of these files, and keeps at most `buffer` released
+    /// operations.
+    Run {
+        buffer: u64,
+        schema: &'a str,
+        documents: &'b [&'a str],
+    },
+}
+
+impl<'a, 'b> Form<'a, 'b> {
+    /// The number of released operations that are kept, the name of the schema's file, and those of
+    /// the documents' files; takes no memory.
+    pub fn parts(self) -> (u64, &'a str, &'b [&'a str])
+        ensures { form_shown self.entry ≡ run result.0 result.1.now (map (λ w. w.now) result.2.now) }
+    {
+        match self {
+            Form::Run {
+                buffer,
+                schema,
+                documents,
+            } => (buffer, schema, documents),
+        }
+    }
+}
+
+/// What the words ask for: `run B SCHEMA DOC..`, with a B of 1 to 100 and 1 to 1,000 documents.
+/// None where they are no form; takes no memory.
+pub fn form_of<'a, 'b>(words: &'b [&'a str]) -> Option<Form<'a, 'b>>
+    ensures asked { option_map form_shown result ≡ form_of (map (λ w. w.now) words.now) }
+    ensures within { IfSome result (λ f. IsWithin (form_shown f)) }
 {
     match words {
-        [first, buffer, schema, documents @ ..]
-            if *first == "run" && is_buffer(buffer) && are_documents(documents) => {
-            Some((schema, documents))
+        [first, word, schema, documents @ ..]
+            if *first == "run" && is_buffer(word) && are_documents(documents) => {
+            let buffer = number(word);
+            Some(Form::Run {
+                buffer,
+                schema,
+                documents,
+            })
         }
         _ => None,
     }
@@ -36,5 +70,18 @@ fn is_buffer(word: &str) -> bool
         [tens, ones] => matches!(tens, b'1'..=b'9') && ones.is_ascii_digit(),
         [_, _, _, ..] => word == "100",
         [] => false,
+    }
+}
+
+/// The number of 1 to 100 that the word is.
+fn number(word: &str) -> u64
+    requires { is_buffer word.now ≡ true }
+    ensures { result ≡ decimal word.now }
+{
+    match word.as_bytes() {
+        [ones] => (ones - b'0') as u64,
+        [tens, ones] => 10 * (tens - b'0') as u64 + (ones - b'0') as u64,
+        [_, _, _, ..] => 100,
+        [] => 0,
     }
 }

@@ -2,8 +2,9 @@ use Rattle.std.proofs.Common.{◌≡◌, ◌+◌, ◌++◌, ◌||◌, true, [], 
 use Rattle.std.proofs.lemmas.Bool.{true≢false, eqb-true}
 use Rattle.relay_io.specs.Streams.{appended}
 use Rattle.relay_io.proofs.Streaming.{appended-none, appended-appended}
+use Rattle.relay_model.specs.Events.{max_line}
 use Rattle.relay_model.specs.Keys.{Text}
-use Rattle.relay_model.specs.Machine.{beginning, step, some_refused}
+use Rattle.relay_model.specs.Machine.{beginning, step, refused_from}
 use Rattle.relay_model.specs.Script.{lines_of, cut}
 use Rattle.relay_run.specs.Shown.{project_shown}
 use Rattle.relay_run.proofs.Written.{written_next, refused_next, part_then, no_lines, written_all, refused_all, step_ends, both_end}
@@ -11,7 +12,7 @@ use Rattle.relay_run.proofs.lines.answer_lines.Goals as goal
 
 pub lines-init : goal.lines-init
 lines-init g c = record {
-  so_far = (beginning, c.new-engine.ensures, [], sym (appended-none _), refl, refl, inl refl, omega arith);
+  so_far = (beginning, c.new-engine.ensures.stands, [], sym (appended-none _), refl, refl, inl refl, omega arith);
   numbered = omega arith;
   later = omega arith;
 }
@@ -24,7 +25,7 @@ returns-in-Err-WriteFault-clause-added g c =
     let inv = c.lines.invariant.so_far in
     let p = project_shown c.args.project in
     let w = c.in-Err-WriteFault.ensures.err p inv.0 inv.1 in
-    let text = (step p inv.0 c.lines.n (take 8388609 c.first_line.result.0.now)).text in (
+    let text = (step p inv.0 c.lines.n (take (max_line + 1) c.first_line.result.0.now)).text in (
       inv.2 ++ take w.0 text,
       added_more (g.K.Sink.held c.args.out.now) (g.K.Sink.held c.lines.out) (g.K.Sink.held c.answer_line.new.out) inv.2 (take w.0 text) inv.3 w.2,
       omega (arith, inv.7, w.3, w.1, length-append inv.2 (take w.0 text), length-take w.0 text),
@@ -39,7 +40,7 @@ returns-in-Err-NoMemory-clause-added g c =
     let inv = c.lines.invariant.so_far in
     let p = project_shown c.args.project in
     let w = c.in-Err-NoMemory.ensures.err p inv.0 inv.1 in
-    let text = (step p inv.0 c.lines.n (take 8388609 c.first_line.result.0.now)).text in
+    let text = (step p inv.0 c.lines.n (take (max_line + 1) c.first_line.result.0.now)).text in
     let none : take w.0 text ≡ [] = ap (λ k. take k text) (w.4 c.in-Err-NoMemory.field-0-is) in (
       inv.2,
       w.2 ∙ ap (appended (g.K.Sink.held c.lines.out)) none ∙ appended-none _ ∙ inv.3,
@@ -55,7 +56,7 @@ lines-preserved g c =
     let inv = c.lines.invariant.so_far in
     let p = project_shown c.args.project in
     let w = c.in-Ok.ensures.ok p inv.0 inv.1 in
-    let now = step p inv.0 c.lines.n (take 8388609 c.first_line.result.0.now) in
+    let now = step p inv.0 c.lines.n (take (max_line + 1) c.first_line.result.0.now) in
     record {
       so_far = (
         now.state,
@@ -64,7 +65,7 @@ lines-preserved g c =
         added_more (g.K.Sink.held c.args.out.now) (g.K.Sink.held c.lines.out) (g.K.Sink.held c.answer_line.new.out) inv.2 now.text inv.3 w.2,
         written_next p inv.0 c.lines.n _ inv.2 c.first_line.result.0.now (lines_of c.lines.rest.now true) (lines_of c.first_line.result.1.now true) c.first_line.ensures.lines inv.4,
         refused_next p inv.0 c.lines.n _ c.lines.refused c.first_line.result.0.now (lines_of c.lines.rest.now true) (lines_of c.first_line.result.1.now true) c.first_line.ensures.lines inv.5
-            ∙ ap (λ r. (c.lines.refused || r) || some_refused p now.state (c.lines.n + 1) (cut (lines_of c.first_line.result.1.now true))) (sym w.0),
+            ∙ ap (λ r. (c.lines.refused || r) || refused_from p now.state (c.lines.n + 1) (cut (lines_of c.first_line.result.1.now true))) (sym w.0),
         both_end inv.2 now.text inv.6 (step_ends p inv.0 c.lines.n _),
         omega (arith, inv.7, w.3, length-append inv.2 now.text),
       );

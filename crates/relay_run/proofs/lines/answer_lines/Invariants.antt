@@ -1,6 +1,6 @@
 use Rattle.std.proofs.Common.{◌≡◌, ◌≤◌, ◌+◌, ◌++◌, ◌||◌, true, ℕ, List, length}
 use Rattle.relay_io.specs.Streams.{appended}
-use Rattle.relay_model.specs.Machine.{State, output, some_refused}
+use Rattle.relay_model.specs.Machine.{State, output_from, refused_from}
 use Rattle.relay_model.specs.Script.{lines_of, cut}
 use Rattle.relay_run.specs.Answers.{EndsLine}
 use Rattle.relay_run.specs.Output.{written, has_refusal}
@@ -12,8 +12,8 @@ abbrev pub invariant-lines : goal.invariant-lines
 invariant-lines g l = record {
   so_far : (s : State) × StandsFor l.engine (project_shown l.fn.project) s
       × (added : List ℕ) × (g.K.Sink.held l.out ≡ appended (g.K.Sink.held l.fn.out) added)
-      × (written (project_shown l.fn.project) l.script true ≡ added ++ output (project_shown l.fn.project) s l.n (cut (lines_of l.rest true)))
-      × (has_refusal (project_shown l.fn.project) l.script ≡ (l.refused || some_refused (project_shown l.fn.project) s l.n (cut (lines_of l.rest true))))
+      × (written (project_shown l.fn.project) l.fn.buffer l.script true ≡ added ++ output_from (project_shown l.fn.project) s l.n (cut (lines_of l.rest true)))
+      × (has_refusal (project_shown l.fn.project) l.fn.buffer l.script ≡ (l.refused || refused_from (project_shown l.fn.project) s l.n (cut (lines_of l.rest true))))
       × EndsLine added × (g.K.Sink.calls l.out ≤ g.K.Sink.calls l.fn.out + length added);
   numbered : l.n + length l.rest ≤ length l.script + 1;
   later : g.K.Sink.faults l.fn.out ≤ g.K.Sink.faults l.out;

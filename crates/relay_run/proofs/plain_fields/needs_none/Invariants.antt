@@ -1,6 +1,0 @@
-use Rattle.std.proofs.Common.{◌≡◌, drop}
-use Rattle.relay_run.proofs.plain_fields.needs_none.Given as goal
-use Rattle.relay_run.specs.PlainParts.{none_is_needed}
-
-abbrev pub invariant-arguments : goal.invariant-arguments
-invariant-arguments l = none_is_needed l.argument-items ≡ none_is_needed (drop l.argument-index l.argument-items)

@@ -1,5 +1,0 @@
-use Rattle.relay_run.proofs.Saying.{said-allowed}
-use Rattle.relay_run.proofs.said.Said.allow.Goals as goal
-
-pub returns : goal.returns
-returns c = said-allowed c.args.self.now.plain c.args.plain _

@@ -1,0 +1,8 @@
+-- What the words ask for, as the definitions see it.
+use Rattle.std.specs.Prelude.{map}
+use Rattle.relay_run.specs.Words as forms
+use Rattle.relay_run.specs.declared.words.Form.{Form}
+use Rattle.relay_run.specs.declared.words.Form.TheVariants.{Run}
+
+abbrev pub form_shown : Form → forms.Form
+form_shown (Run buffer schema documents) = forms.run buffer schema.now (map (λ w. w.now) documents.now)

@@ -1,0 +1,37 @@
+//! Refusing a project.
+ghost use Rattle.std.specs.Prelude.{◌≡◌, ◌⊎◌, ◌≤◌, ◌+◌, ◌++◌, [], ℕ, List, length};
+ghost use Rattle.relay_io.specs.Causes.{Rose};
+ghost use Rattle.relay_io.specs.Streams.{appended};
+ghost use Rattle.relay_model.specs.Printed.{project_fault};
+ghost use Rattle.relay_run.specs.Answers.{EndsLine};
+
+use crate::printed::fault_line;
+use crate::put::put_all;
+use crate::status::Status;
+use relay_io::Sink;
+use std::alloc::Global;
+
+/// Puts the line of a project that is refused: the file at fault with the line and the column, and
+/// the rule.
+pub fn refuse<K: Sink>(
+    alloc: Global,
+    file: &str,
+    line: u32,
+    column: u32,
+    rule: &str,
+    out: &mut K,
+) -> Status
+    ensures added { (added : List ℕ) × (K.held out.new ≡ appended (K.held out.old) added)
+        × (K.calls out.new ≤ K.calls out.old + length added + 1)
+        × ((result ≡ Status.WriteFault) ⊎ EndsLine added)
+        × (more : List ℕ) × (added ++ more ≡ project_fault file.now line column rule.now) × (result ≡ Status.ProjectRefused → more ≡ []) }
+    ensures form { (result ≡ Status.ProjectRefused) ⊎ (((result ≡ Status.WriteFault) × Rose (K.faults out.old) (K.faults out.new)) ⊎ (result ≡ Status.NoMemory)) }
+{
+    let Ok(text) = fault_line(alloc, file, line, column, rule) else {
+        return Status::NoMemory;
+    };
+    let Ok(()) = put_all(out, text.as_str().as_bytes()) else {
+        return Status::WriteFault;
+    };
+    Status::ProjectRefused
+}
