@@ -1,0 +1,56 @@
+#!/bin/bash
+# Writes the picture of the crates between the two marks of MAP.md, from crates.txt: a line a level,
+# lowest last, and of each crate those that it stands on, but for those that follow from the others.
+# With --check nothing is written, and the status is 1 where the picture is not that of crates.txt.
+set -eu
+cd "$(dirname "$0")"
+exec python3 - "$@" <<'END'
+import sys
+
+BEGIN, END = "<!-- picture: made by docs/map.sh -->\n", "<!-- end of the picture -->\n"
+
+def crates_of(path):
+    """The crates of crates.txt, each with those of the repository that it names."""
+    lines = [line.split("#")[0] for line in open(path, encoding="utf-8")]
+    told = [line.split(":") for line in lines if ":" in line]
+    found = {head.split()[0]: tail.split() for head, tail in told}
+    return {crate: {dep for dep in deps if dep in found} for crate, deps in found.items()}
+
+def all_below(crates, crate):
+    """All that a crate stands on, through others too."""
+    return set().union(*({dep} | all_below(crates, dep) for dep in crates[crate]))
+
+def direct(crates, crate):
+    """What a crate stands on, but for what one of them stands on."""
+    deps = crates[crate]
+    return {dep for dep in deps if not any(dep in all_below(crates, other) for other in deps)}
+
+def level(crates, crate):
+    return max((level(crates, dep) + 1 for dep in crates[crate]), default=0)
+
+def line_of(crates, number):
+    """The crates of a level, those together that stand on the same ones."""
+    groups = {}
+    for crate in sorted(it for it in crates if level(crates, it) == number):
+        groups.setdefault(tuple(sorted(direct(crates, crate))), []).append(crate)
+    told = [f"{', '.join(above)} -> {', '.join(below)}" if below else ", ".join(above) for below, above in groups.items()]
+    return f"{number}  {' | '.join(told)}\n"
+
+def picture(crates):
+    levels = range(max(level(crates, it) for it in crates), -1, -1)
+    return f"```\n{''.join(line_of(crates, number) for number in levels)}```\n"
+
+if sys.argv[1:] not in ([], ["--check"]):
+    sys.exit("usage: docs/map.sh [--check]")
+text = open("MAP.md", encoding="utf-8").read()
+before, _, rest = text.partition(BEGIN)
+_, mark, after = rest.partition(END)
+if not mark:
+    sys.exit("docs/MAP.md has not the two marks of the picture")
+made = f"{before}{BEGIN}{picture(crates_of('../crates.txt'))}{END}{after}"
+if sys.argv[1:] == ["--check"]:
+    if made != text:
+        sys.exit("the picture in docs/MAP.md is not that of crates.txt: run docs/map.sh")
+else:
+    open("MAP.md", "w", encoding="utf-8").write(made)
+END
