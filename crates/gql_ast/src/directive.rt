@@ -1,6 +1,7 @@
 //! Directives that are applied (GraphQL, October 2021, section 2.12).
 ghost use Rattle.std.specs.Prelude.{◌≡◌, [], ◌∷◌, ◌++◌, length, IfOk, OnOk, OnErr, IsTrue, ◌↔◌};
 
+use crate::lists::push;
 use crate::value::Arguments;
 use gql_plain::{Name, NoMemory};
 use std::alloc::Global;
@@ -60,8 +61,7 @@ impl Directives {
         ensures ok { OnOk result (self.new ≡ self.old ++ directive ∷ []) }
         ensures err { OnErr result (self.new ≡ self.old) }
     {
-        self.items.push(directive)?;
-        Ok(())
+        push(&mut self.items, directive)
     }
 
     /// The directives in written order.
@@ -89,7 +89,7 @@ impl Directives {
     pub fn copy(&self) -> Result<Directives, NoMemory>
         ensures { IfOk result (λ directives. directives ≡ self.now) }
     {
-        let mut items = Vec::new(*self.items.allocator());
+        let mut items = Vec::with_capacity(*self.items.allocator(), self.items.len())?;
         'directives: for directive in &self.items {
             items.push(directive.copy()?)?;
         }

@@ -2,6 +2,7 @@
 ghost use Rattle.std.specs.Prelude.{◌≡◌, [], ◌∷◌, ◌++◌, length, IfOk, OnOk, OnErr, IsTrue, ◌↔◌};
 
 use crate::directive::Directives;
+use crate::lists::push;
 use crate::names::copy_of_name;
 use crate::place::Placed;
 use crate::selection::Selections;
@@ -119,8 +120,7 @@ impl Definitions {
         ensures ok { OnOk result (self.new ≡ self.old ++ definition ∷ []) }
         ensures err { OnErr result (self.new ≡ self.old) }
     {
-        self.items.push(definition)?;
-        Ok(())
+        push(&mut self.items, definition)
     }
 
     /// The definitions in order.
@@ -148,7 +148,7 @@ impl Definitions {
     pub fn copy(&self) -> Result<Definitions, NoMemory>
         ensures { IfOk result (λ definitions. definitions ≡ self.now) }
     {
-        let mut items = Vec::new(*self.items.allocator());
+        let mut items = Vec::with_capacity(*self.items.allocator(), self.items.len())?;
         'definitions: for definition in &self.items {
             items.push(definition.copy()?)?;
         }
@@ -221,8 +221,7 @@ impl Documents {
         ensures ok { OnOk result (self.new ≡ self.old ++ document ∷ []) }
         ensures err { OnErr result (self.new ≡ self.old) }
     {
-        self.items.push(document)?;
-        Ok(())
+        push(&mut self.items, document)
     }
 
     /// The documents in order.
@@ -250,7 +249,7 @@ impl Documents {
     pub fn copy(&self) -> Result<Documents, NoMemory>
         ensures { IfOk result (λ documents. documents ≡ self.now) }
     {
-        let mut items = Vec::new(*self.items.allocator());
+        let mut items = Vec::with_capacity(*self.items.allocator(), self.items.len())?;
         'documents: for document in &self.items {
             items.push(document.copy()?)?;
         }

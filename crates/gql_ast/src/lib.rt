@@ -9,6 +9,7 @@
 pub mod directive;
 pub mod document;
 pub mod fault;
+mod lists;
 pub mod location;
 pub mod member;
 pub mod names;

@@ -1,6 +1,7 @@
 //! Where a directive may stand (GraphQL, October 2021, section 3.13).
 ghost use Rattle.std.specs.Prelude.{◌≡◌, [], ◌∷◌, ◌++◌, length, IfOk, OnOk, OnErr, IsTrue, ◌↔◌};
 
+use crate::lists::push;
 use gql_plain::NoMemory;
 use std::alloc::Global;
 use std::marker::Model;
@@ -59,8 +60,7 @@ impl Locations {
         ensures ok { OnOk result (self.new ≡ self.old ++ location ∷ []) }
         ensures err { OnErr result (self.new ≡ self.old) }
     {
-        self.items.push(location)?;
-        Ok(())
+        push(&mut self.items, location)
     }
 
     /// The locations in order.
@@ -88,7 +88,7 @@ impl Locations {
     pub fn copy(&self) -> Result<Locations, NoMemory>
         ensures { IfOk result (λ locations. locations ≡ self.now) }
     {
-        let mut items = Vec::new(*self.items.allocator());
+        let mut items = Vec::with_capacity(*self.items.allocator(), self.items.len())?;
         'locations: for location in &self.items {
             items.push(*location)?;
         }

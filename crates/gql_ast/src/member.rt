@@ -3,6 +3,7 @@
 ghost use Rattle.std.specs.Prelude.{◌≡◌, [], ◌∷◌, ◌++◌, length, IfOk, OnOk, OnErr, IsTrue, ◌↔◌};
 
 use crate::directive::Directives;
+use crate::lists::push;
 use crate::type_tree::TypeTree;
 use crate::value::{ValueTree, copy_of_value};
 use gql_plain::{Name, NoMemory};
@@ -66,8 +67,7 @@ impl InputTrees {
         ensures ok { OnOk result (self.new ≡ self.old ++ input ∷ []) }
         ensures err { OnErr result (self.new ≡ self.old) }
     {
-        self.items.push(input)?;
-        Ok(())
+        push(&mut self.items, input)
     }
 
     /// The inputs in order.
@@ -95,7 +95,7 @@ impl InputTrees {
     pub fn copy(&self) -> Result<InputTrees, NoMemory>
         ensures { IfOk result (λ inputs. inputs ≡ self.now) }
     {
-        let mut items = Vec::new(*self.items.allocator());
+        let mut items = Vec::with_capacity(*self.items.allocator(), self.items.len())?;
         'inputs: for input in &self.items {
             items.push(input.copy()?)?;
         }
@@ -160,8 +160,7 @@ impl FieldTrees {
         ensures ok { OnOk result (self.new ≡ self.old ++ field ∷ []) }
         ensures err { OnErr result (self.new ≡ self.old) }
     {
-        self.items.push(field)?;
-        Ok(())
+        push(&mut self.items, field)
     }
 
     /// The fields in order.
@@ -189,7 +188,7 @@ impl FieldTrees {
     pub fn copy(&self) -> Result<FieldTrees, NoMemory>
         ensures { IfOk result (λ fields. fields ≡ self.now) }
     {
-        let mut items = Vec::new(*self.items.allocator());
+        let mut items = Vec::with_capacity(*self.items.allocator(), self.items.len())?;
         'fields: for field in &self.items {
             items.push(field.copy()?)?;
         }
@@ -250,8 +249,7 @@ impl EnumValues {
         ensures ok { OnOk result (self.new ≡ self.old ++ value ∷ []) }
         ensures err { OnErr result (self.new ≡ self.old) }
     {
-        self.items.push(value)?;
-        Ok(())
+        push(&mut self.items, value)
     }
 
     /// The values in order.
@@ -279,7 +277,7 @@ impl EnumValues {
     pub fn copy(&self) -> Result<EnumValues, NoMemory>
         ensures { IfOk result (λ values. values ≡ self.now) }
     {
-        let mut items = Vec::new(*self.items.allocator());
+        let mut items = Vec::with_capacity(*self.items.allocator(), self.items.len())?;
         'values: for value in &self.items {
             items.push(value.copy()?)?;
         }

@@ -1,6 +1,7 @@
 //! Lists of names.
 ghost use Rattle.std.specs.Prelude.{◌≡◌, [], ◌∷◌, ◌++◌, length, IfOk, OnOk, OnErr, IsTrue, ◌↔◌};
 
+use crate::lists::push;
 use gql_plain::{Name, NoMemory};
 use std::alloc::Global;
 use std::marker::Model;
@@ -34,8 +35,7 @@ impl Names {
         ensures ok { OnOk result (self.new ≡ self.old ++ name ∷ []) }
         ensures err { OnErr result (self.new ≡ self.old) }
     {
-        self.items.push(name)?;
-        Ok(())
+        push(&mut self.items, name)
     }
 
     /// The names in written order.
@@ -63,7 +63,7 @@ impl Names {
     pub fn copy(&self) -> Result<Names, NoMemory>
         ensures { IfOk result (λ names. names ≡ self.now) }
     {
-        let mut items = Vec::new(*self.items.allocator());
+        let mut items = Vec::with_capacity(*self.items.allocator(), self.items.len())?;
         'names: for name in &self.items {
             items.push(name.copy()?)?;
         }

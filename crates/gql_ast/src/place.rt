@@ -1,6 +1,7 @@
 //! Places in the files of a project.
 ghost use Rattle.std.specs.Prelude.{◌≡◌, [], ◌∷◌, ◌++◌, length, IfOk, OnOk, OnErr, IsTrue, ◌↔◌};
 
+use crate::lists::push;
 use gql_plain::NoMemory;
 use std::alloc::Global;
 use std::marker::Model;
@@ -43,8 +44,7 @@ impl FilePlaces {
         ensures ok { OnOk result (self.new ≡ self.old ++ place ∷ []) }
         ensures err { OnErr result (self.new ≡ self.old) }
     {
-        self.items.push(place)?;
-        Ok(())
+        push(&mut self.items, place)
     }
 
     /// The places in order.
@@ -72,7 +72,7 @@ impl FilePlaces {
     pub fn copy(&self) -> Result<FilePlaces, NoMemory>
         ensures { IfOk result (λ places. places ≡ self.now) }
     {
-        let mut items = Vec::new(*self.items.allocator());
+        let mut items = Vec::with_capacity(*self.items.allocator(), self.items.len())?;
         'places: for place in &self.items {
             items.push(*place)?;
         }

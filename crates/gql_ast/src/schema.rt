@@ -3,6 +3,7 @@ ghost use Rattle.std.specs.Prelude.{◌≡◌, [], ◌∷◌, ◌++◌, length, 
 
 use crate::directive::Directives;
 use crate::document::Kind;
+use crate::lists::push;
 use crate::location::Locations;
 use crate::member::{EnumValues, FieldTrees, InputTrees};
 use crate::names::Names;
@@ -64,8 +65,7 @@ impl Roots {
         ensures ok { OnOk result (self.new ≡ self.old ++ root ∷ []) }
         ensures err { OnErr result (self.new ≡ self.old) }
     {
-        self.items.push(root)?;
-        Ok(())
+        push(&mut self.items, root)
     }
 
     /// The roots in order.
@@ -93,7 +93,7 @@ impl Roots {
     pub fn copy(&self) -> Result<Roots, NoMemory>
         ensures { IfOk result (λ roots. roots ≡ self.now) }
     {
-        let mut items = Vec::new(*self.items.allocator());
+        let mut items = Vec::with_capacity(*self.items.allocator(), self.items.len())?;
         'roots: for root in &self.items {
             items.push(root.copy()?)?;
         }
@@ -267,8 +267,7 @@ impl SchemaDefs {
         ensures ok { OnOk result (self.new ≡ self.old ++ definition ∷ []) }
         ensures err { OnErr result (self.new ≡ self.old) }
     {
-        self.items.push(definition)?;
-        Ok(())
+        push(&mut self.items, definition)
     }
 
     /// The definitions in order.
@@ -296,7 +295,7 @@ impl SchemaDefs {
     pub fn copy(&self) -> Result<SchemaDefs, NoMemory>
         ensures { IfOk result (λ definitions. definitions ≡ self.now) }
     {
-        let mut items = Vec::new(*self.items.allocator());
+        let mut items = Vec::with_capacity(*self.items.allocator(), self.items.len())?;
         'definitions: for definition in &self.items {
             items.push(definition.copy()?)?;
         }

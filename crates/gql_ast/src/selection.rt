@@ -4,6 +4,7 @@ ghost use Rattle.gql_ast.specs.Sels.{end, followed, number_of};
 ghost use Rattle.gql_ast.specs.SelectionView.{sel_of, sels_of};
 
 use crate::directive::Directives;
+use crate::lists::push;
 use crate::names::copy_of_name;
 use crate::value::Arguments;
 use gql_plain::{Name, NoMemory};
@@ -76,8 +77,7 @@ impl Selections {
         ensures ok { OnOk result (self.new ≡ followed self.old (sel_of selection)) }
         ensures err { OnErr result (self.new ≡ self.old) }
     {
-        self.items.push(selection)?;
-        Ok(())
+        push(&mut self.items, selection)
     }
 
     /// The selections in written order.
@@ -106,7 +106,7 @@ impl Selections {
     pub fn copy(&self) -> Result<Selections, NoMemory>
         ensures { IfOk result (λ selections. selections ≡ self.now) }
     {
-        let mut items = Vec::new(*self.items.allocator());
+        let mut items = Vec::with_capacity(*self.items.allocator(), self.items.len())?;
         'selections: for selection in &self.items {
             items.push(selection.copy()?)?;
         }

@@ -2,6 +2,7 @@
 ghost use Rattle.std.specs.Prelude.{◌≡◌, [], ◌∷◌, ◌++◌, map, length, IfOk, OnOk, OnErr, IsTrue, ◌↔◌};
 ghost use Rattle.gql_ast.specs.ValueView.{value_of, argument_of};
 
+use crate::lists::push;
 use gql_plain::{Name, NoMemory, Words};
 use std::alloc::Global;
 use std::marker::Model;
@@ -99,8 +100,7 @@ impl ValueTrees {
         ensures ok { OnOk result (self.new ≡ self.old ++ value_of value ∷ []) }
         ensures err { OnErr result (self.new ≡ self.old) }
     {
-        self.items.push(value)?;
-        Ok(())
+        push(&mut self.items, value)
     }
 
     /// The values in written order.
@@ -129,7 +129,7 @@ impl ValueTrees {
     pub fn copy(&self) -> Result<ValueTrees, NoMemory>
         ensures { IfOk result (λ values. values ≡ self.now) }
     {
-        let mut items = Vec::new(*self.items.allocator());
+        let mut items = Vec::with_capacity(*self.items.allocator(), self.items.len())?;
         'values: for value in &self.items {
             items.push(value.copy()?)?;
         }
@@ -184,8 +184,7 @@ impl Arguments {
         ensures ok { OnOk result (self.new ≡ self.old ++ argument_of argument ∷ []) }
         ensures err { OnErr result (self.new ≡ self.old) }
     {
-        self.items.push(argument)?;
-        Ok(())
+        push(&mut self.items, argument)
     }
 
     /// The arguments in written order.
@@ -214,7 +213,7 @@ impl Arguments {
     pub fn copy(&self) -> Result<Arguments, NoMemory>
         ensures { IfOk result (λ arguments. arguments ≡ self.now) }
     {
-        let mut items = Vec::new(*self.items.allocator());
+        let mut items = Vec::with_capacity(*self.items.allocator(), self.items.len())?;
         'arguments: for argument in &self.items {
             items.push(argument.copy()?)?;
         }

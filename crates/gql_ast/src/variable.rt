@@ -2,6 +2,7 @@
 ghost use Rattle.std.specs.Prelude.{◌≡◌, [], ◌∷◌, ◌++◌, length, IfOk, OnOk, OnErr, IsTrue, ◌↔◌};
 
 use crate::directive::Directives;
+use crate::lists::push;
 use crate::type_tree::TypeTree;
 use crate::value::{ValueTree, copy_of_value};
 use gql_plain::{Name, NoMemory};
@@ -66,8 +67,7 @@ impl VariableDefs {
         ensures ok { OnOk result (self.new ≡ self.old ++ variable ∷ []) }
         ensures err { OnErr result (self.new ≡ self.old) }
     {
-        self.items.push(variable)?;
-        Ok(())
+        push(&mut self.items, variable)
     }
 
     /// The variables in order.
@@ -95,7 +95,7 @@ impl VariableDefs {
     pub fn copy(&self) -> Result<VariableDefs, NoMemory>
         ensures { IfOk result (λ variables. variables ≡ self.now) }
     {
-        let mut items = Vec::new(*self.items.allocator());
+        let mut items = Vec::with_capacity(*self.items.allocator(), self.items.len())?;
         'variables: for variable in &self.items {
             items.push(variable.copy()?)?;
         }

@@ -13,6 +13,7 @@ use Rattle.gql_plain.specs.Names.{is_within, is_name_start, is_name_byte}
 use Rattle.gql_lex.specs.Numbers.{sign_len, digits_len, int_len, is_in_i64}
 use Rattle.gql_lex.specs.Strings.{further, and_then, escape_len, text_end, block_end}
 use Rattle.gql_lex.specs.Heads.{comment, int_before, number, string, string_head, head, IsSoundAt}
+use Rattle.gql_lex.proofs.Fronts.{head_by}
 
 -- a byte that is not 0 stands within the text
 pub stands_within : (bs : List ℕ) (i : ℕ) → 0 < get_or bs i 0 → i < length bs
@@ -223,19 +224,18 @@ spread_within bs e =
     (stands_within bs 2 (omega (arith, q)), omega (arith, r), omega (arith, q))
 
 head-sound : (bs : List ℕ) → 0 < length bs → IsSound bs (head bs)
-unfolding head
 head-sound [] h = absurd (omega arith)
 head-sound (c ∷ cs) h =
-    cond_both (is_ignored c) _ _ (IsSound (c ∷ cs)) (λ _. h)
-    (λ _. cond_both (is_mark (c ∷ cs)) _ _ (IsSound (c ∷ cs)) (λ e. mark_within (c ∷ cs) e)
-    (λ _. cond_both (eqb c 35) _ _ (IsSound (c ∷ cs)) (λ _. comment-sound c cs)
-    (λ _. cond_both (is_punctuator c) _ _ (IsSound (c ∷ cs)) (λ e. (h, punctuator_below c e, punctuator_below c e))
-    (λ _. cond_both (is_spread (c ∷ cs)) _ _ (IsSound (c ∷ cs)) (λ e. spread_within (c ∷ cs) e)
-    (λ _. cond_both (is_name_start c) _ _ (IsSound (c ∷ cs))
+    head_by (IsSound (c ∷ cs)) (c ∷ cs)
+    (λ _. h)
+    (λ e. mark_within (c ∷ cs) e)
+    (λ _. comment-sound c cs)
+    (λ e. (h, punctuator_below c e, punctuator_below c e))
+    (λ e. spread_within (c ∷ cs) e)
     (λ e. (omega (arith, prefix_len-le-length is_name_byte cs), name_start_below c e, run_below is_name_byte name_byte_below c cs (name_start_below c e) (prefix_len is_name_byte cs) (omega arith)))
-    (λ _. cond_both (is_number_start c) _ _ (IsSound (c ∷ cs)) (λ e. number-sound (c ∷ cs) h (number_start_below c e))
-    (λ _. cond_both (eqb c 34) _ _ (IsSound (c ∷ cs)) (λ e. string-sound c cs (same_below c 34 (lit< tt) e))
-    (λ _. (h, inl refl)))))))))
+    (λ e. number-sound (c ∷ cs) h (number_start_below c e))
+    (λ e. string-sound c cs (omega (arith, e)))
+    (h, inl refl)
 
 moved : (bs : List ℕ) (at : ℕ) → at < length bs → (h : Head) → IsSound (drop at bs) h → IsSoundAt bs at h
 moved bs at l (Ignored n) h = omega (arith, h, length-drop at bs)

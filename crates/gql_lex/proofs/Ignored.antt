@@ -16,7 +16,7 @@ use Rattle.gql_lex.specs.Heads.{comment, int_before, number, string, string_head
 use Rattle.gql_lex.specs.Sources.{Source, ended, lexed, read, read_head}
 use Rattle.gql_lex.specs.Descriptions.{IsIgnored}
 use Rattle.gql_lex.proofs.Reading.{lexed_ignored}
-use Rattle.gql_lex.proofs.StringKinds.{chosen}
+use Rattle.gql_lex.proofs.Fronts.{chosen}
 use Rattle.gql_lex.proofs.Whole.{step_same, step_kept, three_shorter}
 
 -- ---- the offset does not matter

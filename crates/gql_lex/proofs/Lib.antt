@@ -1,10 +1,12 @@
 pub mod Blocks
 pub mod Breaks
+pub mod Counting
 pub mod Digits
 pub mod Ends
 pub mod Escapes
 mod Examples
 pub mod Extents
+pub mod Fronts
 pub mod Gaps
 pub mod Ignored
 pub mod IgnoredForms

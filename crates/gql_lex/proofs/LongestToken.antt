@@ -1,5 +1,5 @@
 -- What is found in front of bytes has the form of its kind, and nothing longer there has the form of a token.
-use Rattle.std.proofs.Common.{◌≡◌, ◌<◌, ◌≤◌, ℕ, zero, suc, ◌+◌, ◌-◌, ◌⊎◌, Bool, true, false, cond, eqb, ◌&&◌, List, [], ◌∷◌, ◌++◌, length, get_or, take, drop, Result, Ok, Err, refl, sym, ap, ◌∙◌, subst, arith, inl, inr, ⊎_elim, true≢false}
+use Rattle.std.proofs.Common.{◌≡◌, ◌<◌, ◌≤◌, ℕ, zero, suc, ◌+◌, ◌-◌, ◌⊎◌, Bool, true, false, cond, eqb, ◌&&◌, List, [], ◌∷◌, ◌++◌, length, get_or, take, drop, Result, Ok, Err, refl, sym, ap, ◌∙◌, subst, arith, lit<, inl, inr, ⊎_elim, true≢false}
 use Rattle.std.specs.List.{prefix_len, list_all}
 use Rattle.std.proofs.lemmas.Bool.{and_parts, eqb-true}
 use Rattle.std.proofs.lemmas.Bool.Decides.{nat_tests}
@@ -13,9 +13,10 @@ use Rattle.gql_lex.specs.Heads.{number, string, string_head, head}
 use Rattle.gql_lex.specs.Lexemes.{is_whole, is_int, Part, character, escape, unicode, AreParts, parts_then, BlockPart, block_then, AreBlockParts, IsLexeme, LongestToken}
 use Rattle.gql_lex.specs.Numbers.{sign_len, digits_len, int_len}
 use Rattle.gql_lex.specs.Strings.{text_end, block_end}
-use Rattle.gql_lex.proofs.StringKinds.{chosen, past, no_comment, number_kind, wrong_found, text_begins, block_begins, string_text, string_block}
+use Rattle.gql_lex.proofs.Fronts.{chosen, begins, found_len, number_kind, three_bytes}
+use Rattle.gql_lex.proofs.StringKinds.{string_text, string_block}
 use Rattle.gql_lex.proofs.StringParts.{parts_then-append, text_ends, text_parts, block_then-append, block_ends, block_parts}
-use Rattle.gql_lex.proofs.TokenTexts.{int_head, number_found}
+use Rattle.gql_lex.proofs.TokenTexts.{number_found}
 
 -- ---- fronts of lists
 
@@ -75,57 +76,8 @@ head_spread rest = refl
 
 -- ---- each kind, by what is found
 
-found_len : (k kind : TokenKind) (m n : ℕ) → Found k m ≡ Found kind n → m ≡ n
-found_len k kind m n e = cc
-
-string_no : (cs : List ℕ) (kind : TokenKind) (n : ℕ) → ¬ (Text ≡ kind) → ¬ (Block ≡ kind) → ¬ (string cs ≡ Found kind n)
-unfolding string
-string_no cs kind n t b e =
-    ⊎_elim (λ w. kind_no Block 2 (block_end 0 (drop 2 cs)) b w.1) (λ w. kind_no Text 0 (text_end 0 cs) t w.1) (chosen (is_two_quotes cs) _ _ _ e)
-  where
-    kind_no : (k : TokenKind) (more : ℕ) (r : Result ℕ ℕ) → ¬ (k ≡ kind) → ¬ (string_head k more r ≡ Found kind n)
-    kind_no k more (Ok m) d f = d (let g : k ≡ kind = cc in g)
-    kind_no k more (Err code) d f = cc
-
-punct_at : (bs : List ℕ) (n : ℕ) → head bs ≡ Found Punct n → ((is_punctuator (get_or bs 0 0) ≡ true) × (0 ≡ n)) ⊎ ((is_spread bs ≡ true) × (2 ≡ n))
-unfolding head
-punct_at bs n e =
-    let a = past (is_ignored (get_or bs 0 0)) _ _ _ (λ x. cc) e in
-    let b = past (is_mark bs) _ _ _ (λ x. cc) a in
-    let c = past (eqb (get_or bs 0 0) 35) _ _ _ (no_comment (drop 1 bs) Punct n) b in
-    ⊎_elim (λ w. inl (w.0, found_len Punct Punct 0 n w.1)) (λ w. ⊎_elim (λ v. inr (v.0, found_len Punct Punct 2 n v.1)) (λ v.
-    let g = past (is_name_start (get_or bs 0 0)) _ _ _ (λ x. cc) v.1 in
-    let h = past (is_number_start (get_or bs 0 0)) _ _ _ (λ x. absurd (let y = number_kind bs Punct n x in cc)) g in
-    let i = past (eqb (get_or bs 0 0) 34) _ _ _ (string_no (drop 1 bs) Punct n (λ x. cc) (λ x. cc)) h in
-    absurd (wrong_found Punct n i))
-    (chosen (is_spread bs) _ _ _ w.1))
-    (chosen (is_punctuator (get_or bs 0 0)) _ _ _ c)
-
-name_at : (bs : List ℕ) (n : ℕ) → head bs ≡ Found Name n → (is_name_start (get_or bs 0 0) ≡ true) × (prefix_len is_name_byte (drop 1 bs) ≡ n)
-unfolding head
-name_at bs n e =
-    let a = past (is_ignored (get_or bs 0 0)) _ _ _ (λ x. cc) e in
-    let b = past (is_mark bs) _ _ _ (λ x. cc) a in
-    let c = past (eqb (get_or bs 0 0) 35) _ _ _ (no_comment (drop 1 bs) Name n) b in
-    let d = past (is_punctuator (get_or bs 0 0)) _ _ _ (λ x. cc) c in
-    let f = past (is_spread bs) _ _ _ (λ x. cc) d in
-    ⊎_elim (λ w. (w.0, found_len Name Name (prefix_len is_name_byte (drop 1 bs)) n w.1)) (λ w.
-    let h = past (is_number_start (get_or bs 0 0)) _ _ _ (λ x. absurd (let y = number_kind bs Name n x in cc)) w.1 in
-    let i = past (eqb (get_or bs 0 0) 34) _ _ _ (string_no (drop 1 bs) Name n (λ x. cc) (λ x. cc)) h in
-    absurd (wrong_found Name n i))
-    (chosen (is_name_start (get_or bs 0 0)) _ _ _ f)
-
-spread_is : (bs : List ℕ) → is_spread bs ≡ true → (rest : List ℕ) × (bs ≡ 46 ∷ 46 ∷ 46 ∷ rest)
-spread_is [] e = absurd (true≢false (sym e))
-spread_is (a ∷ []) e = absurd (true≢false (sym (and_parts (eqb a 46 && eqb 0 46) (eqb 0 46) e).1))
-spread_is (a ∷ b ∷ []) e = absurd (true≢false (sym (and_parts (eqb a 46 && eqb b 46) (eqb 0 46) e).1))
-spread_is (a ∷ b ∷ c ∷ rest) e =
-    let p = and_parts (eqb a 46 && eqb b 46) (eqb c 46) e in
-    let q = and_parts (eqb a 46) (eqb b 46) p.0 in
-    (rest, λ i. eqb-true a 46 q.0 i ∷ eqb-true b 46 q.1 i ∷ eqb-true c 46 p.1 i ∷ rest)
-
 punct_form : (bs : List ℕ) (n : ℕ) → head bs ≡ Found Punct n → IsLexeme Punct (take (n + 1) bs)
-punct_form bs n e = ⊎_elim (λ w. one bs w.0 w.1) (λ w. three w.0 w.1) (punct_at bs n e)
+punct_form bs n e = ⊎_elim (λ w. one bs w.0 w.1) (λ w. three w.0 w.1) (begins bs Punct n e)
   where
     one : (xs : List ℕ) → is_punctuator (get_or xs 0 0) ≡ true → 0 ≡ n → IsLexeme Punct (take (n + 1) xs)
     one [] p z = absurd (true≢false (sym p))
@@ -133,13 +85,13 @@ punct_form bs n e = ⊎_elim (λ w. one bs w.0 w.1) (λ w. three w.0 w.1) (punct
 
     three : is_spread bs ≡ true → 2 ≡ n → IsLexeme Punct (take (n + 1) bs)
     three s z =
-        let q = spread_is bs s in
+        let q = three_bytes 46 46 46 bs (lit< tt) s in
         subst (λ k. IsLexeme Punct (take (k + 1) bs)) z (inr (ap (take 3) q.1))
 
 name_form : (bs : List ℕ) (n : ℕ) → head bs ≡ Found Name n → IsLexeme Name (take (n + 1) bs)
-name_form [] n e = absurd (true≢false (sym (name_at [] n e).0))
+name_form [] n e = absurd (true≢false (sym (begins [] Name n e).0))
 name_form (c ∷ cs) n e =
-    let p = name_at (c ∷ cs) n e in
+    let p = begins (c ∷ cs) Name n e in
     let all : list_all is_name_byte (take n cs) ≡ true = subst (λ k. list_all is_name_byte (take k cs) ≡ true) p.1 (run_passes is_name_byte cs) in
     rw (take_one_more n c cs, p.0) all
 
@@ -173,7 +125,7 @@ int_form_of (c ∷ cs) z = at (eqb c 45) refl z
 
 int_form : (bs : List ℕ) (n : ℕ) → head bs ≡ Found Int n → IsLexeme Int (take (n + 1) bs)
 int_form bs n e =
-    let f = number_found bs n (int_head bs n e) in
+    let f = number_found bs n (begins bs Int n e) in
     let w = int_form_of bs f.0 in
     let same : take (n + 1) bs ≡ take (int_len bs) bs = taken (int_len bs) f.1.0 (some (int_len bs) (omega (arith, f.0)) w) in
     rw same w
@@ -193,9 +145,9 @@ int_form bs n e =
 -- ---- strings
 
 text_form : (bs : List ℕ) (n : ℕ) → head bs ≡ Found Text n → IsLexeme Text (take (n + 1) bs)
-text_form [] n e = absurd (let z : 0 ≡ 34 = (text_begins [] n e).0 in omega (arith, z))
+text_form [] n e = absurd (let z : 0 ≡ 34 = (begins [] Text n e).0 in omega (arith, z))
 text_form (c ∷ cs) n e =
-    let p = text_begins (c ∷ cs) n e in
+    let p = begins (c ∷ cs) Text n e in
     let q = text_parts cs n (string_text cs n p.1).1 in
     let front : take n cs ≡ parts_then q.0 [] = (λ i. take (q.2.2 i) ((q.2.1 ∙ parts_then-append q.0 q.2.0) i)) ∙ take_front (parts_then q.0 []) q.2.0 in
     (q.0, q.1, take_one_more n c cs ∙ (λ i. p.0 i ∷ front i))
@@ -206,9 +158,9 @@ block_rest (a ∷ []) e = absurd (true≢false (sym (and_parts (eqb a 34) (eqb 0
 block_rest (a ∷ b ∷ ds) e = let p = and_parts (eqb a 34) (eqb b 34) e in (ds, λ i. eqb-true a 34 p.0 i ∷ eqb-true b 34 p.1 i ∷ ds)
 
 block_form : (bs : List ℕ) (n : ℕ) → head bs ≡ Found Block n → IsLexeme Block (take (n + 1) bs)
-block_form [] n e = absurd (let z : 0 ≡ 34 = (block_begins [] n e).0 in omega (arith, z))
+block_form [] n e = absurd (let z : 0 ≡ 34 = (begins [] Block n e).0 in omega (arith, z))
 block_form (c ∷ cs) n e =
-    let p = block_begins (c ∷ cs) n e in
+    let p = begins (c ∷ cs) Block n e in
     let s = string_block cs n p.1 in
     let r = block_rest cs s.0 in
     let at : block_end 0 r.0 ≡ Ok s.1.0 = subst (λ xs. block_end 0 (drop 2 xs) ≡ Ok s.1.0) r.1 s.1.1 in
@@ -257,8 +209,8 @@ whole_longest (c ∷ cs) rest w = at (eqb c 48) refl w
 
 number_len : (bs : List ℕ) (kind : TokenKind) (n k : ℕ) → number bs ≡ Found kind n → k ≤ int_len bs → k ≤ length bs → 0 < k → k ≤ n + 1
 number_len bs kind n k e i l z =
-    let int : kind ≡ Int = number_kind bs kind n e in
-    let f = number_found bs n (subst (λ x. number bs ≡ Found x n) int e) in
+    let int : Int ≡ kind = number_kind bs kind n e in
+    let f = number_found bs n (subst (λ x. number bs ≡ Found x n) (sym int) e) in
     omega (arith, f.1.0, length-take (int_len bs) bs)
 
 int_longest : (text rest : List ℕ) (kind : TokenKind) (n : ℕ) → IsLexeme Int text → head (text ++ rest) ≡ Found kind n → length text ≤ n + 1

@@ -7,7 +7,7 @@ use Rattle.std.proofs.lemmas.List.{drop_more, take_more, map-append, length-map,
 use Rattle.std.proofs.lemmas.List.Sums.{prefix_len-le-length, prefix_len_passes, suffix_len-take_yes, suffix_len-take_no}
 use Rattle.std.proofs.lemmas.Str.{IsCharBoundary-after_ascii}
 use Rattle.gql_lex.specs.Lines.{texts, lines, onto_first, ends_line}
-use Rattle.gql_lex.specs.Values.{is_indent, indent, is_blank_line, least, least_indent, common_indent, unindented, joined, without_blank_start, without_blank_end}
+use Rattle.gql_lex.specs.Values.{is_indent, indent, is_blank_line, least, least_indent, common_indent, unindent, join_lines, without_blank_start, without_blank_end}
 use Rattle.gql_lex.proofs.Extents.{or_below, same_below}
 
 indent_below : (c : ℕ) → is_indent c ≡ true → c < 128
@@ -94,7 +94,7 @@ at_most_itself None = tt
 at_most_itself (Some m) = omega arith
 
 pub unindented_is : (ls : List (Bor (List ℕ))) → 0 < length ls
-    → texts (take 1 ls) ++ cut_lines (common_indent (texts (drop 1 ls))) (texts (drop 1 ls)) ≡ unindented (texts ls)
+    → texts (take 1 ls) ++ cut_lines (common_indent (texts (drop 1 ls))) (texts (drop 1 ls)) ≡ unindent (texts ls)
 unindented_is [] l = absurd (omega arith)
 unindented_is (x ∷ xs) l = ap (λ ms. x.now ∷ ms) (cut_same (texts xs) (common_indent (texts xs)) (at_most_itself (least_indent (texts xs))))
 
@@ -127,20 +127,20 @@ filled_stop ls n d p l b w =
 
 -- ---- lines joined
 
-pub joined_push : (ls : List (List ℕ)) (l : List ℕ) → joined (ls ++ l ∷ []) ≡ cond (eqb (length ls) 0) (joined ls ++ l) (joined ls ++ 10 ∷ l)
-joined_push [] l = refl
-joined_push (m ∷ []) l = refl
-joined_push (m ∷ n ∷ ns) l =
+pub join_push : (ls : List (List ℕ)) (l : List ℕ) → join_lines (ls ++ l ∷ []) ≡ cond (eqb (length ls) 0) (join_lines ls ++ l) (join_lines ls ++ 10 ∷ l)
+join_push [] l = refl
+join_push (m ∷ []) l = refl
+join_push (m ∷ n ∷ ns) l =
     let e : eqb (suc (length ns)) 0 ≡ false = ne_eqb (suc (length ns)) 0 (λ q. absurd (omega (arith, q))) in
     let f : eqb (suc (suc (length ns))) 0 ≡ false = ne_eqb (suc (suc (length ns))) 0 (λ q. absurd (omega (arith, q))) in
-    let h : joined (n ∷ ns ++ l ∷ []) ≡ joined (n ∷ ns) ++ 10 ∷ l = rw e at (joined_push (n ∷ ns) l) in
-    rw f (ap (λ x. m ++ 10 ∷ x) h ∙ sym (append_assoc m (10 ∷ joined (n ∷ ns)) (10 ∷ l)))
+    let h : join_lines (n ∷ ns ++ l ∷ []) ≡ join_lines (n ∷ ns) ++ 10 ∷ l = rw e at (join_push (n ∷ ns) l) in
+    rw f (ap (λ x. m ++ 10 ∷ x) h ∙ sym (append_assoc m (10 ∷ join_lines (n ∷ ns)) (10 ∷ l)))
 
-pub joined_more : (ls : List (Bor (List ℕ))) (i : ℕ) (d : Bor (List ℕ)) (old new : List ℕ) → i < length ls → old ≡ joined (texts (take i ls))
-    → new ≡ cond (eqb i 0) (old ++ (get_or ls i d).now) (old ++ 10 ∷ (get_or ls i d).now) → new ≡ joined (texts (take (i + 1) ls))
-joined_more ls i d old new l o n =
+pub join_more : (ls : List (Bor (List ℕ))) (i : ℕ) (d : Bor (List ℕ)) (old new : List ℕ) → i < length ls → old ≡ join_lines (texts (take i ls))
+    → new ≡ cond (eqb i 0) (old ++ (get_or ls i d).now) (old ++ 10 ∷ (get_or ls i d).now) → new ≡ join_lines (texts (take (i + 1) ls))
+join_more ls i d old new l o n =
     let k : length (texts (take i ls)) ≡ i = length-map (take i ls) (λ (x : Bor (List ℕ)). x.now) ∙ length-take-le i ls (omega arith) in
-    let j = joined_push (texts (take i ls)) (get_or ls i d).now in
+    let j = join_push (texts (take i ls)) (get_or ls i d).now in
     rw (texts_taken ls i d l, j, k, ← o) n
 
 -- ---- lines without those at both ends that are blank

@@ -1,12 +1,12 @@
 -- Where a string ends, by the parts that stand between its quotes.
-use Rattle.std.proofs.Common.{◌≡◌, ◌<◌, ◌≤◌, ℕ, zero, suc, ◌+◌, ◌⊎◌, true, false, cond, eqb, ◌&&◌, List, [], ◌∷◌, ◌++◌, length, get_or, drop, Result, Ok, Err, refl, sym, ap, ◌∙◌, subst, arith, inl, inr, ⊎_elim, true≢false}
+use Rattle.std.proofs.Common.{◌≡◌, ◌<◌, ◌≤◌, ℕ, zero, suc, ◌+◌, ◌⊎◌, true, false, cond, eqb, ◌&&◌, List, [], ◌∷◌, ◌++◌, length, get_or, drop, Result, Ok, Err, refl, sym, ap, ◌∙◌, subst, arith, lit<, inl, inr, ⊎_elim, true≢false}
 use Rattle.std.proofs.lemmas.Bool.{and_parts, eqb-true, eqb-false}
 use Rattle.std.proofs.lemmas.List.{length-drop, get_or_append_left}
 use Rattle.gql_lex.specs.Characters.{may_stand, may_stand_in_block, is_three_quotes, is_escaped_quotes}
 use Rattle.gql_lex.specs.Lexemes.{Part, character, escape, unicode, IsPart, AreParts, part_then, parts_then, BlockPart, letter, quotes, block_then, AreBlockParts}
 use Rattle.gql_lex.specs.Strings.{further, and_then, escape_len, text_end, block_end, is_simple_escape, is_hex, is_four_hex, code_of_hex, is_surrogate}
 use Rattle.gql_lex.proofs.Skips.{text_quote, text_escape, text_plain, text_end-skip, block_quotes, block_escape, block_plain, block_end-skip}
-use Rattle.gql_lex.proofs.StringKinds.{chosen}
+use Rattle.gql_lex.proofs.Fronts.{chosen, three_bytes}
 
 pub ok_inj : (m n : ℕ) → ◌≡◌ {A = Result ℕ ℕ} (Ok m) (Ok n) → m ≡ n
 ok_inj m n e = cc
@@ -182,19 +182,10 @@ block_ends (quotes ∷ ps) rest all =
 abbrev pub BeginsBlock : List ℕ → ℕ → Type 0
 BeginsBlock bs n = (ps : List BlockPart) × AreBlockParts ps × ((rest : List ℕ) × (bs ≡ block_then ps rest) × (n ≡ length (block_then ps [])))
 
-three_are : (bs : List ℕ) → is_three_quotes bs ≡ true → (rest : List ℕ) × (bs ≡ 34 ∷ 34 ∷ 34 ∷ rest)
-three_are [] e = absurd (true≢false (sym e))
-three_are (a ∷ []) e = absurd (true≢false (sym (and_parts (eqb a 34 && eqb 0 34) (eqb 0 34) e).1))
-three_are (a ∷ b ∷ []) e = absurd (true≢false (sym (and_parts (eqb a 34 && eqb b 34) (eqb 0 34) e).1))
-three_are (a ∷ b ∷ c ∷ rest) e =
-    let p = and_parts (eqb a 34 && eqb b 34) (eqb c 34) e in
-    let q = and_parts (eqb a 34) (eqb b 34) p.0 in
-    (rest, λ i. eqb-true a 34 q.0 i ∷ eqb-true b 34 q.1 i ∷ eqb-true c 34 p.1 i ∷ rest)
-
 escaped_are : (c : ℕ) (cs : List ℕ) → is_escaped_quotes (c ∷ cs) ≡ true → (rest : List ℕ) × (c ∷ cs ≡ 92 ∷ 34 ∷ 34 ∷ 34 ∷ rest)
 escaped_are c cs e =
     let p = and_parts (eqb c 92) (is_three_quotes cs) e in
-    let q = three_are cs p.1 in
+    let q = three_bytes 34 34 34 cs (lit< tt) p.1 in
     (q.0, λ i. eqb-true c 92 p.0 i ∷ q.1 i)
 
 -- by what stands in front, where shorter bytes are known
@@ -203,7 +194,7 @@ block_first : (k c : ℕ) (cs : List ℕ) (n : ℕ) → length (c ∷ cs) ≤ su
 unfolding block_end
 block_first k c cs n l next e =
     ⊎_elim
-    (λ w. let q = three_are (c ∷ cs) w.0 in ([], tt, (q.0, q.1, sym (ok_inj 3 n w.1))))
+    (λ w. let q = three_bytes 34 34 34 (c ∷ cs) (lit< tt) w.0 in ([], tt, (q.0, q.1, sym (ok_inj 3 n w.1))))
     (λ w. ⊎_elim (λ v. escaped v.0 v.1) (λ v.
     ⊎_elim (λ u. plain w.0 v.0 u.0 u.1) (λ u. absurd (ok_not_err 4 n u.1)) (chosen (may_stand_in_block c) _ _ _ v.1))
     (chosen (is_escaped_quotes (c ∷ cs)) _ _ _ w.1))

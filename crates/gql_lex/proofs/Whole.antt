@@ -13,7 +13,7 @@ use Rattle.gql_lex.specs.Strings.{further, and_then, escape_len, text_end, block
 use Rattle.gql_lex.specs.Heads.{comment, int_before, number, string, string_head, head, IsToken}
 use Rattle.gql_lex.proofs.Extents.{stands_within, text_end-closes, block_end-closes, Closes, digits_some}
 use Rattle.gql_lex.proofs.Skips.{text_end-skip, block_end-skip}
-use Rattle.gql_lex.proofs.StringKinds.{chosen, no_comment}
+use Rattle.gql_lex.proofs.Fronts.{chosen, no_comment, wrong_found, ignored_found}
 use Rattle.gql_lex.proofs.Texts.{further_one, taken, not_unicode, is_simple, ok_from, unicode_is}
 
 -- ---- the same tests
@@ -178,9 +178,6 @@ block_local zero (c ∷ cs) (suc j) e =
     (step_kept (is_escaped_quotes (c ∷ cs)) (is_escaped_quotes (c ∷ take j cs)) _ _ _ _ (Ok (suc j)) (λ t x. block_on cs j (block_local 3 cs j) c t x) (λ f. escaped_shorter c cs j f)
     (step_same (may_stand_in_block c) _ _ (Err 4) (Err 4) (Ok (suc j)) (on_more (block_end 0 cs) (block_end 0 (take j cs)) j (block_local 0 cs j)) (λ x. x))) e
 
-wrong_found : (code : ℕ) (k : TokenKind) (n : ℕ) → ¬ (Wrong code 0 ≡ Found k n)
-wrong_found code k n e = cc
-
 head_ok : (kind : TokenKind) (more : ℕ) (r : Result ℕ ℕ) (k : TokenKind) (n : ℕ) → string_head kind more r ≡ Found k n → (m : ℕ) × (r ≡ Ok m) × (more + m ≡ n) × (kind ≡ k)
 head_ok kind more (Ok m) k n e = (m, refl, cc, cc)
 head_ok kind more (Err code) k n e = (0, cc, cc, cc)
@@ -255,7 +252,7 @@ digits_kept ds = digits_by ds (eqb (get_or ds 0 0) 48) refl
 int_found : (text rest : List ℕ) (k : TokenKind) (n : ℕ) → int_before text rest ≡ Found k n → (Found Int (length text - 1) ≡ Found k n) × (is_in_i64 text ≡ true)
 unfolding int_before
 int_found text rest k n e =
-    ⊎_elim (λ w. absurd (wrong_found 3 k n w.1)) (λ w. ⊎_elim (λ v. absurd (wrong_found 2 k n v.1)) (λ v. ⊎_elim (λ u. (u.1, u.0)) (λ u. absurd (wrong_found 2 k n u.1))
+    ⊎_elim (λ w. absurd (wrong_found 3 0 k n w.1)) (λ w. ⊎_elim (λ v. absurd (wrong_found 2 0 k n v.1)) (λ v. ⊎_elim (λ u. (u.1, u.0)) (λ u. absurd (wrong_found 2 0 k n u.1))
     (chosen (is_in_i64 text) _ _ _ v.1)) (chosen (is_name_byte (get_or rest 0 0)) _ _ _ w.1)) (chosen (is_float_mark (get_or rest 0 0)) _ _ _ e)
 
 int_alone : (text : List ℕ) → is_in_i64 text ≡ true → int_before text [] ≡ Found Int (length text - 1)
@@ -286,7 +283,7 @@ number_from bs k n l d h =
 number_kept : (bs : List ℕ) (k : TokenKind) (n : ℕ) → 0 < length bs → number bs ≡ Found k n → number (take (1 + n) bs) ≡ Found k n
 unfolding number
 number_kept bs k n l e =
-    ⊎_elim (λ w. absurd (wrong_found 2 k n w.1)) (λ w. number_from bs k n l (eqb-false _ 0 w.0) (int_found (take (int_len bs) bs) (drop (int_len bs) bs) k n w.1)) (chosen (eqb (digits_len (drop (sign_len bs) bs)) 0) _ _ _ e)
+    ⊎_elim (λ w. absurd (wrong_found 2 0 k n w.1)) (λ w. number_from bs k n l (eqb-false _ 0 w.0) (int_found (take (int_len bs) bs) (drop (int_len bs) bs) k n w.1)) (chosen (eqb (digits_len (drop (sign_len bs) bs)) 0) _ _ _ e)
 
 -- ---- any token
 
@@ -296,9 +293,6 @@ spread_kept bs n t l =
     let b = get_or-take (suc n) bs 1 0 (omega arith) in
     let c = get_or-take (suc n) bs 2 0 (omega arith) in
     rw (a, b, c) t
-
-not_ignored : (m : ℕ) (k : TokenKind) (n : ℕ) → ¬ (Ignored m ≡ Found k n)
-not_ignored m k n e = cc
 
 spread_more : (k : TokenKind) (n : ℕ) → Found Punct 2 ≡ Found k n → 2 ≤ n
 spread_more k n e = let q : 2 ≡ n = cc in omega arith
@@ -310,7 +304,7 @@ head_kept : (c : ℕ) (cs : List ℕ) (k : TokenKind) (n : ℕ) → head (c ∷ 
 unfolding head
 head_kept c cs k n e =
     step_same (is_ignored c) (Ignored 0) (Ignored 0) _ _ (Found k n) (λ x. x)
-    (step_kept (is_mark (c ∷ cs)) (is_mark (c ∷ take n cs)) (Ignored 2) (Ignored 2) _ _ (Found k n) (λ t x. absurd (not_ignored 2 k n x))
+    (step_kept (is_mark (c ∷ cs)) (is_mark (c ∷ take n cs)) (Ignored 2) (Ignored 2) _ _ (Found k n) (λ t x. absurd (ignored_found 2 k n x))
     (λ f. three_shorter (c ∷ cs) (suc n) 239 187 191 (lit< tt) (lit< tt) (lit< tt) f)
     (step_same (eqb c 35) (comment cs) (comment (take n cs)) _ _ (Found k n) (λ x. absurd (no_comment cs k n x))
     (step_same (is_punctuator c) (Found Punct 0) (Found Punct 0) _ _ (Found k n) (λ x. x)

@@ -1,6 +1,7 @@
 pub mod Answers
 pub mod Characters
 pub mod Codes
+pub mod Counted
 pub mod Descriptions
 pub mod Heads
 pub mod Lexemes

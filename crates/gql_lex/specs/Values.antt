@@ -78,21 +78,21 @@ abbrev pub least : ℕ → Option ℕ → ℕ
 least n None = n
 least n (Some m) = min n m
 
-abbrev pub narrowed : List ℕ → Option ℕ → Option ℕ
-narrowed l most = cond (is_blank_line l) most (Some (least (indent l) most))
+abbrev pub narrow : List ℕ → Option ℕ → Option ℕ
+narrow l most = cond (is_blank_line l) most (Some (least (indent l) most))
 
 -- the least indent of the lines that have another character, where there is such a line
 abbrev pub least_indent : List (List ℕ) → Option ℕ
 least_indent [] = None
-least_indent (l ∷ ls) = narrowed l (least_indent ls)
+least_indent (l ∷ ls) = narrow l (least_indent ls)
 
 abbrev pub common_indent : List (List ℕ) → ℕ
 common_indent ls = unwrap_or (least_indent ls) 0
 
 -- the lines, each but the first without the indent that these have in common
-abbrev pub unindented : List (List ℕ) → List (List ℕ)
-unindented [] = []
-unindented (l ∷ ls) = l ∷ map (λ m. drop (common_indent ls) m) ls
+abbrev pub unindent : List (List ℕ) → List (List ℕ)
+unindent [] = []
+unindent (l ∷ ls) = l ∷ map (λ m. drop (common_indent ls) m) ls
 
 -- the lines without those at both ends that have only spaces and tabs
 abbrev pub without_blank_start : List (List ℕ) → List (List ℕ)
@@ -101,14 +101,14 @@ without_blank_start ls = drop (prefix_len is_blank_line ls) ls
 abbrev pub without_blank_end : List (List ℕ) → List (List ℕ)
 without_blank_end ls = take (length ls - suffix_len is_blank_line ls) ls
 
-abbrev pub joined : List (List ℕ) → List ℕ
-joined [] = []
-joined (l ∷ []) = l
-joined (l ∷ m ∷ ms) = l ++ line_feed ∷ joined (m ∷ ms)
+abbrev pub join_lines : List (List ℕ) → List ℕ
+join_lines [] = []
+join_lines (l ∷ []) = l
+join_lines (l ∷ m ∷ ms) = l ++ line_feed ∷ join_lines (m ∷ ms)
 
 -- the value of a Block, of its raw text
 unfoldable pub block_value : List ℕ → List ℕ
-block_value raw = joined (without_blank_end (without_blank_start (unindented (lines raw))))
+block_value raw = join_lines (without_blank_end (without_blank_start (unindent (lines raw))))
 
 -- ---- what a Text or a Block says
 

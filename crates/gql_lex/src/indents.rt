@@ -2,7 +2,7 @@
 ghost use Rattle.std.specs.Prelude.{◌≡◌, ◌+◌, ◌-◌, ◌≤◌, ◌<◌, ◌∷◌, ◌++◌, IfOk, cond, drop, length, map, min, string_bytes};
 ghost use Rattle.std.specs.List.{prefix_len, suffix_len};
 ghost use Rattle.gql_lex.specs.Lines.{texts};
-ghost use Rattle.gql_lex.specs.Values.{block_value, common_indent, indent, is_blank_line, is_indent, joined, least, narrowed, unindented, without_blank_end, without_blank_start};
+ghost use Rattle.gql_lex.specs.Values.{block_value, common_indent, indent, is_blank_line, is_indent, join_lines, least, narrow, unindent, without_blank_end, without_blank_start};
 
 use crate::lines::lines_of;
 use std::alloc::{AllocError, Global};
@@ -47,8 +47,8 @@ fn least(len: usize, most: Option<usize>) -> usize
 }
 
 /// The least indent so far, with one more line.
-fn narrowed(line: &str, most: Option<usize>) -> Option<usize>
-    ensures { result ≡ narrowed line.now most }
+fn narrow(line: &str, most: Option<usize>) -> Option<usize>
+    ensures { result ≡ narrow line.now most }
 {
     if is_blank(line) {
         most
@@ -65,7 +65,7 @@ fn common_indent(lines: &[&str]) -> usize
     let mut at = lines.len();
     'lines: while at > 0 {
         at -= 1;
-        most = narrowed(lines[at], most);
+        most = narrow(lines[at], most);
     }
     most.unwrap_or(0)
 }
@@ -78,9 +78,9 @@ fn cut(line: &str, most: usize) -> &str
 }
 
 /// The lines, each but the first without the indent that these have in common.
-fn unindented<'a>(alloc: Global, lines: &[&'a str]) -> Result<Vec<&'a str>, AllocError>
+fn unindent<'a>(alloc: Global, lines: &[&'a str]) -> Result<Vec<&'a str>, AllocError>
     requires { 0 < length lines.now }
-    ensures { IfOk result (λ v. texts v.items ≡ unindented (texts lines.now)) }
+    ensures { IfOk result (λ v. texts v.items ≡ unindent (texts lines.now)) }
 {
     let rest = &lines[1..];
     let common = common_indent(rest);
@@ -133,8 +133,8 @@ fn push_line(text: &mut String, line: &str, is_first: bool) -> Result<(), AllocE
 }
 
 /// Lines joined by LF.
-fn joined(alloc: Global, lines: &[&str]) -> Result<String, AllocError>
-    ensures { IfOk result (λ s. string_bytes s ≡ joined (texts lines.now)) }
+fn join_lines(alloc: Global, lines: &[&str]) -> Result<String, AllocError>
+    ensures { IfOk result (λ s. string_bytes s ≡ join_lines (texts lines.now)) }
 {
     let mut text = String::new(alloc);
     for (at, line) in lines.iter().enumerate() {
@@ -144,11 +144,11 @@ fn joined(alloc: Global, lines: &[&str]) -> Result<String, AllocError>
 }
 
 /// Lines joined by LF, without those at both ends that have only spaces and tabs.
-fn joined_filled(alloc: Global, lines: &[&str]) -> Result<String, AllocError>
-    ensures { IfOk result (λ s. string_bytes s ≡ joined (without_blank_end (without_blank_start (texts lines.now)))) }
+fn join_filled(alloc: Global, lines: &[&str]) -> Result<String, AllocError>
+    ensures { IfOk result (λ s. string_bytes s ≡ join_lines (without_blank_end (without_blank_start (texts lines.now)))) }
 {
     let filled = &lines[blank_start(lines)..];
-    joined(alloc, &filled[..filled_len(filled)])
+    join_lines(alloc, &filled[..filled_len(filled)])
 }
 
 /// The value of a Block.
@@ -156,6 +156,6 @@ pub fn block_value(alloc: Global, raw: &str) -> Result<String, AllocError>
     ensures { IfOk result (λ s. string_bytes s ≡ block_value raw.now) }
 {
     let lines = lines_of(alloc, raw)?;
-    let kept = unindented(alloc, &lines)?;
-    joined_filled(alloc, &kept)
+    let kept = unindent(alloc, &lines)?;
+    join_filled(alloc, &kept)
 }

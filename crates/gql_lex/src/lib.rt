@@ -8,6 +8,7 @@ mod indents;
 pub mod laws;
 pub mod lexer;
 mod lines;
+pub mod locator;
 mod numbers;
 pub mod places;
 mod strings;
@@ -16,6 +17,7 @@ pub mod tokens;
 pub mod values;
 
 pub use lexer::Lexer;
+pub use locator::Locator;
 pub use places::place;
 pub use tokens::{LexFault, Place, Token, TokenKind};
 pub use values::string_value;

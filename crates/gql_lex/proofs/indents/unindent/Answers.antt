@@ -1,7 +1,7 @@
 use Rattle.std.proofs.Common.{◌-◌, length, take, drop, ◌∙◌}
 use Rattle.std.proofs.lemmas.List.{take_all, take_rest}
 use Rattle.gql_lex.proofs.Margins.{unindented_is}
-use Rattle.gql_lex.proofs.indents.unindented.Goals as goal
+use Rattle.gql_lex.proofs.indents.unindent.Goals as goal
 
 pub returns : goal.returns
 returns c =
