@@ -6,7 +6,7 @@ use Rattle.gql_lex.specs.Toks.{Tok}
 use Rattle.gql_ast.specs.Sels.{Sels, end, field, spread, inline, followed}
 use Rattle.gql_ast.specs.Ty.{Ty}
 use Rattle.gql_ast.specs.TypeView.{ty_of}
-use Rattle.gql_ast.specs.Value.{Val, vals_of, members_of}
+use Rattle.gql_ast.specs.Value.{Val, members_of}
 use Rattle.gql_ast.specs.ValueView.{value_of}
 use Rattle.gql_ast.specs.declared.directive.Directive.{Directive}
 use Rattle.gql_ast.specs.declared.document.Definition.TheVariants as D
@@ -14,13 +14,11 @@ use Rattle.gql_ast.specs.declared.document.Fragment.{Fragment}
 use Rattle.gql_ast.specs.declared.document.Kind.{Kind}
 use Rattle.gql_ast.specs.declared.document.Kind.TheVariants.{Query, Mutation, Subscription}
 use Rattle.gql_ast.specs.declared.document.Operation.{Operation}
-use Rattle.gql_ast.specs.declared.type_tree.TypeTree.{TypeTree}
-use Rattle.gql_ast.specs.declared.type_tree.TypeTree.TheVariants as T
 use Rattle.gql_ast.specs.declared.value.ValueTree.{ValueTree}
-use Rattle.gql_ast.specs.declared.value.ValueTree.TheVariants as V
 use Rattle.gql_ast.specs.declared.variable.VariableDef.{VariableDef}
-use Rattle.gql_parse.specs.Built.{type_tree, value_tree, items_of, pairs_of}
-use Rattle.gql_parse.specs.Documents.{Written, bare, full, documents, braced, spell_name, spell_on, spell_selections, spell_set, spell_optional_name, spell_variables, spell_variables_part, spell_operation, spell_fragment, spell_definition, spell_definitions, SomeSelection, FormedSelections, FormedVariable, FormedDefinition, FormedWritten, FormedDocument, SomeDefinition, fragment_word}
+use Rattle.gql_syntax.proofs.BuiltTrees.{value_tree-value_of, type_tree-ty_of}
+use Rattle.gql_parse.specs.Documents.{Written, bare, full, documents, spell_braces, spell_name, spell_on, spell_selections, spell_set, spell_optional_name, spell_variables, spell_variables_part, spell_operation, spell_fragment, spell_definition, spell_definitions, SomeSelection, SomeDefinition, fragment_word}
+use Rattle.gql_parse.proofs.Shapes.{ShapedSelections, ShapedVariable, ShapedDefinition, ShapedWritten, ShapedDocument}
 use Rattle.gql_parse.specs.Machine.{Opening, Titled, VariableName, Typed, Up, of_bare, of_operation, of_fragment, of_inline, Inside, OpenField, Owner, on_variable, on_operation, on_fragment, on_field, on_spread, on_inline, State, between, kinded, called, variables, in_type, typed, in_value, set, named, field_named, dotted, in_arguments, in_directives, advance, then_selection, open_set, close_set, variables_with, field_of, within_field, with_default, with_arguments, dotted_name, fragment_name, some_written, after_directives, typed_variable, after_type}
 use Rattle.gql_parse.proofs.Fronts.{level_of}
 use Rattle.gql_parse.proofs.Standing.{document_machine}
@@ -32,13 +30,13 @@ use Rattle.gql_syntax.proofs.Standing.{token_mark, level_mark}
 use Rattle.gql_syntax.proofs.TypeLaws.{NoBang, type_complete, type_depth_from}
 use Rattle.gql_syntax.proofs.ValueLaws.{value_complete, value_depth_from}
 use Rattle.gql_syntax.specs.FirstFault.{Shallow}
-use Rattle.gql_syntax.specs.Formed.{FormedArguments, FormedDirectives, FormedDefault, FormedType, FormedValue}
+use Rattle.gql_syntax.proofs.Shapes.{ShapedArguments, ShapedDirectives, ShapedDefault, ShapedType, ShapedValue}
 use Rattle.gql_syntax.specs.Machine.{first, further, want, outer, want_type, whole}
 use Rattle.gql_syntax.specs.Run.{Halt}
 use Rattle.gql_syntax.specs.Spelling.{Mark, spell_members, spell_arguments, spell_directives, spell_type, spell_value, spell_default}
 use Rattle.gql_syntax.specs.Words.{on_word, kind_word}
 
--- ---- trees one behind the other, and trees that are built anew
+-- ---- trees one behind the other
 
 followed-end : (s : Sels) → followed s end ≡ s
 followed-end end = refl
@@ -51,29 +49,6 @@ followed_assoc end t u = refl
 followed_assoc (field a n xs ds s rest) t u = ap (λ r. field a n xs ds s r) (followed_assoc rest t u)
 followed_assoc (spread n ds rest) t u = ap (λ r. spread n ds r) (followed_assoc rest t u)
 followed_assoc (inline o ds s rest) t u = ap (λ r. inline o ds s r) (followed_assoc rest t u)
-
-pub items_of-vals_of : (vs : List Val) → items_of (vals_of vs) ≡ vs
-items_of-vals_of [] = refl
-items_of-vals_of (v ∷ vs) = ap (λ ws. v ∷ ws) (items_of-vals_of vs)
-
-pub pairs_of-members_of : (ms : List (List ℕ × Val)) → pairs_of (members_of ms) ≡ ms
-pairs_of-members_of [] = refl
-pairs_of-members_of (m ∷ ms) = ap (λ ws. m ∷ ws) (pairs_of-members_of ms)
-
-pub value_tree-value_of : (v : ValueTree) → value_tree (value_of v) ≡ v
-value_tree-value_of (V.Variable n) = refl
-value_tree-value_of (V.Int n) = refl
-value_tree-value_of (V.Text t) = refl
-value_tree-value_of (V.Bool b) = refl
-value_tree-value_of V.Null = refl
-value_tree-value_of (V.Enum n) = refl
-value_tree-value_of (V.List vs) = ap (λ ws. V.List ws) (items_of-vals_of vs)
-value_tree-value_of (V.Object ms) = ap (λ ws. V.Object ws) (pairs_of-members_of ms)
-
-pub type_tree-ty_of : (t : TypeTree) → type_tree (ty_of t) ≡ t
-type_tree-ty_of (T.Named n) = refl
-type_tree-ty_of (T.List t) = refl
-type_tree-ty_of (T.NonNull t) = refl
 
 -- ---- what may follow
 
@@ -115,13 +90,13 @@ follows-default : (d : Option ValueTree) (ts : List Tok) → Follows 2 ts → Fo
 follows-default None ts h = follows-more 2 3 ts (omega arith) h
 follows-default (Some d) ts h = omega arith
 
-follows-braced : (s : Sels) (level : ℕ) (inside : List Tok → List Tok) (ts : List Tok) → Follows 0 ts → Follows 1 (braced token_mark s level inside ts)
+follows-braced : (s : Sels) (level : ℕ) (inside : List Tok → List Tok) (ts : List Tok) → Follows 0 ts → Follows 1 (spell_braces token_mark s level inside ts)
 follows-braced end level inside ts h = follows-more 0 1 ts (omega arith) h
 follows-braced (field a n xs ds s rest) level inside ts h = omega arith
 follows-braced (spread n ds rest) level inside ts h = omega arith
 follows-braced (inline o ds s rest) level inside ts h = omega arith
 
-follows-some : (s : Sels) (level : ℕ) (inside : List Tok → List Tok) (ts : List Tok) → SomeSelection s → Follows 1 (braced token_mark s level inside ts)
+follows-some : (s : Sels) (level : ℕ) (inside : List Tok → List Tok) (ts : List Tok) → SomeSelection s → Follows 1 (spell_braces token_mark s level inside ts)
 follows-some end level inside ts h = absurd h
 follows-some (field a n xs ds s rest) level inside ts h = omega arith
 follows-some (spread n ds rest) level inside ts h = omega arith
@@ -153,26 +128,26 @@ module _ (limit : ℕ) where
 
   -- ---- the parts that all grammars share
 
-  read_directives : (c : Bool) (d : Owner) (ds : List Directive) (ts : List Tok) (ls : List ℕ) → FormedDirectives c ds → Shallow limit (spell_directives level_mark ds ls) → Follows 1 ts
+  read_directives : (c : Bool) (d : Owner) (ds : List Directive) (ts : List Tok) (ls : List ℕ) → ShapedDirectives c ds → Shallow limit (spell_directives level_mark ds ls) → Follows 1 ts
       → (to (in_directives (further c [] d)) (spell_directives token_mark ds ts) ≡ to (in_directives (further c ds d)) ts) × Shallow limit ls
   read_directives c d ds ts ls f h n =
       let w = directives_depth_from ds limit ls h in
       (directives_complete limit in_directives (after_directives limit) (advance limit) (λ r t. refl) ds [] c d ts (no_paren ts n) f w.0, w.1)
 
-  read_given : (f : OpenField) (x : List ℕ × Val) (xs : List (List ℕ × Val)) (ts : List Tok) (ls : List ℕ) → FormedArguments false (x ∷ xs) → Shallow limit (spell_arguments level_mark (x ∷ xs) ls)
+  read_given : (f : OpenField) (x : List ℕ × Val) (xs : List (List ℕ × Val)) (ts : List Tok) (ls : List ℕ) → ShapedArguments false (x ∷ xs) → Shallow limit (spell_arguments level_mark (x ∷ xs) ls)
       → (to (in_arguments (first false f)) (spell_members token_mark (members_of (x ∷ xs)) 0 (tok.close_paren ∷ ts)) ≡ to (with_arguments f (x ∷ xs)) ts) × Shallow limit ls
   read_given f x xs ts ls g h =
       let d = arguments_depth_from (x ∷ xs) limit ls h in
       (arguments_complete limit in_arguments with_arguments (advance limit) (λ r t. refl) false f (x ∷ xs) ts tt g d.0, d.1)
 
-  read_type : (v : VariableName) (t : Ty) (ts : List Tok) (ls : List ℕ) → FormedType t → Shallow limit (spell_type level_mark t 0 0 ls) → Follows 3 ts
+  read_type : (v : VariableName) (t : Ty) (ts : List Tok) (ls : List ℕ) → ShapedType t → Shallow limit (spell_type level_mark t 0 0 ls) → Follows 3 ts
       → (to (in_type (want_type limit (whole v))) (spell_type token_mark t 0 0 ts) ≡ to (typed (record { variable = v; of = t })) ts) × Shallow limit ls
   read_type v t ts ls f h n =
       let e = type_depth_from t limit 0 0 ls (omega arith) h in
       let within = e.0 in
       (type_complete in_type typed_variable (after_type limit) (advance limit) (λ r t. refl) (λ v t x. refl) t limit v 0 0 ts (no_bang ts n) f (omega (arith, within)), e.1)
 
-  read_value : (v : Typed) (d : Val) (ts : List Tok) (ls : List ℕ) → FormedValue true d → Shallow limit (spell_value level_mark d 0 ls)
+  read_value : (v : Typed) (d : Val) (ts : List Tok) (ls : List ℕ) → ShapedValue true d → Shallow limit (spell_value level_mark d 0 ls)
       → (to (in_value (want true limit (outer v))) (spell_value token_mark d 0 ts) ≡ to (with_default v d) ts) × Shallow limit ls
   read_value v d ts ls f h =
       let e = value_depth_from d limit 0 ls (omega arith) h in
@@ -233,7 +208,7 @@ module _ (limit : ℕ) where
   -- ---- selection sets
 
   abbrev Reads : Sels → Type 0
-  Reads s = (i : Inside) (ts : List Tok) (ls : List ℕ) → i.room + level_of i.up ≡ limit → FormedSelections s → Shallow limit (spell_selections level_mark s (level_of i.up) ls) → Follows 0 ts
+  Reads s = (i : Inside) (ts : List Tok) (ls : List ℕ) → i.room + level_of i.up ≡ limit → ShapedSelections s → Shallow limit (spell_selections level_mark s (level_of i.up) ls) → Follows 0 ts
       → (to (set i) (spell_selections token_mark s (level_of i.up) ts) ≡ to (set (then_selection i s)) ts) × Shallow limit ls
 
   closes : (room : ℕ) (s : Sels) (up : Up) (ts : List Tok) → SomeSelection s → to (set (record { room = room; before = s; up = up })) (tok.close_brace ∷ ts) ≡ to (close_set room s up) ts
@@ -249,7 +224,7 @@ module _ (limit : ℕ) where
     reached : reach_from (advance limit) (open_set room up) (spell_selections token_mark s (level_of up) (tok.close_brace ∷ ts)) ≡ to (close_set left s up) ts
     shallow : Shallow limit ls
 
-  reads_set : (room : ℕ) (s : Sels) (up : Up) (ts : List Tok) (ls : List ℕ) → Reads s → room + level_of up ≡ limit + 1 → SomeSelection s → FormedSelections s
+  reads_set : (room : ℕ) (s : Sels) (up : Up) (ts : List Tok) (ls : List ℕ) → Reads s → room + level_of up ≡ limit + 1 → SomeSelection s → ShapedSelections s
       → Shallow limit (level_of up ∷ spell_selections level_mark s (level_of up) (0 ∷ ls)) → Opened room s up ts ls
   reads_set zero s up ts ls read e some f h = let l = h.0 in absurd (omega (arith, e, l))
   reads_set (suc room) s up ts ls read e some f h =
@@ -261,14 +236,14 @@ module _ (limit : ℕ) where
   reads_name i None n ts ls h f = (named_ends i n ts f, h.1)
   reads_name i (Some a) n ts ls h f = (refl, h.1.1.1)
 
-  reads_arguments : (f : OpenField) (xs : List (List ℕ × Val)) (ts : List Tok) (ls : List ℕ) → FormedArguments false xs → Shallow limit (spell_arguments level_mark xs ls) → Follows 2 ts
+  reads_arguments : (f : OpenField) (xs : List (List ℕ × Val)) (ts : List Tok) (ls : List ℕ) → ShapedArguments false xs → Shallow limit (spell_arguments level_mark xs ls) → Follows 2 ts
       → (to (field_named f) (spell_arguments token_mark xs ts) ≡ to (in_directives (further false [] (on_field f xs))) ts) × Shallow limit ls
   reads_arguments f [] ts ls g h n = (field_ends f ts n, h)
   reads_arguments f (x ∷ xs) ts ls g h n = read_given f x xs ts ls g h
 
-  reads_some : (f : OpenField) (xs : List (List ℕ × Val)) (ds : List Directive) (s : Sels) (ts : List Tok) (ls : List ℕ) → Reads s → f.inside.room + level_of f.inside.up ≡ limit → SomeSelection s → FormedSelections s
-      → Shallow limit (braced level_mark s (level_of f.inside.up + 1) (spell_selections level_mark s (level_of f.inside.up + 1)) ls)
-      → (to (in_directives (further false ds (on_field f xs))) (braced token_mark s (level_of f.inside.up + 1) (spell_selections token_mark s (level_of f.inside.up + 1)) ts)
+  reads_some : (f : OpenField) (xs : List (List ℕ × Val)) (ds : List Directive) (s : Sels) (ts : List Tok) (ls : List ℕ) → Reads s → f.inside.room + level_of f.inside.up ≡ limit → SomeSelection s → ShapedSelections s
+      → Shallow limit (spell_braces level_mark s (level_of f.inside.up + 1) (spell_selections level_mark s (level_of f.inside.up + 1)) ls)
+      → (to (in_directives (further false ds (on_field f xs))) (spell_braces token_mark s (level_of f.inside.up + 1) (spell_selections token_mark s (level_of f.inside.up + 1)) ts)
       ≡ to (set (then_selection f.inside (field f.alias f.name xs ds s end))) ts) × Shallow limit ls
   reads_some f xs ds s ts ls read e some g h =
       let level : ℕ = level_of f.inside.up + 1 in
@@ -279,9 +254,9 @@ module _ (limit : ℕ) where
         o.shallow,
       )
 
-  reads_subs : (f : OpenField) (xs : List (List ℕ × Val)) (ds : List Directive) (s : Sels) (ts : List Tok) (ls : List ℕ) → Reads s → f.inside.room + level_of f.inside.up ≡ limit → FormedSelections s
-      → Shallow limit (braced level_mark s (level_of f.inside.up + 1) (spell_selections level_mark s (level_of f.inside.up + 1)) ls) → Follows 0 ts
-      → (to (in_directives (further false ds (on_field f xs))) (braced token_mark s (level_of f.inside.up + 1) (spell_selections token_mark s (level_of f.inside.up + 1)) ts)
+  reads_subs : (f : OpenField) (xs : List (List ℕ × Val)) (ds : List Directive) (s : Sels) (ts : List Tok) (ls : List ℕ) → Reads s → f.inside.room + level_of f.inside.up ≡ limit → ShapedSelections s
+      → Shallow limit (spell_braces level_mark s (level_of f.inside.up + 1) (spell_selections level_mark s (level_of f.inside.up + 1)) ls) → Follows 0 ts
+      → (to (in_directives (further false ds (on_field f xs))) (spell_braces token_mark s (level_of f.inside.up + 1) (spell_selections token_mark s (level_of f.inside.up + 1)) ts)
       ≡ to (set (then_selection f.inside (field f.alias f.name xs ds s end))) ts) × Shallow limit ls
   reads_subs f xs ds end ts ls read e g h n = (selection_ends f xs ds ts n, h)
   reads_subs f xs ds (field a m ys es s rest) ts ls read e g h n = reads_some f xs ds (field a m ys es s rest) ts ls read e tt g h
@@ -289,7 +264,7 @@ module _ (limit : ℕ) where
   reads_subs f xs ds (inline o es s rest) ts ls read e g h n = reads_some f xs ds (inline o es s rest) ts ls read e tt g h
 
   -- what comes behind one selection
-  reads_rest : (i : Inside) (one rest : Sels) (ts : List Tok) (ls : List ℕ) → Reads rest → i.room + level_of i.up ≡ limit → FormedSelections rest
+  reads_rest : (i : Inside) (one rest : Sels) (ts : List Tok) (ls : List ℕ) → Reads rest → i.room + level_of i.up ≡ limit → ShapedSelections rest
       → Shallow limit (spell_selections level_mark rest (level_of i.up) ls) → Follows 0 ts
       → (to (set (then_selection i one)) (spell_selections token_mark rest (level_of i.up) ts) ≡ to (set (then_selection i (followed one rest))) ts) × Shallow limit ls
   reads_rest i one rest ts ls read e f h n =
@@ -301,7 +276,7 @@ module _ (limit : ℕ) where
       let level : ℕ = level_of i.up in
       let named_field : OpenField = record { inside = i; alias = a; name = n } in
       let behind = spell_selections token_mark rest level ts in
-      let body = braced token_mark s (level + 1) (spell_selections token_mark s (level + 1)) behind in
+      let body = spell_braces token_mark s (level + 1) (spell_selections token_mark s (level + 1)) behind in
       let follows = follows-selections rest level ts next in
       let body_follows = follows-braced s (level + 1) (spell_selections token_mark s (level + 1)) behind follows in
       let after_name = follows-directives ds body body_follows in
@@ -327,7 +302,7 @@ module _ (limit : ℕ) where
   no_name-directives [] ts h = h
   no_name-directives (d ∷ ds) ts h = tt
 
-  no_name-some : (s : Sels) (level : ℕ) (inside : List Tok → List Tok) (ts : List Tok) → SomeSelection s → NoName (braced token_mark s level inside ts)
+  no_name-some : (s : Sels) (level : ℕ) (inside : List Tok → List Tok) (ts : List Tok) → SomeSelection s → NoName (spell_braces token_mark s level inside ts)
   no_name-some end level inside ts h = absurd h
   no_name-some (field a n xs ds s rest) level inside ts h = tt
   no_name-some (spread n ds rest) level inside ts h = tt
@@ -338,9 +313,9 @@ module _ (limit : ℕ) where
   reads_on i None ts ls h n = (dotted_ends i ts n, h.1)
   reads_on i (Some o) ts ls h n = (refl, h.1.1.1)
 
-  reads_inner : (i : Inside) (o : Option (List ℕ)) (ds : List Directive) (s : Sels) (ts : List Tok) (ls : List ℕ) → Reads s → i.room + level_of i.up ≡ limit → SomeSelection s → FormedSelections s
-      → Shallow limit (braced level_mark s (level_of i.up + 1) (spell_selections level_mark s (level_of i.up + 1)) ls)
-      → (to (in_directives (further false ds (on_inline i o))) (braced token_mark s (level_of i.up + 1) (spell_selections token_mark s (level_of i.up + 1)) ts)
+  reads_inner : (i : Inside) (o : Option (List ℕ)) (ds : List Directive) (s : Sels) (ts : List Tok) (ls : List ℕ) → Reads s → i.room + level_of i.up ≡ limit → SomeSelection s → ShapedSelections s
+      → Shallow limit (spell_braces level_mark s (level_of i.up + 1) (spell_selections level_mark s (level_of i.up + 1)) ls)
+      → (to (in_directives (further false ds (on_inline i o))) (spell_braces token_mark s (level_of i.up + 1) (spell_selections token_mark s (level_of i.up + 1)) ts)
       ≡ to (set (then_selection i (inline o ds s end))) ts) × Shallow limit ls
   reads_inner i o ds s ts ls read e some g h =
       let level : ℕ = level_of i.up + 1 in
@@ -355,7 +330,7 @@ module _ (limit : ℕ) where
   reads_inline o ds s rest read_s read_rest i ts ls e f h next =
       let level : ℕ = level_of i.up in
       let behind = spell_selections token_mark rest level ts in
-      let body = braced token_mark s (level + 1) (spell_selections token_mark s (level + 1)) behind in
+      let body = spell_braces token_mark s (level + 1) (spell_selections token_mark s (level + 1)) behind in
       let body_follows = follows-some s (level + 1) (spell_selections token_mark s (level + 1)) behind f.1 in
       let p1 = reads_on i o (spell_directives token_mark ds body) _ h (no_name-directives ds body (no_name-some s (level + 1) (spell_selections token_mark s (level + 1)) behind f.1)) in
       let p3 = read_directives false (on_inline i o) ds body _ f.0 p1.1 body_follows in
@@ -371,7 +346,7 @@ module _ (limit : ℕ) where
 
   -- ---- variables
 
-  reads_default : (v : Typed) (d : Option ValueTree) (ts : List Tok) (ls : List ℕ) → FormedDefault d → Shallow limit (spell_default level_mark d ls) → Follows 2 ts
+  reads_default : (v : Typed) (d : Option ValueTree) (ts : List Tok) (ls : List ℕ) → ShapedDefault d → Shallow limit (spell_default level_mark d ls) → Follows 2 ts
       → (to (typed v) (spell_default token_mark d ts) ≡ to (in_directives (further true [] (on_variable v d))) ts) × Shallow limit ls
   reads_default v None ts ls f h n = (typed_ends v ts n, h)
   reads_default v (Some d) ts ls f h n =
@@ -382,7 +357,7 @@ module _ (limit : ℕ) where
       → variables_with (record { variable = record { opening = o; before = there; name = v.name }; of = ty_of v.of }) v.default v.directives ≡ there ++ v ∷ []
   variable_again o there v = ap (λ t. there ++ record { name = v.name; of = t; default = v.default; directives = v.directives } ∷ []) (type_tree-ty_of v.of)
 
-  reads_variable : (o : Opening) (there : List VariableDef) (v : VariableDef) (ts : List Tok) (ls : List ℕ) → FormedVariable v → Shallow limit (spell_variables level_mark (v ∷ []) ls) → Follows 0 ts
+  reads_variable : (o : Opening) (there : List VariableDef) (v : VariableDef) (ts : List Tok) (ls : List ℕ) → ShapedVariable v → Shallow limit (spell_variables level_mark (v ∷ []) ls) → Follows 0 ts
       → (to (variables o there) (spell_variables token_mark (v ∷ []) ts) ≡ to (variables o (there ++ v ∷ [])) ts) × Shallow limit ls
   reads_variable o there v ts ls f h n =
       let name : VariableName = record { opening = o; before = there; name = v.name } in
@@ -398,7 +373,7 @@ module _ (limit : ℕ) where
   follows-variables [] ts h = h
   follows-variables (v ∷ vs) ts h = omega arith
 
-  reads_variables : (o : Opening) (there vs : List VariableDef) (ts : List Tok) (ls : List ℕ) → AllByRecursion FormedVariable vs → Shallow limit (spell_variables level_mark vs ls) → Follows 0 ts
+  reads_variables : (o : Opening) (there vs : List VariableDef) (ts : List Tok) (ls : List ℕ) → AllByRecursion ShapedVariable vs → Shallow limit (spell_variables level_mark vs ls) → Follows 0 ts
       → (to (variables o there) (spell_variables token_mark vs ts) ≡ to (variables o (there ++ vs)) ts) × Shallow limit ls
   reads_variables o there [] ts ls f h n = (ap (λ vs. to (variables o vs) ts) (sym (append-nil there)), h)
   reads_variables o there (v ∷ vs) ts ls f h n =
@@ -406,7 +381,7 @@ module _ (limit : ℕ) where
       let p2 = reads_variables o (there ++ v ∷ []) vs ts ls f.1 p1.1 n in
       (p1.0 ∙ p2.0 ∙ ap (λ ws. to (variables o ws) ts) (append_assoc there (v ∷ []) vs), p2.1)
 
-  reads_variables_part : (o : Opening) (vs : List VariableDef) (ts : List Tok) (ls : List ℕ) → AllByRecursion FormedVariable vs → Shallow limit (spell_variables_part level_mark vs ls) → Follows 2 ts
+  reads_variables_part : (o : Opening) (vs : List VariableDef) (ts : List Tok) (ls : List ℕ) → AllByRecursion ShapedVariable vs → Shallow limit (spell_variables_part level_mark vs ls) → Follows 2 ts
       → (to (called o) (spell_variables_part token_mark vs ts) ≡ to (in_directives (further false [] (on_operation o vs))) ts) × Shallow limit ls
   reads_variables_part o [] ts ls f h n = (called_ends o ts n, h)
   reads_variables_part o (v ∷ vs) ts ls f h n =
@@ -429,10 +404,10 @@ module _ (limit : ℕ) where
   reads_operation_name ws k None ts ls h n = (kinded_ends ws k ts n, h)
   reads_operation_name ws k (Some m) ts ls h n = (refl, h.1)
 
-  reads_top : (up : Up) (s : Sels) (ts : List Tok) (ls : List ℕ) → level_of up ≡ 1 → SomeSelection s → FormedSelections s → Shallow limit (level_of up ∷ spell_selections level_mark s (level_of up) (0 ∷ ls)) → Opened limit s up ts ls
+  reads_top : (up : Up) (s : Sels) (ts : List Tok) (ls : List ℕ) → level_of up ≡ 1 → SomeSelection s → ShapedSelections s → Shallow limit (level_of up ∷ spell_selections level_mark s (level_of up) (0 ∷ ls)) → Opened limit s up ts ls
   reads_top up s ts ls e some f h = reads_set limit s up ts ls (reads_selections s) (omega (arith, e)) some f h
 
-  reads_operation : (ws : List Written) (o : Operation) (ts : List Tok) (ls : List ℕ) → FormedDefinition (D.Operation o) → Shallow limit (spell_operation level_mark 0 o ls)
+  reads_operation : (ws : List Written) (o : Operation) (ts : List Tok) (ls : List ℕ) → ShapedDefinition (D.Operation o) → Shallow limit (spell_operation level_mark 0 o ls)
       → (to (between ws) (spell_operation token_mark 0 o ts) ≡ to (between (ws ++ full (D.Operation o) ∷ [])) ts) × Shallow limit ls
   reads_operation ws o ts ls f h =
       let opening : Opening = record { before = ws; kind = o.kind; name = o.name } in
@@ -456,7 +431,7 @@ module _ (limit : ℕ) where
       → to (between ws) (tok.name fragment_word ∷ tok.name n ∷ tok.name on_word ∷ tok.name m ∷ ts) ≡ to (in_directives (further false [] (on_fragment (record { before = ws; name = n; on = m })))) ts
   fragment_begins ws n m ts e = ap (λ b. reach_from (advance limit) (fragment_name ws n b) (tok.name on_word ∷ tok.name m ∷ ts)) e
 
-  reads_fragment : (ws : List Written) (d : Fragment) (ts : List Tok) (ls : List ℕ) → FormedDefinition (D.Fragment d) → Shallow limit (spell_fragment level_mark 0 d ls)
+  reads_fragment : (ws : List Written) (d : Fragment) (ts : List Tok) (ls : List ℕ) → ShapedDefinition (D.Fragment d) → Shallow limit (spell_fragment level_mark 0 d ls)
       → (to (between ws) (spell_fragment token_mark 0 d ts) ≡ to (between (ws ++ full (D.Fragment d) ∷ [])) ts) × Shallow limit ls
   reads_fragment ws d ts ls f h =
       let titled : Titled = record { before = ws; name = d.name; on = d.on } in
@@ -472,13 +447,13 @@ module _ (limit : ℕ) where
         p4.shallow,
       )
 
-  reads_definition : (ws : List Written) (w : Written) (ts : List Tok) (ls : List ℕ) → FormedWritten w → Shallow limit (spell_definition level_mark 0 w ls)
+  reads_definition : (ws : List Written) (w : Written) (ts : List Tok) (ls : List ℕ) → ShapedWritten w → Shallow limit (spell_definition level_mark 0 w ls)
       → (to (between ws) (spell_definition token_mark 0 w ts) ≡ to (between (ws ++ w ∷ [])) ts) × Shallow limit ls
   reads_definition ws (bare s) ts ls f h = let p = reads_top (of_bare ws) s ts ls refl f.0 f.1 h in (p.reached, p.shallow)
   reads_definition ws (full (D.Operation o)) ts ls f h = reads_operation ws o ts ls f h
   reads_definition ws (full (D.Fragment d)) ts ls f h = reads_fragment ws d ts ls f h
 
-  reads_definitions : (there ws : List Written) → AllByRecursion FormedWritten ws → Shallow limit (spell_definitions level_mark 0 ws) → to (between there) (spell_definitions token_mark 0 ws) ≡ Ok (between (there ++ ws))
+  reads_definitions : (there ws : List Written) → AllByRecursion ShapedWritten ws → Shallow limit (spell_definitions level_mark 0 ws) → to (between there) (spell_definitions token_mark 0 ws) ≡ Ok (between (there ++ ws))
   reads_definitions there [] f h = ap (λ ws. Ok (between ws)) (sym (append-nil there))
   reads_definitions there (w ∷ ws) f h =
       let p = reads_definition there w (spell_definitions token_mark 0 ws) (spell_definitions level_mark 0 ws) f.0 h in
@@ -497,7 +472,7 @@ written_is : (ws : List Written) → SomeDefinition ws → some_written ws ≡ S
 written_is [] h = absurd h
 written_is (w ∷ ws) h = refl
 
-pub complete : (limit : ℕ) (ws : List Written) → FormedDocument ws → Shallow limit (documents.levels ws) → Finishes document_machine limit (document_machine.start limit) (documents.tokens ws) ws
+pub complete : (limit : ℕ) (ws : List Written) → ShapedDocument ws → Shallow limit (documents.levels ws) → Finishes document_machine limit (document_machine.start limit) (documents.tokens ws) ws
 complete limit ws f h = record {
   last = between ws;
   reached = ap (λ ts. reach (advance limit) (between []) ts) (definitions_first token_mark (λ t l n k. refl) ws)

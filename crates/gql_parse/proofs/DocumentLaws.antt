@@ -7,6 +7,7 @@ use Rattle.gql_parse.proofs.Complete.{complete}
 use Rattle.gql_parse.proofs.Ends.{ends_own}
 use Rattle.gql_parse.proofs.Lifts.{advance-lifts, advance-opens, lift-so_far, lift-level, lift-seated, lift-finish}
 use Rattle.gql_parse.proofs.Mapped.{written}
+use Rattle.gql_parse.proofs.Shapes.{document_shape}
 use Rattle.gql_parse.proofs.Standing.{document_machine, Seated, lift}
 use Rattle.gql_parse.proofs.Steps.{Steps, Takes, advance-steps}
 use Rattle.gql_syntax.proofs.Laws.{Laws}
@@ -32,6 +33,6 @@ document_laws = record {
   lift_level = lift-level;
   lift_seated = lift-seated;
   lift_finish = lift-finish;
-  complete = complete;
+  complete = λ limit ws f h. complete limit ws (document_shape ws f) h;
   ends = λ limit s h. ends_own limit s;
 }

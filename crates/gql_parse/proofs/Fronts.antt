@@ -4,7 +4,7 @@ use Rattle.gql_lex.specs.Toks as tok
 use Rattle.gql_lex.specs.Toks.{Tok}
 use Rattle.gql_ast.specs.Sels.{Sels, end, field, spread, inline, followed}
 use Rattle.gql_ast.specs.declared.variable.VariableDef.{VariableDef}
-use Rattle.gql_parse.specs.Documents.{Written, spell_name, spell_on, braced, spell_selections, spell_optional_name, spell_variables, spell_variables_part, spell_operation, spell_fragment, spell_definition, fragment_word}
+use Rattle.gql_parse.specs.Documents.{Written, spell_name, spell_on, spell_braces, spell_selections, spell_optional_name, spell_variables, spell_variables_part, spell_operation, spell_fragment, spell_definition, fragment_word}
 use Rattle.gql_parse.specs.Machine.{Opening, Titled, VariableName, Typed, Up, of_bare, of_operation, of_fragment, of_field, of_inline, Inside, OpenField, Owner, on_variable, on_operation, on_fragment, on_field, on_spread, on_inline, operation_of, fragment_of}
 use Rattle.gql_syntax.proofs.Laws.{Leveled}
 use Rattle.gql_syntax.proofs.Standing.{leveled}
@@ -76,11 +76,11 @@ definitions_front-push (x ∷ ws) w ts = ap (λ r. spell_definition leveled 0 x 
 pub spell_selections-followed : {X : Type 0} (mark : Mark X) (s t : Sels) (level : ℕ) (ts : List X) → spell_selections mark (followed s t) level ts ≡ spell_selections mark s level (spell_selections mark t level ts)
 spell_selections-followed mark end t level ts = refl
 spell_selections-followed mark (field a n xs ds s rest) t level ts =
-    ap (λ r. spell_name mark a n (spell_arguments mark xs (spell_directives mark ds (braced mark s (level + 1) (spell_selections mark s (level + 1)) r)))) (spell_selections-followed mark rest t level ts)
+    ap (λ r. spell_name mark a n (spell_arguments mark xs (spell_directives mark ds (spell_braces mark s (level + 1) (spell_selections mark s (level + 1)) r)))) (spell_selections-followed mark rest t level ts)
 spell_selections-followed mark (spread n ds rest) t level ts =
     ap (λ r. mark tok.spread 0 1 ∷ mark (tok.name n) 0 1 ∷ spell_directives mark ds r) (spell_selections-followed mark rest t level ts)
 spell_selections-followed mark (inline o ds s rest) t level ts =
-    ap (λ r. mark tok.spread 0 1 ∷ spell_on mark o (spell_directives mark ds (braced mark s (level + 1) (spell_selections mark s (level + 1)) r))) (spell_selections-followed mark rest t level ts)
+    ap (λ r. mark tok.spread 0 1 ∷ spell_on mark o (spell_directives mark ds (spell_braces mark s (level + 1) (spell_selections mark s (level + 1)) r))) (spell_selections-followed mark rest t level ts)
 
 pub spell_variables-push : {X : Type 0} (mark : Mark X) (vs ws : List VariableDef) (ts : List X) → spell_variables mark (vs ++ ws) ts ≡ spell_variables mark vs (spell_variables mark ws ts)
 spell_variables-push mark [] ws ts = refl

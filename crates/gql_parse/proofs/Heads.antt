@@ -14,7 +14,7 @@ use Rattle.gql_ast.specs.declared.document.Kind.TheVariants.{Query, Mutation, Su
 use Rattle.gql_ast.specs.declared.value.ValueTree.{ValueTree}
 use Rattle.gql_ast.specs.declared.variable.VariableDef.{VariableDef}
 use Rattle.gql_parse.specs.Documents.{Written, fragment_word, spell_variables, spell_variables_part}
-use Rattle.gql_parse.specs.Going.{going, opening}
+use Rattle.gql_parse.specs.Going.{run_on, opening}
 use Rattle.gql_parse.specs.Machine.{Opening, Titled, VariableName, Typed, of_bare, of_operation, of_fragment, on_variable, on_operation, on_fragment, between, kinded, called, variables, dollar, variable_named, in_type, typed, in_value, fragment_begun, fragment_named, fragment_on, in_directives, advance, variables_with, with_default, other, word_of, begun, fragment_name, fragment_condition}
 use Rattle.gql_syntax.specs.Answers.{Tells, default_read, as_default}
 use Rattle.gql_syntax.specs.Machine.{further, want, outer, want_type, whole}
@@ -26,7 +26,7 @@ use Rattle.gql_syntax.specs.Spelling.{Mark}
 use Rattle.gql_syntax.specs.Texts.{nesting_limit}
 use Rattle.gql_syntax.specs.Words.{on_word, kind_word}
 use Rattle.gql_syntax.specs.declared.fault.Fault.{Fault}
-use Rattle.gql_parse.proofs.Complete.{value_tree-value_of, type_tree-ty_of}
+use Rattle.gql_syntax.proofs.BuiltTrees.{value_tree-value_of, type_tree-ty_of}
 use Rattle.gql_parse.proofs.Fronts.{spell_variables-push}
 use Rattle.gql_parse.proofs.Courses.{tells-moves, comes_at, comes_word, at_comes, open_paren_at, close_paren_at, dollar_at, colon_at, equals_at, takes, takes_name, refuses, alike, wants_name, wants_at, opens, opens_there, type_ok, type_err, value_ok, value_err, ok_parts}
 
@@ -40,17 +40,17 @@ no_bytes n w h = by (bytes_eq n w) refl
 module _ (size : ℕ) where
   -- ---- variables
 
-  pub called_ends : (o : Opening) (src : Source) → next_is 40 src ≡ false → going size (called o) src ≡ going size (in_directives (further false [] (on_operation o []))) src
+  pub called_ends : (o : Opening) (src : Source) → next_is 40 src ≡ false → run_on size (called o) src ≡ run_on size (in_directives (further false [] (on_operation o []))) src
   called_ends o src e = alike size _ _ src refl (λ t c. on t (comes_at 40 false src t e c))
     where
       on : (t : Tok) → is_at 40 t ≡ false → advance nesting_limit (called o) t ≡ advance nesting_limit (in_directives (further false [] (on_operation o []))) t
       on tok.open_paren e = cc
       on t e = refl
 
-  pub called_opens : (o : Opening) (src : Source) → next_is 40 src ≡ true → going size (called o) src ≡ going size (variables o []) (behind src)
+  pub called_opens : (o : Opening) (src : Source) → next_is 40 src ≡ true → run_on size (called o) src ≡ run_on size (variables o []) (behind src)
   called_opens o src e = takes size (called o) (variables o []) tok.open_paren src (at_comes 40 tok.open_paren src open_paren_at e) refl
 
-  pub variable_begins : (o : Opening) (vs : List VariableDef) (src : Source) → next_is 36 src ≡ true → going size (variables o vs) src ≡ going size (dollar o vs) (behind src)
+  pub variable_begins : (o : Opening) (vs : List VariableDef) (src : Source) → next_is 36 src ≡ true → run_on size (variables o vs) src ≡ run_on size (dollar o vs) (behind src)
   variable_begins o vs src e = takes size (variables o vs) (dollar o vs) tok.dollar src (at_comes 36 tok.dollar src dollar_at e) refl
 
   comes_close : (src : Source) → Comes src tok.close_paren → next_is 41 src ≡ true
@@ -59,7 +59,7 @@ module _ (size : ℕ) where
   comes_close (token p rest) c = subst (λ x. is_at 41 x ≡ true) (sym c) refl
 
   -- no variable stands there, and `)` only where none was read
-  pub variable_missed : (o : Opening) (vs : List VariableDef) (src : Source) → (next_is 41 src ≡ true → vs ≡ []) → next_is 36 src ≡ false → going size (variables o vs) src ≡ Err (stopped_at size src)
+  pub variable_missed : (o : Opening) (vs : List VariableDef) (src : Source) → (next_is 41 src ≡ true → vs ≡ []) → next_is 36 src ≡ false → run_on size (variables o vs) src ≡ Err (stopped_at size src)
   variable_missed o vs src h e = refuses size (variables o vs) src refl (λ t c. on vs t h c (comes_at 36 false src t e c))
     where
       on : (vs : List VariableDef) (t : Tok) → (next_is 41 src ≡ true → vs ≡ []) → Comes src t → is_at 36 t ≡ false → advance nesting_limit (variables o vs) t ≡ Err unexpected
@@ -69,34 +69,34 @@ module _ (size : ℕ) where
       on (v ∷ vs) t h c e = refl
 
   pub variable_name : (o : Opening) (vs : List VariableDef) (n : List ℕ) (src : Source) → next_word src ≡ Some n
-      → going size (dollar o vs) src ≡ going size (variable_named (record { opening = o; before = vs; name = n })) (behind src)
+      → run_on size (dollar o vs) src ≡ run_on size (variable_named (record { opening = o; before = vs; name = n })) (behind src)
   variable_name o vs n src w = takes_name size (dollar o vs) (variable_named (record { opening = o; before = vs; name = n })) n src w refl
 
-  pub variable_name_missed : (o : Opening) (vs : List VariableDef) (src : Source) → next_word src ≡ None → going size (dollar o vs) src ≡ Err (stopped_at size src)
+  pub variable_name_missed : (o : Opening) (vs : List VariableDef) (src : Source) → next_word src ≡ None → run_on size (dollar o vs) src ≡ Err (stopped_at size src)
   variable_name_missed o vs src w = wants_name size (dollar o vs) src refl on w
     where
       on : (t : Tok) → next.word_of t ≡ None → advance nesting_limit (dollar o vs) t ≡ Err unexpected
       on (tok.name n) e = cc
       on t e = refl
 
-  pub variable_colon : (v : VariableName) (src : Source) → next_is 58 src ≡ true → going size (variable_named v) src ≡ going size (in_type (want_type nesting_limit (whole v))) (behind src)
+  pub variable_colon : (v : VariableName) (src : Source) → next_is 58 src ≡ true → run_on size (variable_named v) src ≡ run_on size (in_type (want_type nesting_limit (whole v))) (behind src)
   variable_colon v src e = takes size (variable_named v) (in_type (want_type nesting_limit (whole v))) tok.colon src (at_comes 58 tok.colon src colon_at e) refl
 
-  pub variable_colon_missed : (v : VariableName) (src : Source) → next_is 58 src ≡ false → going size (variable_named v) src ≡ Err (stopped_at size src)
+  pub variable_colon_missed : (v : VariableName) (src : Source) → next_is 58 src ≡ false → run_on size (variable_named v) src ≡ Err (stopped_at size src)
   variable_colon_missed v src e = wants_at size 58 (variable_named v) src refl on e
     where
       on : (t : Tok) → is_at 58 t ≡ false → advance nesting_limit (variable_named v) t ≡ Err unexpected
       on tok.colon e = cc
       on t e = refl
 
-  typed_ends : (v : Typed) (src : Source) → next_is 61 src ≡ false → going size (typed v) src ≡ going size (in_directives (further true [] (on_variable v None))) src
+  typed_ends : (v : Typed) (src : Source) → next_is 61 src ≡ false → run_on size (typed v) src ≡ run_on size (in_directives (further true [] (on_variable v None))) src
   typed_ends v src e = alike size _ _ src refl (λ t c. on t (comes_at 61 false src t e c))
     where
       on : (t : Tok) → is_at 61 t ≡ false → advance nesting_limit (typed v) t ≡ advance nesting_limit (in_directives (further true [] (on_variable v None))) t
       on tok.equals e = cc
       on t e = refl
 
-  default_begins : (v : Typed) (src : Source) → next_is 61 src ≡ true → going size (typed v) src ≡ going size (in_value (want true nesting_limit (outer v))) (behind src)
+  default_begins : (v : Typed) (src : Source) → next_is 61 src ≡ true → run_on size (typed v) src ≡ run_on size (in_value (want true nesting_limit (outer v))) (behind src)
   default_begins v src e = takes size (typed v) (in_value (want true nesting_limit (outer v))) tok.equals src (at_comes 61 tok.equals src equals_at e) refl
 
   default_is : (v : Typed) (x : Val) (d : Option ValueTree) → Some x ≡ option_map value_of d → with_default v x ≡ in_directives (further true [] (on_variable v d))
@@ -106,14 +106,14 @@ module _ (size : ℕ) where
       ap (λ z. with_default v z) same ∙ ap (λ z. in_directives (further true [] (on_variable v (Some z)))) (value_tree-value_of y)
 
   default_ok : (v : Typed) (src : Source) (d : Option ValueTree) (rest : Source) → default_read size src ≡ Ok (option_map value_of d, rest)
-      → going size (typed v) src ≡ going size (in_directives (further true [] (on_variable v d))) rest
+      → run_on size (typed v) src ≡ run_on size (in_directives (further true [] (on_variable v d))) rest
   default_ok v src d rest e = by (next_is 61 src) refl e
     where
       read : (r : Result (Val × Source) Stopped) → value_read true nesting_limit size (behind src) ≡ r → as_default r ≡ Ok (option_map value_of d, rest)
-          → going size (in_value (want true nesting_limit (outer v))) (behind src) ≡ going size (in_directives (further true [] (on_variable v d))) rest
+          → run_on size (in_value (want true nesting_limit (outer v))) (behind src) ≡ run_on size (in_directives (further true [] (on_variable v d))) rest
       read (Ok r) a e =
           let same = ok_parts (Some r.0) (option_map value_of d) r.1 rest e in
-          value_ok size v (behind src) r.0 r.1 a ∙ ap (λ x. going size x r.1) (default_is v r.0 d same.0) ∙ ap (λ s. going size (in_directives (further true [] (on_variable v d))) s) same.1
+          value_ok size v (behind src) r.0 r.1 a ∙ ap (λ x. run_on size x r.1) (default_is v r.0 d same.0) ∙ ap (λ s. run_on size (in_directives (further true [] (on_variable v d))) s) same.1
       read (Err s) a e = cc
 
       none : (d : Option ValueTree) → None ≡ option_map value_of d → None ≡ d
@@ -121,25 +121,25 @@ module _ (size : ℕ) where
       none (Some y) e = cc
 
       by : (b : Bool) → next_is 61 src ≡ b → cond b (as_default (value_read true nesting_limit size (behind src))) (Ok (None, src)) ≡ Ok (option_map value_of d, rest)
-          → going size (typed v) src ≡ going size (in_directives (further true [] (on_variable v d))) rest
+          → run_on size (typed v) src ≡ run_on size (in_directives (further true [] (on_variable v d))) rest
       by true a e = default_begins v src a ∙ read (value_read true nesting_limit size (behind src)) refl e
       by false a e =
           let same = ok_parts None (option_map value_of d) src rest e in
-          typed_ends v src a ∙ ap (λ y. going size (in_directives (further true [] (on_variable v y))) src) (none d same.0) ∙ ap (λ s. going size (in_directives (further true [] (on_variable v d))) s) same.1
+          typed_ends v src a ∙ ap (λ y. run_on size (in_directives (further true [] (on_variable v y))) src) (none d same.0) ∙ ap (λ s. run_on size (in_directives (further true [] (on_variable v d))) s) same.1
 
-  default_err : (v : Typed) (src : Source) (s : Stopped) → default_read size src ≡ Err s → going size (typed v) src ≡ Err s
+  default_err : (v : Typed) (src : Source) (s : Stopped) → default_read size src ≡ Err s → run_on size (typed v) src ≡ Err s
   default_err v src s e = by (next_is 61 src) refl e
     where
-      read : (r : Result (Val × Source) Stopped) → value_read true nesting_limit size (behind src) ≡ r → as_default r ≡ Err s → going size (in_value (want true nesting_limit (outer v))) (behind src) ≡ Err s
+      read : (r : Result (Val × Source) Stopped) → value_read true nesting_limit size (behind src) ≡ r → as_default r ≡ Err s → run_on size (in_value (want true nesting_limit (outer v))) (behind src) ≡ Err s
       read (Ok r) a e = cc
       read (Err x) a e = let same : x ≡ s = cc in value_err size v (behind src) x a ∙ ap (λ z. Err z) same
 
-      by : (b : Bool) → next_is 61 src ≡ b → cond b (as_default (value_read true nesting_limit size (behind src))) (Ok (None, src)) ≡ Err s → going size (typed v) src ≡ Err s
+      by : (b : Bool) → next_is 61 src ≡ b → cond b (as_default (value_read true nesting_limit size (behind src))) (Ok (None, src)) ≡ Err s → run_on size (typed v) src ≡ Err s
       by true a e = default_begins v src a ∙ read (value_read true nesting_limit size (behind src)) refl e
       by false a e = cc
 
   pub variable_ends : (v : Typed) (d : Option ValueTree) (ds : List Directive) (src : Source) → next_is 64 src ≡ false
-      → going size (in_directives (further true ds (on_variable v d))) src ≡ going size (variables v.variable.opening (variables_with v d ds)) src
+      → run_on size (in_directives (further true ds (on_variable v d))) src ≡ run_on size (variables v.variable.opening (variables_with v d ds)) src
   variable_ends v d ds src a = alike size _ _ src refl (λ t c. on t (comes_at 64 false src t a c))
     where
       on : (t : Tok) → is_at 64 t ≡ false → advance nesting_limit (in_directives (further true ds (on_variable v d))) t ≡ advance nesting_limit (variables v.variable.opening (variables_with v d ds)) t
@@ -147,23 +147,23 @@ module _ (size : ℕ) where
       on t a = refl
 
   pub variable_whole : (o : Opening) (vs : List VariableDef) (v : VariableDef) (src : Source)
-      → going size (variables o (variables_with (record { variable = record { opening = o; before = vs; name = v.name }; of = ty_of v.of }) v.default v.directives)) src ≡ going size (variables o (vs ++ v ∷ [])) src
-  variable_whole o vs v src = ap (λ t. going size (variables o (vs ++ record { name = v.name; of = t; default = v.default; directives = v.directives } ∷ [])) src) (type_tree-ty_of v.of)
+      → run_on size (variables o (variables_with (record { variable = record { opening = o; before = vs; name = v.name }; of = ty_of v.of }) v.default v.directives)) src ≡ run_on size (variables o (vs ++ v ∷ [])) src
+  variable_whole o vs v src = ap (λ t. run_on size (variables o (vs ++ record { name = v.name; of = t; default = v.default; directives = v.directives } ∷ [])) src) (type_tree-ty_of v.of)
 
   close_variables : (o : Opening) (vs : List VariableDef) (v : VariableDef) → advance nesting_limit (variables o (vs ++ v ∷ [])) tok.close_paren ≡ Ok (in_directives (further false [] (on_operation o (vs ++ v ∷ []))))
   close_variables o [] v = refl
   close_variables o (w ∷ vs) v = refl
 
   pub variables_close : (o : Opening) (vs : List VariableDef) (v : VariableDef) (src : Source) → next_is 41 src ≡ true
-      → going size (variables o (vs ++ v ∷ [])) src ≡ going size (in_directives (further false [] (on_operation o (vs ++ v ∷ [])))) (behind src)
+      → run_on size (variables o (vs ++ v ∷ [])) src ≡ run_on size (in_directives (further false [] (on_operation o (vs ++ v ∷ [])))) (behind src)
   variables_close o vs v src e = takes size _ _ tok.close_paren src (at_comes 41 tok.close_paren src close_paren_at e) (close_variables o vs v)
 
   -- ---- definitions
 
-  pub bare_opens : (ws : List Written) (src : Source) → next_is 123 src ≡ true → going size (between ws) src ≡ opening size nesting_limit (of_bare ws) src
+  pub bare_opens : (ws : List Written) (src : Source) → next_is 123 src ≡ true → run_on size (between ws) src ≡ opening size nesting_limit (of_bare ws) src
   bare_opens ws src e = opens_there size (between ws) nesting_limit (of_bare ws) src refl e
 
-  pub kind_begins : (ws : List Written) (n : List ℕ) (k : Kind) (src : Source) → next_word src ≡ Some n → n ≡ kind_word k → going size (between ws) src ≡ going size (kinded ws k) (behind src)
+  pub kind_begins : (ws : List Written) (n : List ℕ) (k : Kind) (src : Source) → next_word src ≡ Some n → n ≡ kind_word k → run_on size (between ws) src ≡ run_on size (kinded ws k) (behind src)
   kind_begins ws n k src w e = takes_name size (between ws) (kinded ws k) n src w (ap (λ m. begun ws (word_of m)) e ∙ known k)
     where
       known : (k : Kind) → begun ws (word_of (kind_word k)) ≡ Ok (kinded ws k)
@@ -171,23 +171,23 @@ module _ (size : ℕ) where
       known Mutation = refl
       known Subscription = refl
 
-  pub fragment_begins : (ws : List Written) (n : List ℕ) (src : Source) → next_word src ≡ Some n → bytes_eq n fragment_word ≡ true → going size (between ws) src ≡ going size (fragment_begun ws) (behind src)
+  pub fragment_begins : (ws : List Written) (n : List ℕ) (src : Source) → next_word src ≡ Some n → bytes_eq n fragment_word ≡ true → run_on size (between ws) src ≡ run_on size (fragment_begun ws) (behind src)
   fragment_begins ws n src w e = takes_name size (between ws) (fragment_begun ws) n src w (rw e refl)
 
   no_definition : (n : List ℕ) → bytes_eq n fragment_word ≡ false → ((k : Kind) → n ≡ kind_word k → ⊥) → word_of n ≡ other
   no_definition n f h = rw (f, no_bytes n (kind_word Query) (h Query), no_bytes n (kind_word Mutation) (h Mutation), no_bytes n (kind_word Subscription) (h Subscription)) refl
 
   -- no definition begins there, and the text ends there only where none was read
-  unread : (ws : List Written) (src : Source) → (src ≡ ended → ws ≡ []) → ((t : Tok) → Comes src t → advance nesting_limit (between ws) t ≡ Err unexpected) → going size (between ws) src ≡ Err (stopped_at size src)
+  unread : (ws : List Written) (src : Source) → (src ≡ ended → ws ≡ []) → ((t : Tok) → Comes src t → advance nesting_limit (between ws) t ≡ Err unexpected) → run_on size (between ws) src ≡ Err (stopped_at size src)
   unread [] src e h = refuses size (between []) src refl h
   unread (w ∷ ws) ended e h = let none : w ∷ ws ≡ [] = e refl in cc
   unread (w ∷ ws) (faulty code at) e h = refl
   unread (w ∷ ws) (token p rest) e h = refuses_token (h (tok_of_piece p) refl)
     where
-      refuses_token : advance nesting_limit (between (w ∷ ws)) (tok_of_piece p) ≡ Err unexpected → going size (between (w ∷ ws)) (token p rest) ≡ Err (stopped_at size (token p rest))
+      refuses_token : advance nesting_limit (between (w ∷ ws)) (tok_of_piece p) ≡ Err unexpected → run_on size (between (w ∷ ws)) (token p rest) ≡ Err (stopped_at size (token p rest))
       refuses_token e = ap (λ r. Rattle.gql_parse.proofs.Courses.taken size p rest r) e
 
-  pub definition_missed : (ws : List Written) (src : Source) → (src ≡ ended → ws ≡ []) → next_is 123 src ≡ false → next_word src ≡ None → going size (between ws) src ≡ Err (stopped_at size src)
+  pub definition_missed : (ws : List Written) (src : Source) → (src ≡ ended → ws ≡ []) → next_is 123 src ≡ false → next_word src ≡ None → run_on size (between ws) src ≡ Err (stopped_at size src)
   definition_missed ws src e a w = unread ws src e (λ t c. on t (comes_at 123 false src t a c) (comes_word None src t w c))
     where
       on : (t : Tok) → is_at 123 t ≡ false → next.word_of t ≡ None → advance nesting_limit (between ws) t ≡ Err unexpected
@@ -196,25 +196,25 @@ module _ (size : ℕ) where
       on t a w = refl
 
   pub definition_unknown : (ws : List Written) (n : List ℕ) (src : Source) → (src ≡ ended → ws ≡ []) → next_word src ≡ Some n → bytes_eq n fragment_word ≡ false → ((k : Kind) → n ≡ kind_word k → ⊥)
-      → going size (between ws) src ≡ Err (stopped_at size src)
+      → run_on size (between ws) src ≡ Err (stopped_at size src)
   definition_unknown ws n src e w f h = unread ws src e (λ t c. on t (comes_word (Some n) src t w c))
     where
       on : (t : Tok) → next.word_of t ≡ Some n → advance nesting_limit (between ws) t ≡ Err unexpected
       on (tok.name m) w = let same : m ≡ n = cc in ap (λ x. begun ws (word_of x)) same ∙ ap (λ x. begun ws x) (no_definition n f h)
       on t w = cc
 
-  pub kinded_ends : (ws : List Written) (k : Kind) (src : Source) → next_word src ≡ None → going size (kinded ws k) src ≡ going size (called (record { before = ws; kind = k; name = None })) src
+  pub kinded_ends : (ws : List Written) (k : Kind) (src : Source) → next_word src ≡ None → run_on size (kinded ws k) src ≡ run_on size (called (record { before = ws; kind = k; name = None })) src
   kinded_ends ws k src e = alike size _ _ src refl (λ t c. on t (comes_word None src t e c))
     where
       on : (t : Tok) → next.word_of t ≡ None → advance nesting_limit (kinded ws k) t ≡ advance nesting_limit (called (record { before = ws; kind = k; name = None })) t
       on (tok.name n) e = cc
       on t e = refl
 
-  pub kinded_named : (ws : List Written) (k : Kind) (n : List ℕ) (src : Source) → next_word src ≡ Some n → going size (kinded ws k) src ≡ going size (called (record { before = ws; kind = k; name = Some n })) (behind src)
+  pub kinded_named : (ws : List Written) (k : Kind) (n : List ℕ) (src : Source) → next_word src ≡ Some n → run_on size (kinded ws k) src ≡ run_on size (called (record { before = ws; kind = k; name = Some n })) (behind src)
   kinded_named ws k n src w = takes_name size (kinded ws k) (called (record { before = ws; kind = k; name = Some n })) n src w refl
 
   pub operation_opens : (o : Opening) (vs : List VariableDef) (ds : List Directive) (src : Source) → next_is 64 src ≡ false
-      → going size (in_directives (further false ds (on_operation o vs))) src ≡ opening size nesting_limit (of_operation o vs ds) src
+      → run_on size (in_directives (further false ds (on_operation o vs))) src ≡ opening size nesting_limit (of_operation o vs ds) src
   operation_opens o vs ds src a = opens size _ nesting_limit (of_operation o vs ds) src refl (λ t c b. on t (comes_at 64 false src t a c) b) refl
     where
       on : (t : Tok) → is_at 64 t ≡ false → is_at 123 t ≡ false → advance nesting_limit (in_directives (further false ds (on_operation o vs))) t ≡ Err unexpected
@@ -223,7 +223,7 @@ module _ (size : ℕ) where
       on t a b = refl
 
   pub fragment_opens : (f : Titled) (ds : List Directive) (src : Source) → next_is 64 src ≡ false
-      → going size (in_directives (further false ds (on_fragment f))) src ≡ opening size nesting_limit (of_fragment f ds) src
+      → run_on size (in_directives (further false ds (on_fragment f))) src ≡ opening size nesting_limit (of_fragment f ds) src
   fragment_opens f ds src a = opens size _ nesting_limit (of_fragment f ds) src refl (λ t c b. on t (comes_at 64 false src t a c) b) refl
     where
       on : (t : Tok) → is_at 64 t ≡ false → is_at 123 t ≡ false → advance nesting_limit (in_directives (further false ds (on_fragment f))) t ≡ Err unexpected
@@ -231,27 +231,27 @@ module _ (size : ℕ) where
       on tok.open_brace a b = cc
       on t a b = refl
 
-  pub fragment_named_so : (ws : List Written) (n : List ℕ) (src : Source) → next_word src ≡ Some n → bytes_eq n on_word ≡ false → going size (fragment_begun ws) src ≡ going size (fragment_named ws n) (behind src)
+  pub fragment_named_so : (ws : List Written) (n : List ℕ) (src : Source) → next_word src ≡ Some n → bytes_eq n on_word ≡ false → run_on size (fragment_begun ws) src ≡ run_on size (fragment_named ws n) (behind src)
   fragment_named_so ws n src w e = takes_name size (fragment_begun ws) (fragment_named ws n) n src w (ap (λ b. fragment_name ws n b) e)
 
-  pub fragment_named_on : (ws : List Written) (n : List ℕ) (src : Source) → next_word src ≡ Some n → bytes_eq n on_word ≡ true → going size (fragment_begun ws) src ≡ Err (stopped_at size src)
+  pub fragment_named_on : (ws : List Written) (n : List ℕ) (src : Source) → next_word src ≡ Some n → bytes_eq n on_word ≡ true → run_on size (fragment_begun ws) src ≡ Err (stopped_at size src)
   fragment_named_on ws n src w e = refuses size (fragment_begun ws) src refl (λ t c. on t (comes_word (Some n) src t w c))
     where
       on : (t : Tok) → next.word_of t ≡ Some n → advance nesting_limit (fragment_begun ws) t ≡ Err unexpected
       on (tok.name m) w = let same : m ≡ n = cc in ap (λ x. fragment_name ws x (bytes_eq x on_word)) same ∙ ap (λ b. fragment_name ws n b) e
       on t w = cc
 
-  pub fragment_name_missed : (ws : List Written) (src : Source) → next_word src ≡ None → going size (fragment_begun ws) src ≡ Err (stopped_at size src)
+  pub fragment_name_missed : (ws : List Written) (src : Source) → next_word src ≡ None → run_on size (fragment_begun ws) src ≡ Err (stopped_at size src)
   fragment_name_missed ws src w = wants_name size (fragment_begun ws) src refl on w
     where
       on : (t : Tok) → next.word_of t ≡ None → advance nesting_limit (fragment_begun ws) t ≡ Err unexpected
       on (tok.name n) e = cc
       on t e = refl
 
-  pub fragment_conditioned : (ws : List Written) (n : List ℕ) (src : Source) → next_word src ≡ Some on_word → going size (fragment_named ws n) src ≡ going size (fragment_on ws n) (behind src)
+  pub fragment_conditioned : (ws : List Written) (n : List ℕ) (src : Source) → next_word src ≡ Some on_word → run_on size (fragment_named ws n) src ≡ run_on size (fragment_on ws n) (behind src)
   fragment_conditioned ws n src w = takes_name size (fragment_named ws n) (fragment_on ws n) on_word src w refl
 
-  pub fragment_condition_missed : (ws : List Written) (n : List ℕ) (src : Source) → (next_word src ≡ Some on_word → ⊥) → going size (fragment_named ws n) src ≡ Err (stopped_at size src)
+  pub fragment_condition_missed : (ws : List Written) (n : List ℕ) (src : Source) → (next_word src ≡ Some on_word → ⊥) → run_on size (fragment_named ws n) src ≡ Err (stopped_at size src)
   fragment_condition_missed ws n src h = refuses size (fragment_named ws n) src refl (λ t c. on t c)
     where
       words : (src : Source) (m : List ℕ) → Comes src (tok.name m) → next_word src ≡ Some m
@@ -264,10 +264,10 @@ module _ (size : ℕ) where
       on t c = refl
 
   pub fragment_type : (ws : List Written) (n m : List ℕ) (src : Source) → next_word src ≡ Some m
-      → going size (fragment_on ws n) src ≡ going size (in_directives (further false [] (on_fragment (record { before = ws; name = n; on = m })))) (behind src)
+      → run_on size (fragment_on ws n) src ≡ run_on size (in_directives (further false [] (on_fragment (record { before = ws; name = n; on = m })))) (behind src)
   fragment_type ws n m src w = takes_name size (fragment_on ws n) (in_directives (further false [] (on_fragment (record { before = ws; name = n; on = m })))) m src w refl
 
-  pub fragment_type_missed : (ws : List Written) (n : List ℕ) (src : Source) → next_word src ≡ None → going size (fragment_on ws n) src ≡ Err (stopped_at size src)
+  pub fragment_type_missed : (ws : List Written) (n : List ℕ) (src : Source) → next_word src ≡ None → run_on size (fragment_on ws n) src ≡ Err (stopped_at size src)
   fragment_type_missed ws n src w = wants_name size (fragment_on ws n) src refl on w
     where
       on : (t : Tok) → next.word_of t ≡ None → advance nesting_limit (fragment_on ws n) t ≡ Err unexpected
@@ -277,18 +277,18 @@ module _ (size : ℕ) where
 -- ---- what readers answer, where the size is told of a later text that is the same
 
 pub type_goes : (m n : ℕ) (v : VariableName) (src : Source) (t : Ty) (rest : Source) → m ≡ n → type_read nesting_limit m src ≡ Ok (t, rest)
-    → going n (in_type (want_type nesting_limit (whole v))) src ≡ going n (typed (record { variable = v; of = t })) rest
+    → run_on n (in_type (want_type nesting_limit (whole v))) src ≡ run_on n (typed (record { variable = v; of = t })) rest
 type_goes m n v src t rest e h = type_ok n v src t rest (subst (λ k. type_read nesting_limit k src ≡ Ok (t, rest)) e h)
 
-pub type_tells : (m n : ℕ) (v : VariableName) (src : Source) (x : Fault) → m ≡ n → Tells x (type_read nesting_limit m src) → Tells x (going n (in_type (want_type nesting_limit (whole v))) src)
-type_tells m n v src x e h = tells-moves x (going n (in_type (want_type nesting_limit (whole v))) src) (type_read nesting_limit n src) (type_err n v src) (subst (λ k. Tells x (type_read nesting_limit k src)) e h)
+pub type_tells : (m n : ℕ) (v : VariableName) (src : Source) (x : Fault) → m ≡ n → Tells x (type_read nesting_limit m src) → Tells x (run_on n (in_type (want_type nesting_limit (whole v))) src)
+type_tells m n v src x e h = tells-moves x (run_on n (in_type (want_type nesting_limit (whole v))) src) (type_read nesting_limit n src) (type_err n v src) (subst (λ k. Tells x (type_read nesting_limit k src)) e h)
 
 pub default_goes : (m n : ℕ) (v : Typed) (src : Source) (d : Option ValueTree) (rest : Source) → m ≡ n → default_read m src ≡ Ok (option_map value_of d, rest)
-    → going n (typed v) src ≡ going n (in_directives (further true [] (on_variable v d))) rest
+    → run_on n (typed v) src ≡ run_on n (in_directives (further true [] (on_variable v d))) rest
 default_goes m n v src d rest e h = default_ok n v src d rest (subst (λ k. default_read k src ≡ Ok (option_map value_of d, rest)) e h)
 
-pub default_tells : (m n : ℕ) (v : Typed) (src : Source) (x : Fault) → m ≡ n → Tells x (default_read m src) → Tells x (going n (typed v) src)
-default_tells m n v src x e h = tells-moves x (going n (typed v) src) (default_read n src) (default_err n v src) (subst (λ k. Tells x (default_read k src)) e h)
+pub default_tells : (m n : ℕ) (v : Typed) (src : Source) (x : Fault) → m ≡ n → Tells x (default_read m src) → Tells x (run_on n (typed v) src)
+default_tells m n v src x e h = tells-moves x (run_on n (typed v) src) (default_read n src) (default_err n v src) (subst (λ k. Tells x (default_read k src)) e h)
 
 -- variables with their parentheses, where one comes behind the others
 pub variables_part : {X : Type 0} (mark : Mark X) (ws vs : List VariableDef) (v : VariableDef) (ns : List X) → ws ≡ vs ++ v ∷ []

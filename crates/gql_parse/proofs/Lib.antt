@@ -1,3 +1,4 @@
+pub mod Shapes
 pub mod Fronts
 pub mod Standing
 pub mod Steps
@@ -11,3 +12,4 @@ pub mod Heads
 pub mod SoFar
 pub mod Whole
 mod Rows
+pub mod NodeCounts

@@ -8,10 +8,11 @@ use Rattle.gql_ast.specs.declared.document.Definition.TheVariants as D
 use Rattle.gql_ast.specs.declared.document.Fragment.{Fragment}
 use Rattle.gql_ast.specs.declared.document.Operation.{Operation}
 use Rattle.gql_ast.specs.declared.variable.VariableDef.{VariableDef}
-use Rattle.gql_parse.specs.Documents.{Written, bare, full, documents, braced, spell_name, spell_on, spell_selections, spell_set, spell_optional_name, spell_variables, spell_variables_part, spell_operation, spell_fragment, spell_definition, spell_definitions, fragment_word}
+use Rattle.gql_parse.specs.Documents.{Written, bare, full, documents, spell_braces, spell_name, spell_on, spell_selections, spell_set, spell_optional_name, spell_variables, spell_variables_part, spell_operation, spell_fragment, spell_definition, spell_definitions, fragment_word}
 use Rattle.gql_parse.specs.Machine.{State, between, finish}
 use Rattle.gql_parse.proofs.Complete.{definitions_first}
 use Rattle.gql_parse.proofs.Fronts.{definitions_front}
+use Rattle.gql_parse.proofs.Shapes.{document_forms}
 use Rattle.gql_parse.proofs.Standing.{document_machine, Seated}
 use Rattle.gql_syntax.proofs.Laws.{Leveled, Written as WrittenSo}
 use Rattle.gql_syntax.proofs.Marks.{mapped, map-arguments, map-directives, map-type, map-default}
@@ -32,7 +33,7 @@ module _ {X Y : Type 0} (f : X → Y) (mark : Mark X) where
 
   -- what is written inside is mapped alike
   map-braced : (s : Sels) (level : ℕ) (inside : List X → List X) (to : List Y → List Y) (ts : List X) → ((ts : List X) → map f (inside ts) ≡ to (map f ts))
-      → map f (braced mark s level inside ts) ≡ braced (mapped f mark) s level to (map f ts)
+      → map f (spell_braces mark s level inside ts) ≡ spell_braces (mapped f mark) s level to (map f ts)
   map-braced end level inside to ts h = refl
   map-braced (field a n xs ds s rest) level inside to ts h = ap (λ r. f (mark tok.open_brace level 0) ∷ r) (h (mark tok.close_brace 0 0 ∷ ts))
   map-braced (spread n ds rest) level inside to ts h = ap (λ r. f (mark tok.open_brace level 0) ∷ r) (h (mark tok.close_brace 0 0 ∷ ts))
@@ -42,7 +43,7 @@ module _ {X Y : Type 0} (f : X → Y) (mark : Mark X) where
   map-selections end level ts = refl
   map-selections (field a n xs ds s rest) level ts =
       let behind = spell_selections mark rest level ts in
-      let body = braced mark s (level + 1) (spell_selections mark s (level + 1)) behind in
+      let body = spell_braces mark s (level + 1) (spell_selections mark s (level + 1)) behind in
       map-name a n (spell_arguments mark xs (spell_directives mark ds body))
       ∙ ap (λ r. spell_name (mapped f mark) a n r)
       (map-arguments f mark xs (spell_directives mark ds body)
@@ -50,20 +51,20 @@ module _ {X Y : Type 0} (f : X → Y) (mark : Mark X) where
       (map-directives f mark ds body
       ∙ ap (λ r. spell_directives (mapped f mark) ds r)
       (map-braced s (level + 1) (spell_selections mark s (level + 1)) (spell_selections (mapped f mark) s (level + 1)) behind (map-selections s (level + 1))
-      ∙ ap (λ r. braced (mapped f mark) s (level + 1) (spell_selections (mapped f mark) s (level + 1)) r) (map-selections rest level ts))))
+      ∙ ap (λ r. spell_braces (mapped f mark) s (level + 1) (spell_selections (mapped f mark) s (level + 1)) r) (map-selections rest level ts))))
   map-selections (spread n ds rest) level ts =
       ap (λ r. f (mark tok.spread 0 1) ∷ f (mark (tok.name n) 0 1) ∷ r)
       (map-directives f mark ds (spell_selections mark rest level ts) ∙ ap (λ r. spell_directives (mapped f mark) ds r) (map-selections rest level ts))
   map-selections (inline o ds s rest) level ts =
       let behind = spell_selections mark rest level ts in
-      let body = braced mark s (level + 1) (spell_selections mark s (level + 1)) behind in
+      let body = spell_braces mark s (level + 1) (spell_selections mark s (level + 1)) behind in
       ap (λ r. f (mark tok.spread 0 1) ∷ r)
       (map-on o (spell_directives mark ds body)
       ∙ ap (λ r. spell_on (mapped f mark) o r)
       (map-directives f mark ds body
       ∙ ap (λ r. spell_directives (mapped f mark) ds r)
       (map-braced s (level + 1) (spell_selections mark s (level + 1)) (spell_selections (mapped f mark) s (level + 1)) behind (map-selections s (level + 1))
-      ∙ ap (λ r. braced (mapped f mark) s (level + 1) (spell_selections (mapped f mark) s (level + 1)) r) (map-selections rest level ts))))
+      ∙ ap (λ r. spell_braces (mapped f mark) s (level + 1) (spell_selections (mapped f mark) s (level + 1)) r) (map-selections rest level ts))))
 
   map-set : (s : Sels) (ts : List X) → map f (spell_set mark s ts) ≡ spell_set (mapped f mark) s (map f ts)
   map-set s ts = map-braced s 1 (spell_selections mark s 1) (spell_selections (mapped f mark) s 1) ts (map-selections s 1)
@@ -102,7 +103,7 @@ module _ {X Y : Type 0} (f : X → Y) (mark : Mark X) where
       ap (λ r. f (mark (tok.name fragment_word) 0 (n + 2)) ∷ f (mark (tok.name d.name) 0 1) ∷ f (mark (tok.name on_word) 0 0) ∷ f (mark (tok.name d.on) 0 1) ∷ r)
       (map-directives f mark d.directives (spell_set mark d.selections ts) ∙ ap (λ r. spell_directives (mapped f mark) d.directives r) (map-set d.selections ts))
 
-  map-definition : (n : ℕ) (w : Written) (ts : List X) → map f (spell_definition mark n w ts) ≡ spell_definition (mapped f mark) n w (map f ts)
+  pub map-definition : (n : ℕ) (w : Written) (ts : List X) → map f (spell_definition mark n w ts) ≡ spell_definition (mapped f mark) n w (map f ts)
   map-definition n (bare s) ts = ap (λ r. f (mark tok.open_brace 1 (n + 2)) ∷ r) (map-selections s 1 (mark tok.close_brace 0 0 ∷ ts))
   map-definition n (full (D.Operation o)) ts = map-operation n o ts
   map-definition n (full (D.Fragment d)) ts = map-fragment n d ts
@@ -124,6 +125,6 @@ written limit (between (x ∷ xs)) ws h e = on ws e
         (record {
           tokens = map-definitions (λ (p : Leveled). p.0) (x ∷ xs) ∙ sym (definitions_first token_mark (λ t l n k. refl) (x ∷ xs));
           levels = map-definitions (λ (p : Leveled). p.1) (x ∷ xs) ∙ sym (definitions_first level_mark (λ t l n k. refl) (x ∷ xs));
-          formed = (tt, h);
+          formed = document_forms (x ∷ xs) (tt, h);
         })
 written limit s ws h e = cc

@@ -4,12 +4,13 @@ use Rattle.std.specs.List.{AllByRecursion}
 use Rattle.gql_lex.specs.Toks as tok
 use Rattle.gql_lex.specs.Toks.{Tok}
 use Rattle.gql_ast.specs.declared.variable.VariableDef.{VariableDef}
-use Rattle.gql_parse.specs.Documents.{Written, FormedSelections, FormedVariable, FormedWritten, IsSpreadName, fragment_word}
+use Rattle.gql_parse.specs.Documents.{Written, IsSpreadName, fragment_word}
+use Rattle.gql_parse.proofs.Shapes.{ShapedSelections, ShapedVariable, ShapedWritten}
 use Rattle.gql_parse.specs.Machine.{Opening, VariableName, Typed, Up, of_bare, of_operation, of_fragment, of_field, of_inline, Inside, OpenField, Owner, on_variable, on_operation, on_fragment, on_field, on_spread, on_inline, State, between, kinded, called, variables, dollar, variable_named, in_type, typed, in_value, fragment_begun, fragment_named, fragment_on, set, named, aliased, field_named, dotted, on, in_arguments, in_directives, advance, finish}
 use Rattle.gql_parse.proofs.Fronts.{flat, definitions_front, level_of, set_front, opening_front, variables_front, variable_front, typed_front, field_front, owner_front}
 use Rattle.gql_syntax.proofs.Laws.{Leveled, Machine}
 use Rattle.gql_syntax.proofs.Standing.{Ground, value_so_far, value_level, lift_value, SeatedValue, arguments_so_far, arguments_level, lift_arguments, SeatedArguments, directives_so_far, directives_level, lift_directives, SeatedDirectives, type_so_far, type_level, lift_type, SeatedType}
-use Rattle.gql_syntax.specs.Formed.{FormedArguments, FormedDirectives, FormedDefault, FormedType}
+use Rattle.gql_syntax.proofs.Shapes.{ShapedArguments, ShapedDirectives, ShapedDefault, ShapedType}
 use Rattle.gql_syntax.specs.Words.{on_word, kind_word}
 
 -- the number of a set that the token opens
@@ -34,39 +35,39 @@ owner_level d t = brace_level (owner_brace d) t
 
 -- ---- what holds of the states that are reached
 
-abbrev pub FormedDefinitions : List Written → Type 0
-FormedDefinitions ws = AllByRecursion FormedWritten ws
+abbrev pub ShapedDefinitions : List Written → Type 0
+ShapedDefinitions ws = AllByRecursion ShapedWritten ws
 
-abbrev pub FormedUp : Up → Type 0
-FormedUp (of_bare ws) = FormedDefinitions ws
-FormedUp (of_operation o vs ds) = FormedDefinitions o.before × AllByRecursion FormedVariable vs × FormedDirectives false ds
-FormedUp (of_fragment f ds) = FormedDefinitions f.before × IsSpreadName f.name × FormedDirectives false ds
-FormedUp (of_field b a n xs ds up) = FormedSelections b × FormedArguments false xs × FormedDirectives false ds × FormedUp up
-FormedUp (of_inline b o ds up) = FormedSelections b × FormedDirectives false ds × FormedUp up
+abbrev pub ShapedUp : Up → Type 0
+ShapedUp (of_bare ws) = ShapedDefinitions ws
+ShapedUp (of_operation o vs ds) = ShapedDefinitions o.before × AllByRecursion ShapedVariable vs × ShapedDirectives false ds
+ShapedUp (of_fragment f ds) = ShapedDefinitions f.before × IsSpreadName f.name × ShapedDirectives false ds
+ShapedUp (of_field b a n xs ds up) = ShapedSelections b × ShapedArguments false xs × ShapedDirectives false ds × ShapedUp up
+ShapedUp (of_inline b o ds up) = ShapedSelections b × ShapedDirectives false ds × ShapedUp up
 
 -- as many sets may be opened in the set as are left
 pub record SeatedInside (limit : ℕ) (i : Inside) : Type 0 where
   pub room : i.room + level_of i.up ≡ limit
-  pub formed : FormedSelections i.before
-  pub up : FormedUp i.up
+  pub formed : ShapedSelections i.before
+  pub up : ShapedUp i.up
 
-abbrev pub FormedVariables : Opening → List VariableDef → Type 0
-FormedVariables o vs = FormedDefinitions o.before × AllByRecursion FormedVariable vs
+abbrev pub ShapedVariables : Opening → List VariableDef → Type 0
+ShapedVariables o vs = ShapedDefinitions o.before × AllByRecursion ShapedVariable vs
 
-abbrev pub FormedName : VariableName → Type 0
-FormedName v = FormedVariables v.opening v.before
+abbrev pub ShapedName : VariableName → Type 0
+ShapedName v = ShapedVariables v.opening v.before
 
-abbrev pub FormedTyped : Typed → Type 0
-FormedTyped v = FormedName v.variable × FormedType v.of
+abbrev pub ShapedTyped : Typed → Type 0
+ShapedTyped v = ShapedName v.variable × ShapedType v.of
 
-abbrev pub FormedFragmentName : List Written → List ℕ → Type 0
-FormedFragmentName ws n = FormedDefinitions ws × IsSpreadName n
+abbrev pub ShapedFragmentName : List Written → List ℕ → Type 0
+ShapedFragmentName ws n = ShapedDefinitions ws × IsSpreadName n
 
 abbrev pub SeatedOwner : (limit : ℕ) → Owner → Type 0
-SeatedOwner limit (on_variable v default) = FormedTyped v × FormedDefault default
-SeatedOwner limit (on_operation o vs) = FormedVariables o vs
-SeatedOwner limit (on_fragment f) = FormedFragmentName f.before f.name
-SeatedOwner limit (on_field f xs) = SeatedInside limit f.inside × FormedArguments false xs
+SeatedOwner limit (on_variable v default) = ShapedTyped v × ShapedDefault default
+SeatedOwner limit (on_operation o vs) = ShapedVariables o vs
+SeatedOwner limit (on_fragment f) = ShapedFragmentName f.before f.name
+SeatedOwner limit (on_field f xs) = SeatedInside limit f.inside × ShapedArguments false xs
 SeatedOwner limit (on_spread i n) = SeatedInside limit i × IsSpreadName n
 SeatedOwner limit (on_inline i o) = SeatedInside limit i
 
@@ -98,10 +99,10 @@ lift_owner k (on_inline i o) = on_inline (lift_inside k i) o
 -- ---- what types, defaults, arguments and directives stand on
 
 abbrev pub variable_ground : Ground VariableName
-variable_ground = record { front = variable_front; constant = λ v. true; lift = λ k v. v; Seated = λ limit v. FormedName v }
+variable_ground = record { front = variable_front; constant = λ v. true; lift = λ k v. v; Seated = λ limit v. ShapedName v }
 
 abbrev pub typed_ground : Ground Typed
-typed_ground = record { front = λ v ts. typed_front v (flat tok.equals ∷ ts); constant = λ v. true; lift = λ k v. v; Seated = λ limit v. FormedTyped v }
+typed_ground = record { front = λ v ts. typed_front v (flat tok.equals ∷ ts); constant = λ v. true; lift = λ k v. v; Seated = λ limit v. ShapedTyped v }
 
 abbrev pub field_ground : Ground OpenField
 field_ground = record { front = field_front; constant = λ f. false; lift = lift_field; Seated = λ limit f. SeatedInside limit f.inside }
@@ -147,18 +148,18 @@ level_at (in_directives r) t = directives_level owner_level r t
 level_at s t = 0
 
 abbrev pub Seated : (limit : ℕ) → State → Type 0
-Seated limit (between ws) = FormedDefinitions ws
-Seated limit (kinded ws k) = FormedDefinitions ws
-Seated limit (called o) = FormedDefinitions o.before
-Seated limit (variables o vs) = FormedVariables o vs
-Seated limit (dollar o vs) = FormedVariables o vs
-Seated limit (variable_named v) = FormedName v
+Seated limit (between ws) = ShapedDefinitions ws
+Seated limit (kinded ws k) = ShapedDefinitions ws
+Seated limit (called o) = ShapedDefinitions o.before
+Seated limit (variables o vs) = ShapedVariables o vs
+Seated limit (dollar o vs) = ShapedVariables o vs
+Seated limit (variable_named v) = ShapedName v
 Seated limit (in_type r) = SeatedType variable_ground limit r
-Seated limit (typed v) = FormedTyped v
+Seated limit (typed v) = ShapedTyped v
 Seated limit (in_value r) = SeatedValue typed_ground limit r
-Seated limit (fragment_begun ws) = FormedDefinitions ws
-Seated limit (fragment_named ws n) = FormedFragmentName ws n
-Seated limit (fragment_on ws n) = FormedFragmentName ws n
+Seated limit (fragment_begun ws) = ShapedDefinitions ws
+Seated limit (fragment_named ws n) = ShapedFragmentName ws n
+Seated limit (fragment_on ws n) = ShapedFragmentName ws n
 Seated limit (set i) = SeatedInside limit i
 Seated limit (named i n) = SeatedInside limit i
 Seated limit (aliased i a) = SeatedInside limit i

@@ -6,58 +6,29 @@ use Rattle.std.specs.List.{AllByRecursion}
 use Rattle.gql_lex.specs.Toks as tok
 use Rattle.gql_lex.specs.Toks.{Tok}
 use Rattle.gql_ast.specs.Sels.{Sels, end, field, spread, inline, followed}
-use Rattle.gql_ast.specs.Ty.{Ty}
-use Rattle.gql_ast.specs.Ty as ty
-use Rattle.gql_ast.specs.TypeView.{ty_of}
-use Rattle.gql_ast.specs.Value.{Val, Vals, Members, variable, int, text, truth, null, enum, list, object, no_vals, val, no_members, member, vals_of, members_of}
-use Rattle.gql_ast.specs.ValueView.{value_of}
 use Rattle.gql_ast.specs.declared.directive.Directive.{Directive}
 use Rattle.gql_ast.specs.declared.document.Definition.TheVariants as D
 use Rattle.gql_ast.specs.declared.document.Kind.{Kind}
 use Rattle.gql_ast.specs.declared.document.Kind.TheVariants.{Query, Mutation, Subscription}
 use Rattle.gql_ast.specs.declared.value.ValueTree.{ValueTree}
 use Rattle.gql_ast.specs.declared.variable.VariableDef.{VariableDef}
-use Rattle.gql_parse.specs.Built.{type_tree, value_tree, items_of, pairs_of}
-use Rattle.gql_parse.specs.Documents.{Written, bare, full, braced, spell_selections, spell_operation, spell_fragment, spell_variables, SomeSelection, FormedSelections, FormedVariable, FormedWritten, fragment_word}
+use Rattle.gql_syntax.proofs.BuiltTrees.{value_of-value_tree, ty_of-type_tree}
+use Rattle.gql_parse.specs.Documents.{Written, bare, full, spell_braces, spell_selections, spell_operation, spell_fragment, spell_variables, SomeSelection, fragment_word}
+use Rattle.gql_parse.proofs.Shapes.{ShapedSelections, ShapedVariable, ShapedWritten}
 use Rattle.gql_parse.specs.Machine.{Opening, VariableName, Typed, Up, of_bare, of_operation, of_fragment, of_field, of_inline, Inside, OpenField, Owner, on_variable, on_operation, on_fragment, on_field, on_spread, on_inline, State, between, kinded, called, variables, dollar, variable_named, in_type, typed, in_value, fragment_begun, fragment_named, fragment_on, set, named, aliased, field_named, dotted, on, in_arguments, in_directives, advance, then_selection, open_set, operation_of, fragment_of, close_set, may_close, at_set, at_variables, variable_of, variables_with, field_of, within_field, after_directives, at_directives, at_called, at_kinded, Word, kind, fragment, other, word_of, begun, at_definition, typed_variable, at_typed, after_type, with_default, at_field, at_named, with_arguments, dotted_name, at_dotted, fragment_name, fragment_condition}
 use Rattle.gql_parse.proofs.Fronts.{flat, definitions_front, definitions_front-push, spell_selections-followed, spell_variables-push, level_of, up_front, set_front, opening_front, variables_front, typed_front, field_front, owner_front}
-use Rattle.gql_parse.proofs.Standing.{so_far, brace_level, field_level, owner_level, level_at, FormedDefinitions, FormedUp, SeatedInside, FormedVariables, FormedTyped, FormedFragmentName, SeatedOwner, owner_constant, Seated, variable_ground, typed_ground, field_ground, owner_ground}
+use Rattle.gql_parse.proofs.Standing.{so_far, brace_level, field_level, owner_level, level_at, ShapedDefinitions, ShapedUp, SeatedInside, ShapedVariables, ShapedTyped, ShapedFragmentName, SeatedOwner, owner_constant, Seated, variable_ground, typed_ground, field_ground, owner_ground}
 use Rattle.gql_syntax.proofs.Laws.{Leveled}
 use Rattle.gql_syntax.proofs.ArgumentLaws.{arguments_sounds, arguments_shallows, arguments_seats, arguments_deeps}
 use Rattle.gql_syntax.proofs.DirectiveLaws.{directives_sounds, directives_shallows, directives_seats, directives_deeps}
 use Rattle.gql_syntax.proofs.Standing.{leveled, IfTooDeep}
 use Rattle.gql_syntax.proofs.TypeLaws.{type_sounds, type_shallows, type_seats, type_deeps}
 use Rattle.gql_syntax.proofs.ValueLaws.{value_sounds, value_shallows, value_seats, value_deeps}
-use Rattle.gql_syntax.specs.Formed.{FormedDirectives, FormedDefault, FormedType, FormedValue}
+use Rattle.gql_syntax.proofs.Shapes.{ShapedDirectives, ShapedDefault, ShapedType, ShapedValue}
 use Rattle.gql_syntax.specs.Machine.{Reading, Arguing, Directing, Typing}
 use Rattle.gql_syntax.specs.Run.{Halt, unexpected, too_deep}
 use Rattle.gql_syntax.specs.Spelling.{Mark, spell_directives, spell_type, spell_default, spell_value}
 use Rattle.gql_syntax.specs.Words.{on_word, kind_word}
-
--- ---- what is built reads back
-
-pub vals_of-items_of : (vs : Vals) → vals_of (items_of vs) ≡ vs
-vals_of-items_of no_vals = refl
-vals_of-items_of (val v vs) = ap (λ ws. val v ws) (vals_of-items_of vs)
-
-pub members_of-pairs_of : (ms : Members) → members_of (pairs_of ms) ≡ ms
-members_of-pairs_of no_members = refl
-members_of-pairs_of (member n v ms) = ap (λ ws. member n v ws) (members_of-pairs_of ms)
-
-pub value_of-value_tree : (v : Val) → value_of (value_tree v) ≡ v
-value_of-value_tree (list vs) = ap (λ ws. list ws) (vals_of-items_of vs)
-value_of-value_tree (object ms) = ap (λ ws. object ws) (members_of-pairs_of ms)
-value_of-value_tree (variable n) = refl
-value_of-value_tree (int n) = refl
-value_of-value_tree (text t) = refl
-value_of-value_tree (truth b) = refl
-value_of-value_tree null = refl
-value_of-value_tree (enum n) = refl
-
-pub ty_of-type_tree : (t : Ty) → ty_of (type_tree t) ≡ t
-ty_of-type_tree (ty.named n) = refl
-ty_of-type_tree (ty.list t) = refl
-ty_of-type_tree (ty.non_null t) = refl
 
 -- ---- parts that are formed
 
@@ -65,13 +36,13 @@ pub all-push : {A : Type 0} (P : A → Type 0) (xs : List A) (x : A) → AllByRe
 all-push P [] x h p = (p, tt)
 all-push P (y ∷ ys) x h p = (h.0, all-push P ys x h.1 p)
 
-pub formed-followed : (s t : Sels) → FormedSelections s → FormedSelections t → FormedSelections (followed s t)
-formed-followed end t h k = k
-formed-followed (field a n xs ds s rest) t h k = (h.0, h.1, h.2, formed-followed rest t h.3 k)
-formed-followed (spread n ds rest) t h k = (h.0, h.1, formed-followed rest t h.2 k)
-formed-followed (inline o ds s rest) t h k = (h.0, h.1, h.2, formed-followed rest t h.3 k)
+pub shaped-followed : (s t : Sels) → ShapedSelections s → ShapedSelections t → ShapedSelections (followed s t)
+shaped-followed end t h k = k
+shaped-followed (field a n xs ds s rest) t h k = (h.0, h.1, h.2, shaped-followed rest t h.3 k)
+shaped-followed (spread n ds rest) t h k = (h.0, h.1, shaped-followed rest t h.2 k)
+shaped-followed (inline o ds s rest) t h k = (h.0, h.1, h.2, shaped-followed rest t h.3 k)
 
-pub braced_some : {X : Type 0} (mark : Mark X) (s : Sels) (level : ℕ) (inside : List X → List X) (ts : List X) → SomeSelection s → braced mark s level inside ts ≡ mark tok.open_brace level 0 ∷ inside (mark tok.close_brace 0 0 ∷ ts)
+pub braced_some : {X : Type 0} (mark : Mark X) (s : Sels) (level : ℕ) (inside : List X → List X) (ts : List X) → SomeSelection s → spell_braces mark s level inside ts ≡ mark tok.open_brace level 0 ∷ inside (mark tok.close_brace 0 0 ∷ ts)
 braced_some mark end level inside ts h = absurd h
 braced_some mark (field a n xs ds s rest) level inside ts h = refl
 braced_some mark (spread n ds rest) level inside ts h = refl
@@ -100,7 +71,7 @@ moved limit front to t level (Err too_deep) e h = h
 pub flat_step : (limit : ℕ) (front : List Leveled → List Leveled) (t : Tok) (next : State) → ((ts : List Leveled) → so_far next ts ≡ front ((t, 0) ∷ ts)) → Seated limit next → Takes limit front t 0 next
 flat_step limit front t next e h = record { sound = e; shallow = zero-le; seated = h }
 
-open_set-steps : (limit room : ℕ) (up : Up) → room + level_of up ≡ limit + 1 → FormedUp up → Steps limit (up_front up) tok.open_brace (level_of up) (open_set room up)
+open_set-steps : (limit room : ℕ) (up : Up) → room + level_of up ≡ limit + 1 → ShapedUp up → Steps limit (up_front up) tok.open_brace (level_of up) (open_set room up)
 open_set-steps limit zero up e f = omega (arith, e)
 open_set-steps limit (suc room) up e f = record {
   sound = λ ts. refl;
@@ -108,35 +79,35 @@ open_set-steps limit (suc room) up e f = record {
   seated = record { room = omega (arith, e); formed = tt; up = f };
 }
 
-close_set-takes : (limit room : ℕ) (s : Sels) (up : Up) → SomeSelection s → room + level_of up ≡ limit → FormedSelections s → FormedUp up
+close_set-takes : (limit room : ℕ) (s : Sels) (up : Up) → SomeSelection s → room + level_of up ≡ limit → ShapedSelections s → ShapedUp up
     → Takes limit (λ ts. up_front up ((tok.open_brace, level_of up) ∷ spell_selections leveled s (level_of up) ts)) tok.close_brace 0 (close_set room s up)
-close_set-takes limit room s (of_bare ws) some e h f = flat_step _ _ _ _ (λ ts. definitions_front-push ws (bare s) ts) (all-push FormedWritten ws (bare s) f (some, h))
+close_set-takes limit room s (of_bare ws) some e h f = flat_step _ _ _ _ (λ ts. definitions_front-push ws (bare s) ts) (all-push ShapedWritten ws (bare s) f (some, h))
 close_set-takes limit room s (of_operation o vs ds) some e h f =
     flat_step _ _ _ _
     (λ ts. definitions_front-push o.before (full (D.Operation (operation_of o vs ds s))) ts
     ∙ ap (λ r. definitions_front o.before (spell_operation leveled 0 (operation_of o vs ds end) r)) (braced_some leveled s 1 (spell_selections leveled s 1) ts some))
-    (all-push FormedWritten o.before (full (D.Operation (operation_of o vs ds s))) f.0 (f.1, f.2, (some, h)))
+    (all-push ShapedWritten o.before (full (D.Operation (operation_of o vs ds s))) f.0 (f.1, f.2, (some, h)))
 close_set-takes limit room s (of_fragment t ds) some e h f =
     flat_step _ _ _ _
     (λ ts. definitions_front-push t.before (full (D.Fragment (fragment_of t ds s))) ts
     ∙ ap (λ r. definitions_front t.before (spell_fragment leveled 0 (fragment_of t ds end) r)) (braced_some leveled s 1 (spell_selections leveled s 1) ts some))
-    (all-push FormedWritten t.before (full (D.Fragment (fragment_of t ds s))) f.0 (f.1, f.2, (some, h)))
+    (all-push ShapedWritten t.before (full (D.Fragment (fragment_of t ds s))) f.0 (f.1, f.2, (some, h)))
 close_set-takes limit room s (of_field b a n xs ds up) some e h f =
     flat_step _ _ _ _
     (λ ts. ap (λ r. up_front up ((tok.open_brace, level_of up) ∷ r))
     (spell_selections-followed leveled b (field a n xs ds s end) (level_of up) ts
     ∙ ap (λ r. spell_selections leveled b (level_of up) (spell_selections leveled (field a n xs ds end end) (level_of up) r))
     (braced_some leveled s (level_of up + 1) (spell_selections leveled s (level_of up + 1)) ts some)))
-    (record { room = omega (arith, e); formed = formed-followed b (field a n xs ds s end) f.0 (f.1, f.2, h, tt); up = f.3 })
+    (record { room = omega (arith, e); formed = shaped-followed b (field a n xs ds s end) f.0 (f.1, f.2, h, tt); up = f.3 })
 close_set-takes limit room s (of_inline b o ds up) some e h f =
     flat_step _ _ _ _
     (λ ts. ap (λ r. up_front up ((tok.open_brace, level_of up) ∷ r))
     (spell_selections-followed leveled b (inline o ds s end) (level_of up) ts
     ∙ ap (λ r. spell_selections leveled b (level_of up) (spell_selections leveled (inline o ds end end) (level_of up) r))
     (braced_some leveled s (level_of up + 1) (spell_selections leveled s (level_of up + 1)) ts some)))
-    (record { room = omega (arith, e); formed = formed-followed b (inline o ds s end) f.0 (f.1, some, h, tt); up = f.2 })
+    (record { room = omega (arith, e); formed = shaped-followed b (inline o ds s end) f.0 (f.1, some, h, tt); up = f.2 })
 
-may_close-steps : (limit room : ℕ) (s : Sels) (up : Up) → room + level_of up ≡ limit → FormedSelections s → FormedUp up
+may_close-steps : (limit room : ℕ) (s : Sels) (up : Up) → room + level_of up ≡ limit → ShapedSelections s → ShapedUp up
     → Steps limit (λ ts. up_front up ((tok.open_brace, level_of up) ∷ spell_selections leveled s (level_of up) ts)) tok.close_brace 0 (may_close room s up)
 may_close-steps limit room end up e h f = tt
 may_close-steps limit room (field a n xs ds s rest) up e h f = close_set-takes limit room (field a n xs ds s rest) up tt e h f
@@ -150,19 +121,19 @@ at_set-steps limit i tok.close_brace h = may_close-steps limit i.room i.before i
 at_set-steps limit i t h = tt
 
 -- behind one selection more
-selection-steps : (limit : ℕ) (i : Inside) (s : Sels) (t : Tok) → SeatedInside limit i → FormedSelections s → Steps limit (λ ts. set_front i (spell_selections leveled s (level_of i.up) ts)) t 0 (at_set (then_selection i s) t)
+selection-steps : (limit : ℕ) (i : Inside) (s : Sels) (t : Tok) → SeatedInside limit i → ShapedSelections s → Steps limit (λ ts. set_front i (spell_selections leveled s (level_of i.up) ts)) t 0 (at_set (then_selection i s) t)
 selection-steps limit i s t h f =
     moved limit (set_front (then_selection i s)) _ t 0 (at_set (then_selection i s) t)
     (λ ts. ap (λ r. up_front i.up ((tok.open_brace, level_of i.up) ∷ r)) (spell_selections-followed leveled i.before s (level_of i.up) ts))
-    (at_set-steps limit (then_selection i s) t (record { room = h.room; formed = formed-followed i.before s h.formed f; up = h.up }))
+    (at_set-steps limit (then_selection i s) t (record { room = h.room; formed = shaped-followed i.before s h.formed f; up = h.up }))
 
-at_variables-steps : (limit : ℕ) (o : Opening) (vs : List VariableDef) (t : Tok) → FormedVariables o vs → Steps limit (variables_front o vs) t 0 (at_variables o vs t)
+at_variables-steps : (limit : ℕ) (o : Opening) (vs : List VariableDef) (t : Tok) → ShapedVariables o vs → Steps limit (variables_front o vs) t 0 (at_variables o vs t)
 at_variables-steps limit o vs tok.dollar h = flat_step _ _ _ _ (λ ts. refl) h
 at_variables-steps limit o [] t h = tt
 at_variables-steps limit o (v ∷ vs) tok.close_paren h = flat_step _ _ _ _ (λ ts. refl) (refl, tt, h)
 at_variables-steps limit o (v ∷ vs) t h = tt
 
-after_variable-steps : (limit : ℕ) (v : Typed) (default : Option ValueTree) (ds : List Directive) (t : Tok) → FormedTyped v → FormedDefault default → FormedDirectives true ds
+after_variable-steps : (limit : ℕ) (v : Typed) (default : Option ValueTree) (ds : List Directive) (t : Tok) → ShapedTyped v → ShapedDefault default → ShapedDirectives true ds
     → Steps limit (λ ts. owner_front (on_variable v default) (spell_directives leveled ds ts)) t 0 (at_variables v.variable.opening (variables_with v default ds) t)
 after_variable-steps limit v default ds t h d f =
     moved limit (variables_front v.variable.opening (variables_with v default ds)) _ t 0 (at_variables v.variable.opening (variables_with v default ds) t)
@@ -170,13 +141,13 @@ after_variable-steps limit v default ds t h d f =
     (spell_variables-push leveled v.variable.before (variable_of v default ds ∷ []) ts
     ∙ ap (λ y. spell_variables leveled v.variable.before (flat tok.dollar ∷ flat (tok.name v.variable.name) ∷ flat tok.colon ∷ spell_type leveled y 0 0 (spell_default leveled default (spell_directives leveled ds ts)))) (ty_of-type_tree v.of)))
     (at_variables-steps limit v.variable.opening (variables_with v default ds) t
-    (h.0.0, all-push FormedVariable v.variable.before (variable_of v default ds) h.0.1 (subst FormedType (sym (ty_of-type_tree v.of)) h.1, d, f)))
+    (h.0.0, all-push ShapedVariable v.variable.before (variable_of v default ds) h.0.1 (subst ShapedType (sym (ty_of-type_tree v.of)) h.1, d, f)))
 
 brace_level-none : (t : Tok) → brace_level 0 t ≡ 0
 brace_level-none tok.open_brace = refl
 brace_level-none t = refl
 
-after_directives-steps : (limit : ℕ) (d : Owner) (ds : List Directive) (t : Tok) → SeatedOwner limit d → FormedDirectives (owner_constant d) ds
+after_directives-steps : (limit : ℕ) (d : Owner) (ds : List Directive) (t : Tok) → SeatedOwner limit d → ShapedDirectives (owner_constant d) ds
     → Steps limit (λ ts. owner_front d (spell_directives leveled ds ts)) t (owner_level d t) (after_directives limit d ds t)
 after_directives-steps limit (on_variable v default) ds t h f =
     subst (λ l. Steps limit (λ ts. owner_front (on_variable v default) (spell_directives leveled ds ts)) t l (at_variables v.variable.opening (variables_with v default ds) t)) (sym (brace_level-none t))
@@ -201,11 +172,11 @@ at_directives-steps limit c d t e h = after_directives-steps limit d [] t h tt
 
 -- ---- the layers of the states that end by what follows
 
-at_called-steps : (limit : ℕ) (o : Opening) (t : Tok) → FormedDefinitions o.before → Steps limit (opening_front o) t (brace_level 1 t) (at_called limit o t)
+at_called-steps : (limit : ℕ) (o : Opening) (t : Tok) → ShapedDefinitions o.before → Steps limit (opening_front o) t (brace_level 1 t) (at_called limit o t)
 at_called-steps limit o tok.open_paren h = flat_step _ _ _ _ (λ ts. refl) (h, tt)
 at_called-steps limit o t h = at_directives-steps limit false (on_operation o []) t refl (h, tt)
 
-at_kinded-steps : (limit : ℕ) (ws : List Written) (k : Kind) (t : Tok) → FormedDefinitions ws
+at_kinded-steps : (limit : ℕ) (ws : List Written) (k : Kind) (t : Tok) → ShapedDefinitions ws
     → Steps limit (λ ts. definitions_front ws (flat (tok.name (kind_word k)) ∷ ts)) t (brace_level 1 t) (at_kinded limit ws k t)
 at_kinded-steps limit ws k (tok.name n) h = flat_step _ _ _ _ (λ ts. refl) h
 at_kinded-steps limit ws k t h = at_called-steps limit (record { before = ws; kind = k; name = None }) t h
@@ -215,7 +186,7 @@ same_word : (n w : List ℕ) → bytes_eq n w ≡ true → n ≡ w
 same_word n w e = grind (arith, bytes_eq-Decides n w)
 
 -- what is no Name but one of the words
-word-steps : (limit : ℕ) (ws : List Written) (n : List ℕ) (w : Word) → FormedDefinitions ws → ((k : Kind) → w ≡ kind k → n ≡ kind_word k) → (w ≡ fragment → n ≡ fragment_word)
+word-steps : (limit : ℕ) (ws : List Written) (n : List ℕ) (w : Word) → ShapedDefinitions ws → ((k : Kind) → w ≡ kind k → n ≡ kind_word k) → (w ≡ fragment → n ≡ fragment_word)
     → Steps limit (definitions_front ws) (tok.name n) 0 (begun ws w)
 word-steps limit ws n (kind k) h a b = flat_step _ _ _ _ (λ ts. ap (λ m. definitions_front ws (flat (tok.name m) ∷ ts)) (sym (a k refl))) h
 word-steps limit ws n fragment h a b = flat_step _ _ _ _ (λ ts. ap (λ m. definitions_front ws (flat (tok.name m) ∷ ts)) (sym (b refl))) h
@@ -252,12 +223,12 @@ word_of-fragment n = on (bytes_eq n fragment_word) (bytes_eq n (kind_word Query)
     on false false false true a e = cc
     on false false false false a e = cc
 
-at_definition-steps : (limit : ℕ) (ws : List Written) (t : Tok) → FormedDefinitions ws → Steps limit (definitions_front ws) t (brace_level 1 t) (at_definition limit ws t)
+at_definition-steps : (limit : ℕ) (ws : List Written) (t : Tok) → ShapedDefinitions ws → Steps limit (definitions_front ws) t (brace_level 1 t) (at_definition limit ws t)
 at_definition-steps limit ws (tok.name n) h = word-steps limit ws n (word_of n) h (word_of-kind n) (word_of-fragment n)
 at_definition-steps limit ws tok.open_brace h = open_set-steps limit limit (of_bare ws) refl h
 at_definition-steps limit ws t h = tt
 
-at_typed-steps : (limit : ℕ) (v : Typed) (t : Tok) → FormedTyped v → Steps limit (typed_front v) t 0 (at_typed limit v t)
+at_typed-steps : (limit : ℕ) (v : Typed) (t : Tok) → ShapedTyped v → Steps limit (typed_front v) t 0 (at_typed limit v t)
 at_typed-steps limit v tok.equals h = flat_step _ _ _ _ (λ ts. refl) (add-zero limit, refl, h)
 at_typed-steps limit v tok.open_brace h = at_directives-steps limit true (on_variable v None) tok.open_brace refl (h, tt)
 at_typed-steps limit v t h = at_directives-steps limit true (on_variable v None) t refl (h, tt)
@@ -279,12 +250,12 @@ at_dotted-steps : (limit : ℕ) (i : Inside) (t : Tok) → SeatedInside limit i 
 at_dotted-steps limit i (tok.name n) h = dotted_name-takes limit i n (bytes_eq n on_word) refl h
 at_dotted-steps limit i t h = at_directives-steps limit false (on_inline i None) t refl h
 
-fragment_name-steps : (limit : ℕ) (ws : List Written) (n : List ℕ) (is_on : Bool) → bytes_eq n on_word ≡ is_on → FormedDefinitions ws
+fragment_name-steps : (limit : ℕ) (ws : List Written) (n : List ℕ) (is_on : Bool) → bytes_eq n on_word ≡ is_on → ShapedDefinitions ws
     → Steps limit (λ ts. definitions_front ws (flat (tok.name fragment_word) ∷ ts)) (tok.name n) 0 (fragment_name ws n is_on)
 fragment_name-steps limit ws n true e h = tt
 fragment_name-steps limit ws n false e h = flat_step _ _ _ _ (λ ts. refl) (h, e)
 
-fragment_condition-steps : (limit : ℕ) (ws : List Written) (n m : List ℕ) (is_on : Bool) → bytes_eq m on_word ≡ is_on → FormedFragmentName ws n
+fragment_condition-steps : (limit : ℕ) (ws : List Written) (n m : List ℕ) (is_on : Bool) → bytes_eq m on_word ≡ is_on → ShapedFragmentName ws n
     → Steps limit (λ ts. definitions_front ws (flat (tok.name fragment_word) ∷ flat (tok.name n) ∷ ts)) (tok.name m) 0 (fragment_condition ws n is_on)
 fragment_condition-steps limit ws n m true e h =
     flat_step _ _ _ _ (λ ts. ap (λ w. definitions_front ws (flat (tok.name fragment_word) ∷ flat (tok.name n) ∷ flat (tok.name w) ∷ ts)) (sym (same_word m on_word e))) h
@@ -305,7 +276,7 @@ value-steps limit r t h =
     (λ v d ts. ap (λ y. typed_front v (flat tok.equals ∷ spell_value leveled y 0 ts)) (value_of-value_tree d)) r t)
     (value_shallows typed_ground in_value with_default limit r t h)
     (value_seats typed_ground in_value with_default limit (Seated limit) (λ r h. h)
-    (λ v d h f. (refl, tt, (h, subst (λ y. FormedValue true y) (sym (value_of-value_tree d)) f))) r t h)
+    (λ v d h f. (refl, tt, (h, subst (λ y. ShapedValue true y) (sym (value_of-value_tree d)) f))) r t h)
     (value_deeps typed_ground in_value with_default limit r t h)
 
 arguments-steps : (limit : ℕ) (r : Arguing OpenField) (t : Tok) → Seated limit (in_arguments r) → Steps limit (so_far (in_arguments r)) t (level_at (in_arguments r) t) (advance limit (in_arguments r) t)

@@ -7,7 +7,7 @@ use Rattle.gql_ast.specs.declared.fault.ParseFault.TheVariants as parse
 use Rattle.gql_ast.specs.declared.place.FilePlace.{FilePlace}
 use Rattle.gql_ast.specs.declared.place.Placed.{Placed}
 use Rattle.gql_parse.specs.Documents.{definition_of, documents, nodes_of}
-use Rattle.gql_parse.specs.Going.{Outcome, DocumentRead, going}
+use Rattle.gql_parse.specs.Going.{Outcome, DocumentRead, run_on}
 use Rattle.gql_parse.specs.Machine.{between, advance, finish}
 use Rattle.gql_parse.specs.Trees.{IsDocument}
 use Rattle.gql_syntax.specs.Answers.{Tells, LiesIn, fault_in}
@@ -26,7 +26,7 @@ beginning file text = record { file = file; text = text; source = lexed 0 text; 
 
 -- what is read of the text
 abbrev pub reading : List ℕ → Outcome
-reading text = going (length text) (between []) (lexed 0 text)
+reading text = run_on (length text) (between []) (lexed 0 text)
 
 abbrev pub document_with : List Definition → List FilePlace → Placed Document
 document_with ds places = record { tree = record { definitions = ds }; places = places }
@@ -46,11 +46,11 @@ pub one_document : (file : ℕ) (text : List ℕ) (p q : Placed Document) → Is
 one_document file text p q h k =
     let same : h.written ≡ k.written = one_tree documents document_machine document_laws nodes_of file text h.written k.written p.places q.places h.tree k.tree in
     let definitions : p.tree.definitions ≡ q.tree.definitions = h.definitions ∙ ap (λ ws. map definition_of ws) same ∙ sym k.definitions in
-    let places : p.places ≡ q.places = h.tree.places ∙ ap (λ ws. Rattle.gql_syntax.specs.Places.placed file text [] (nodes_of ws) (lexed 0 text)) same ∙ sym k.tree.places in
+    let places : p.places ≡ q.places = h.tree.places ∙ ap (λ ws. Rattle.gql_syntax.specs.Places.place_nodes file text [] (nodes_of ws) (lexed 0 text)) same ∙ sym k.tree.places in
     λ i. record { tree = record { definitions = definitions i }; places = places i }
 
-pub tells_reading : (file : ℕ) (text : List ℕ) (from : Ahead) (f : Fault) → from ≡ beginning file text → Tells f (going (length from.text) (between []) from.source) → Tells f (reading text)
-tells_reading file text from f e t = subst (λ a. Tells f (going (length a.text) (between []) a.source)) e t
+pub tells_reading : (file : ℕ) (text : List ℕ) (from : Ahead) (f : Fault) → from ≡ beginning file text → Tells f (run_on (length from.text) (between []) from.source) → Tells f (reading text)
+tells_reading file text from f e t = subst (λ a. Tells f (run_on (length a.text) (between []) a.source)) e t
 
 pub fault_in_text : (text : List ℕ) (f : Fault) → IsUtf8 text → Tells f (reading text) → LiesIn text f
 fault_in_text text f u t = fault_lies (advance nesting_limit) finish text u (between []) f t

@@ -1,6 +1,6 @@
 -- How documents are written (GraphQL, October 2021, sections 2.2 to 2.8, 2.10). Each definition gives the tokens of a
 -- tree, and behind them those that are given; `mark` says what is kept of a token, as for values.
-use Rattle.std.specs.Prelude.{◌≡◌, ℕ, ◌+◌, true, false, List, [], ◌∷◌, Option, Some, None, bytes_eq, codes}
+use Rattle.std.specs.Prelude.{◌≡◌, ℕ, ◌+◌, true, false, List, [], ◌∷◌, Option, Some, None, IfSome, bytes_eq, codes}
 use Rattle.std.specs.List.{AllByRecursion}
 use Rattle.gql_lex.specs.Toks as tok
 use Rattle.gql_lex.specs.Toks.{Tok}
@@ -15,7 +15,7 @@ use Rattle.gql_ast.specs.declared.variable.VariableDef.{VariableDef}
 use Rattle.gql_syntax.specs.FirstFault.{Grammar}
 use Rattle.gql_syntax.specs.Formed.{FormedArguments, FormedDirectives, FormedDefault, FormedType}
 use Rattle.gql_syntax.specs.Spelling.{Mark, plain, spell_arguments, spell_directives, spell_type, spell_default}
-use Rattle.gql_syntax.specs.Words.{on_word, kind_word}
+use Rattle.gql_syntax.specs.Words.{on_word, kind_word, IsName}
 
 abbrev pub fragment_word : List ℕ
 fragment_word = codes "fragment"
@@ -33,24 +33,24 @@ spell_on mark None ts = ts
 spell_on mark (Some n) ts = plain mark (tok.name on_word) 0 ∷ plain mark (tok.name n) 1 ∷ ts
 
 -- none, or `{` Selection+ `}`: what is written inside goes before what follows
-abbrev pub braced : {X : Type 0} → Mark X → Sels → (level : ℕ) → (inside : List X → List X) → List X → List X
-braced mark end level inside ts = ts
-braced mark s level inside ts = mark tok.open_brace level 0 ∷ inside (plain mark tok.close_brace 0 ∷ ts)
+abbrev pub spell_braces : {X : Type 0} → Mark X → Sels → (level : ℕ) → (inside : List X → List X) → List X → List X
+spell_braces mark end level inside ts = ts
+spell_braces mark s level inside ts = mark tok.open_brace level 0 ∷ inside (plain mark tok.close_brace 0 ∷ ts)
 
 abbrev pub spell_selections : {X : Type 0} → Mark X → Sels → (level : ℕ) → List X → List X
 spell_selections mark end level ts = ts
 spell_selections mark (field a n xs ds s rest) level ts =
     spell_name mark a n (spell_arguments mark xs (spell_directives mark ds
-    (braced mark s (level + 1) (spell_selections mark s (level + 1)) (spell_selections mark rest level ts))))
+    (spell_braces mark s (level + 1) (spell_selections mark s (level + 1)) (spell_selections mark rest level ts))))
 spell_selections mark (spread n ds rest) level ts =
     plain mark tok.spread 1 ∷ plain mark (tok.name n) 1 ∷ spell_directives mark ds (spell_selections mark rest level ts)
 spell_selections mark (inline o ds s rest) level ts =
     plain mark tok.spread 1 ∷ spell_on mark o (spell_directives mark ds
-    (braced mark s (level + 1) (spell_selections mark s (level + 1)) (spell_selections mark rest level ts)))
+    (spell_braces mark s (level + 1) (spell_selections mark s (level + 1)) (spell_selections mark rest level ts)))
 
 -- the set of an operation or a fragment
 abbrev pub spell_set : {X : Type 0} → Mark X → Sels → List X → List X
-spell_set mark s ts = braced mark s 1 (spell_selections mark s 1) ts
+spell_set mark s ts = spell_braces mark s 1 (spell_selections mark s 1) ts
 
 -- ---- operations and fragments: `first` nodes begin at the first token already
 
@@ -106,9 +106,9 @@ spell_definitions mark first (w ∷ ws) = spell_definition mark first w (spell_d
 abbrev pub spell_document : {X : Type 0} → Mark X → List Written → List X
 spell_document mark ws = spell_definitions mark 1 ws
 
--- ---- which trees are documents
+-- ---- which trees are documents: all names are Names
 
--- a Name but `on`
+-- another word than `on`
 abbrev pub IsSpreadName : List ℕ → Type 0
 IsSpreadName n = bytes_eq n on_word ≡ false
 
@@ -118,19 +118,23 @@ SomeSelection s = Unit {0}
 
 abbrev pub FormedSelections : Sels → Type 0
 FormedSelections end = Unit {0}
-FormedSelections (field a n xs ds s rest) = FormedArguments false xs × FormedDirectives false ds × FormedSelections s × FormedSelections rest
-FormedSelections (spread n ds rest) = IsSpreadName n × FormedDirectives false ds × FormedSelections rest
-FormedSelections (inline o ds s rest) = FormedDirectives false ds × SomeSelection s × FormedSelections s × FormedSelections rest
+FormedSelections (field a n xs ds s rest) =
+    IfSome a IsName × IsName n × FormedArguments false xs × FormedDirectives false ds × FormedSelections s × FormedSelections rest
+FormedSelections (spread n ds rest) = IsName n × IsSpreadName n × FormedDirectives false ds × FormedSelections rest
+FormedSelections (inline o ds s rest) =
+    IfSome o IsName × FormedDirectives false ds × SomeSelection s × FormedSelections s × FormedSelections rest
 
 abbrev pub FormedSet : Sels → Type 0
 FormedSet s = SomeSelection s × FormedSelections s
 
 abbrev pub FormedVariable : VariableDef → Type 0
-FormedVariable v = FormedType (ty_of v.of) × FormedDefault v.default × FormedDirectives true v.directives
+FormedVariable v = IsName v.name × FormedType (ty_of v.of) × FormedDefault v.default × FormedDirectives true v.directives
 
 abbrev pub FormedDefinition : Definition → Type 0
-FormedDefinition (D.Operation o) = AllByRecursion FormedVariable o.variables × FormedDirectives false o.directives × FormedSet o.selections
-FormedDefinition (D.Fragment f) = IsSpreadName f.name × FormedDirectives false f.directives × FormedSet f.selections
+FormedDefinition (D.Operation o) =
+    IfSome o.name IsName × AllByRecursion FormedVariable o.variables × FormedDirectives false o.directives × FormedSet o.selections
+FormedDefinition (D.Fragment f) =
+    IsName f.name × IsSpreadName f.name × IsName f.on × FormedDirectives false f.directives × FormedSet f.selections
 
 abbrev pub FormedWritten : Written → Type 0
 FormedWritten (bare s) = FormedSet s

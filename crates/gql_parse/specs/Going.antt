@@ -9,16 +9,16 @@ use Rattle.gql_parse.specs.Documents.{Written, bare, full, definition_of, spell_
 use Rattle.gql_parse.specs.Machine.{Up, of_bare, of_operation, of_fragment, of_field, of_inline, State, between, set, advance, finish, open_set, operation_of, fragment_of}
 use Rattle.gql_syntax.specs.Answers.{Tells, node_count}
 use Rattle.gql_syntax.specs.Nexts.{is_at}
-use Rattle.gql_syntax.specs.Places.{Ahead, laid}
-use Rattle.gql_syntax.specs.Run.{unexpected, code_of, Stopped, stamped, run_from, run}
+use Rattle.gql_syntax.specs.Places.{Ahead, lay}
+use Rattle.gql_syntax.specs.Run.{unexpected, code_of, Stopped, stamp, run_from, run}
 use Rattle.gql_syntax.specs.Texts.{nesting_limit}
 use Rattle.gql_syntax.specs.declared.fault.Fault.{Fault}
 
 abbrev pub Outcome : Type 0
 Outcome = Result (List Written) Stopped
 
-abbrev pub going : (size : ℕ) → State → Source → Outcome
-going size s ahead = run (advance nesting_limit) finish size s ahead
+abbrev pub run_on : (size : ℕ) → State → Source → Outcome
+run_on size s ahead = run (advance nesting_limit) finish size s ahead
 
 -- from where the machine stands, the answer leads there; or it tells what is wrong
 abbrev pub Goes : {T : Type 0} → Result T Fault → (from : Outcome) → (to : T → Outcome) → Type 0
@@ -30,7 +30,7 @@ abbrev pub opening : (size room : ℕ) → Up → Source → Outcome
 opening size room up ended = Err (code_of unexpected, size)
 opening size room up (faulty code at) = Err (code, at)
 opening size room up (token p rest) =
-    cond (is_at 123 (tok_of_piece p)) (run_from (advance nesting_limit) finish size (stamped p.start (open_set room up)) rest) (Err (code_of unexpected, p.start))
+    cond (is_at 123 (tok_of_piece p)) (run_from (advance nesting_limit) finish size (stamp p.start (open_set room up)) rest) (Err (code_of unexpected, p.start))
 
 -- behind a set that was opened where so many more could be
 abbrev pub closed : (room : ℕ) → Sels → Up → State
@@ -44,12 +44,12 @@ closed room s (of_inline b o ds up) = set (record { room = room; before = follow
 pub record DefinitionRead (size first : ℕ) (from to : Ahead) (d : Definition) : Type 0 where
   pub written : Written
   pub definition : definition_of written ≡ d
-  pub reads : (ws : List Written) → going size (between ws) from.source ≡ going size (between (ws ++ written ∷ [])) to.source
-  pub places : (ns : List ℕ) → laid (spell_definition node_count first written ns) from ≡ laid ns to
+  pub reads : (ws : List Written) → run_on size (between ws) from.source ≡ run_on size (between (ws ++ written ∷ [])) to.source
+  pub places : (ns : List ℕ) → lay (spell_definition node_count first written ns) from ≡ lay ns to
 
 -- these definitions were read up to the end, as they are written, with the places of their nodes
 pub record DocumentRead (size : ℕ) (from to : Ahead) (ds : List Definition) : Type 0 where
   pub written : List Written
   pub definitions : ds ≡ map definition_of written
-  pub reads : going size (between []) from.source ≡ Ok written
-  pub places : laid (nodes_of written) from ≡ to.places
+  pub reads : run_on size (between []) from.source ≡ Ok written
+  pub places : lay (nodes_of written) from ≡ to.places

@@ -1,5 +1,5 @@
 pub mod Documents
 pub mod Trees
-pub mod Built
+pub mod Nodes
 pub mod Machine
 pub mod Going

@@ -14,7 +14,7 @@ use Rattle.gql_ast.specs.declared.document.Kind.TheVariants.{Query, Mutation, Su
 use Rattle.gql_ast.specs.declared.document.Operation.{Operation}
 use Rattle.gql_ast.specs.declared.value.ValueTree.{ValueTree}
 use Rattle.gql_ast.specs.declared.variable.VariableDef.{VariableDef}
-use Rattle.gql_parse.specs.Built.{type_tree, value_tree}
+use Rattle.gql_syntax.specs.Built.{type_tree, value_tree}
 use Rattle.gql_parse.specs.Documents.{Written, bare, full, fragment_word}
 use Rattle.gql_syntax.specs.Machine.{Reading, want, outer, value_step, Arguing, first, arguments_step, Directing, further, directives_step, Typing, want_type, whole, type_step}
 use Rattle.gql_syntax.specs.Run.{Halt, unexpected, too_deep}

@@ -4,11 +4,11 @@ ghost use Rattle.gql_ast.specs.declared.document.Definition.TheVariants as D;
 ghost use Rattle.gql_ast.specs.declared.document.Kind.{Kind};
 ghost use Rattle.gql_lex.specs.Sources.{ended};
 ghost use Rattle.gql_parse.specs.Documents.{Written, full, fragment_word, spell_operation, spell_fragment, spell_optional_name};
-ghost use Rattle.gql_parse.specs.Going.{going, Goes, DefinitionRead};
+ghost use Rattle.gql_parse.specs.Going.{run_on, Goes, DefinitionRead};
 ghost use Rattle.gql_parse.specs.Machine.{Opening, between, kinded, called, fragment_begun, fragment_named};
 ghost use Rattle.gql_syntax.specs.Answers.{Tells, node_count};
 ghost use Rattle.gql_syntax.specs.Nexts.{next_is, next_word, token_count};
-ghost use Rattle.gql_syntax.specs.Places.{Ahead, laid};
+ghost use Rattle.gql_syntax.specs.Places.{Ahead, lay};
 
 use crate::selections::read_set;
 use crate::variables::read_variables;
@@ -25,7 +25,7 @@ pub(crate) fn read_definition(
 ) -> Result<Definition, Fault>
     requires { first ≤ 1 }
     ensures found { IfOk result (DefinitionRead (length cursor.old.text) first cursor.old cursor.new) }
-    ensures fault { IfErr result (λ f. (ws : List Written) → (cursor.old.source ≡ ended → ws ≡ []) → Tells f (going (length cursor.old.text) (between ws) cursor.old.source)) }
+    ensures fault { IfErr result (λ f. (ws : List Written) → (cursor.old.source ≡ ended → ws ≡ []) → Tells f (run_on (length cursor.old.text) (between ws) cursor.old.source)) }
     ensures taken { OnOk result (token_count cursor.new.source < token_count cursor.old.source) }
     ensures same { OnOk result (cursor.new.text ≡ cursor.old.text) }
 {
@@ -51,7 +51,7 @@ fn read_bare(alloc: Global, first: usize, cursor: &mut Cursor<'_>) -> Result<Def
     requires few { first ≤ 1 }
     requires set { next_is 123 cursor.old.source ≡ true }
     ensures found { IfOk result (DefinitionRead (length cursor.old.text) first cursor.old cursor.new) }
-    ensures fault { IfErr result (λ f. (ws : List Written) → Tells f (going (length cursor.old.text) (between ws) cursor.old.source)) }
+    ensures fault { IfErr result (λ f. (ws : List Written) → Tells f (run_on (length cursor.old.text) (between ws) cursor.old.source)) }
     ensures taken { OnOk result (token_count cursor.new.source < token_count cursor.old.source) }
     ensures same { OnOk result (cursor.new.text ≡ cursor.old.text) }
 {
@@ -67,8 +67,8 @@ fn read_bare(alloc: Global, first: usize, cursor: &mut Cursor<'_>) -> Result<Def
 
 /// Reads an operation, after its kind (section 2.3).
 fn read_operation(alloc: Global, kind: Kind, cursor: &mut Cursor<'_>) -> Result<Operation, Fault>
-    ensures reads { (ws : List Written) → Goes result (going (length cursor.old.text) (kinded ws kind) cursor.old.source) (λ o. going (length cursor.old.text) (between (ws ++ full (D.Operation o) ∷ [])) cursor.new.source) }
-    ensures places { IfOk result (λ o. (first : ℕ) (ns : List ℕ) (c : Ahead) → ((ms : List ℕ) → laid ((first + 2) ∷ ms) c ≡ laid ms cursor.old) → laid (spell_operation node_count first o ns) c ≡ laid ns cursor.new) }
+    ensures reads { (ws : List Written) → Goes result (run_on (length cursor.old.text) (kinded ws kind) cursor.old.source) (λ o. run_on (length cursor.old.text) (between (ws ++ full (D.Operation o) ∷ [])) cursor.new.source) }
+    ensures places { IfOk result (λ o. (first : ℕ) (ns : List ℕ) (c : Ahead) → ((ms : List ℕ) → lay ((first + 2) ∷ ms) c ≡ lay ms cursor.old) → lay (spell_operation node_count first o ns) c ≡ lay ns cursor.new) }
     ensures taken { OnOk result (token_count cursor.new.source < token_count cursor.old.source) }
     ensures same { OnOk result (cursor.new.text ≡ cursor.old.text) }
 {
@@ -87,8 +87,8 @@ fn read_operation(alloc: Global, kind: Kind, cursor: &mut Cursor<'_>) -> Result<
 
 /// Reads the name of an operation, where one stands there.
 fn read_optional_name(alloc: Global, cursor: &mut Cursor<'_>) -> Result<Option<Name>, Fault>
-    ensures reads { (ws : List Written) (kind : Kind) → Goes result (going (length cursor.old.text) (kinded ws kind) cursor.old.source) (λ n. going (length cursor.old.text) (called (record { before = ws; kind = kind; name = n })) cursor.new.source) }
-    ensures places { IfOk result (λ n. (ns : List ℕ) → laid (spell_optional_name node_count n ns) cursor.old ≡ laid ns cursor.new) }
+    ensures reads { (ws : List Written) (kind : Kind) → Goes result (run_on (length cursor.old.text) (kinded ws kind) cursor.old.source) (λ n. run_on (length cursor.old.text) (called (record { before = ws; kind = kind; name = n })) cursor.new.source) }
+    ensures places { IfOk result (λ n. (ns : List ℕ) → lay (spell_optional_name node_count n ns) cursor.old ≡ lay ns cursor.new) }
     ensures taken { OnOk result (token_count cursor.new.source ≤ token_count cursor.old.source) }
     ensures same { OnOk result (cursor.new.text ≡ cursor.old.text) }
 {
@@ -100,8 +100,8 @@ fn read_optional_name(alloc: Global, cursor: &mut Cursor<'_>) -> Result<Option<N
 
 /// Reads a fragment, after its `fragment` (section 2.8).
 fn read_fragment(alloc: Global, cursor: &mut Cursor<'_>) -> Result<Fragment, Fault>
-    ensures reads { (ws : List Written) → Goes result (going (length cursor.old.text) (fragment_begun ws) cursor.old.source) (λ f. going (length cursor.old.text) (between (ws ++ full (D.Fragment f) ∷ [])) cursor.new.source) }
-    ensures places { IfOk result (λ f. (first : ℕ) (ns : List ℕ) (c : Ahead) → ((ms : List ℕ) → laid ((first + 2) ∷ ms) c ≡ laid ms cursor.old) → laid (spell_fragment node_count first f ns) c ≡ laid ns cursor.new) }
+    ensures reads { (ws : List Written) → Goes result (run_on (length cursor.old.text) (fragment_begun ws) cursor.old.source) (λ f. run_on (length cursor.old.text) (between (ws ++ full (D.Fragment f) ∷ [])) cursor.new.source) }
+    ensures places { IfOk result (λ f. (first : ℕ) (ns : List ℕ) (c : Ahead) → ((ms : List ℕ) → lay ((first + 2) ∷ ms) c ≡ lay ms cursor.old) → lay (spell_fragment node_count first f ns) c ≡ lay ns cursor.new) }
     ensures taken { OnOk result (token_count cursor.new.source < token_count cursor.old.source) }
     ensures same { OnOk result (cursor.new.text ≡ cursor.old.text) }
 {
@@ -120,8 +120,8 @@ fn read_fragment(alloc: Global, cursor: &mut Cursor<'_>) -> Result<Fragment, Fau
 
 /// Reads the name of a fragment: a Name but `on`.
 fn read_fragment_name(alloc: Global, cursor: &mut Cursor<'_>) -> Result<Name, Fault>
-    ensures reads { (ws : List Written) → Goes result (going (length cursor.old.text) (fragment_begun ws) cursor.old.source) (λ n. going (length cursor.old.text) (fragment_named ws n) cursor.new.source) }
-    ensures places { IfOk result (λ n. (ns : List ℕ) → laid (1 ∷ ns) cursor.old ≡ laid ns cursor.new) }
+    ensures reads { (ws : List Written) → Goes result (run_on (length cursor.old.text) (fragment_begun ws) cursor.old.source) (λ n. run_on (length cursor.old.text) (fragment_named ws n) cursor.new.source) }
+    ensures places { IfOk result (λ n. (ns : List ℕ) → lay (1 ∷ ns) cursor.old ≡ lay ns cursor.new) }
     ensures taken { OnOk result (token_count cursor.new.source < token_count cursor.old.source) }
     ensures same { OnOk result (cursor.new.text ≡ cursor.old.text) }
 {

@@ -3,22 +3,23 @@
 
 ghost use Rattle.std.specs.Prelude.{◌≡◌, ◌<◌, ◌-◌, ◌^◌, ◌⊎◌, ◌∷◌, ◌++◌, [], ℕ, List, Ok, Err, length, map, IfOk, IfErr, OnOk};
 ghost use Rattle.gql_ast.specs.declared.document.Document.{Document};
-ghost use Rattle.gql_ast.specs.declared.fault.ParseFault.TheVariants.{NoMemory, Syntax};
+ghost use Rattle.gql_ast.specs.declared.fault.ParseFault.TheVariants.{NoMemory};
 ghost use Rattle.gql_ast.specs.declared.place.Placed.{Placed};
 ghost use Rattle.gql_parse.specs.Documents.{documents};
-ghost use Rattle.gql_parse.specs.Going.{DocumentRead, going};
+ghost use Rattle.gql_parse.specs.Going.{DocumentRead, run_on};
 ghost use Rattle.gql_parse.specs.Machine.{between};
 ghost use Rattle.gql_parse.specs.Trees.{IsDocument};
 ghost use Rattle.gql_syntax.specs.Answers.{Tells};
-ghost use Rattle.gql_syntax.specs.Texts.{IsParseFault};
+ghost use Rattle.gql_syntax.specs.Texts.{IsParseFault, TellsText};
 
 mod definitions;
+pub mod laws;
 mod selections;
 mod variables;
 
 use crate::definitions::read_definition;
-use gql_ast::{Definitions, Document, ParseFault, Placed, SyntaxFault};
-use gql_syntax::{Cursor, Fault};
+use gql_ast::{Definitions, Document, ParseFault, Placed};
+use gql_syntax::{Cursor, Fault, text_of};
 use std::alloc::Global;
 
 /// Reads a document.
@@ -38,10 +39,9 @@ pub fn parse_document(
     ensures found { IfOk result (IsDocument file bytes.now) }
     ensures only { (p : Placed Document) → IsDocument file bytes.now p → (result ≡ Err NoMemory) ⊎ (result ≡ Ok p) }
     ensures fault { IfErr result (IsParseFault documents file bytes.now) }
+    ensures text { TellsText bytes.now result }
 {
-    let Ok(text) = str::from_utf8(bytes) else {
-        return Err(no_text(file));
-    };
+    let text = text_of(file, bytes)?;
     let mut cursor = Cursor::new(alloc, file, text);
     match read_definitions(alloc, &mut cursor) {
         Ok(definitions) => Ok(Placed {
@@ -52,25 +52,10 @@ pub fn parse_document(
     }
 }
 
-/// The code of bytes that are no UTF-8.
-const NOT_UTF8: u8 = 7;
-
-/// The fault of bytes that are no text.
-fn no_text(file: u32) -> ParseFault
-    ensures { result ≡ Syntax (record { file = file; line = 1; column = 1; code = 7 }) }
-{
-    ParseFault::Syntax(SyntaxFault {
-        file,
-        line: 1,
-        column: 1,
-        code: NOT_UTF8,
-    })
-}
-
 /// Reads definitions up to the end, one at least.
 fn read_definitions(alloc: Global, cursor: &mut Cursor<'_>) -> Result<Definitions, Fault>
     ensures found { IfOk result (DocumentRead (length cursor.old.text) cursor.old cursor.new) }
-    ensures fault { IfErr result (λ f. Tells f (going (length cursor.old.text) (between []) cursor.old.source)) }
+    ensures fault { IfErr result (λ f. Tells f (run_on (length cursor.old.text) (between []) cursor.old.source)) }
 {
     let mut definitions = Definitions::new(alloc);
     definitions.push(read_definition(alloc, 1, cursor)?)?;

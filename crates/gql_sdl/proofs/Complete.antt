@@ -6,55 +6,28 @@ use Rattle.gql_lex.specs.Toks.{Tok}
 use Rattle.gql_ast.specs.Ty.{Ty}
 use Rattle.gql_ast.specs.Ty as ty
 use Rattle.gql_ast.specs.TypeView.{ty_of}
-use Rattle.gql_ast.specs.Value.{Val, vals_of, members_of, val_depth}
+use Rattle.gql_ast.specs.Value.{Val, val_depth}
 use Rattle.gql_ast.specs.ValueView.{value_of}
 use Rattle.gql_ast.specs.declared.directive.Directive.{Directive}
 use Rattle.gql_ast.specs.declared.location.Location.{Location}
 use Rattle.gql_ast.specs.declared.schema.Root.{Root}
-use Rattle.gql_ast.specs.declared.type_tree.TypeTree.{TypeTree}
-use Rattle.gql_ast.specs.declared.type_tree.TypeTree.TheVariants as T
 use Rattle.gql_ast.specs.declared.value.ValueTree.{ValueTree}
-use Rattle.gql_ast.specs.declared.value.ValueTree.TheVariants as V
 use Rattle.gql_syntax.proofs.DirectiveLaws.{DirectivesWithin, NoParenAhead, directives_outcome}
 use Rattle.gql_syntax.proofs.Outcomes.{outcome, outcome_from, outcome_same}
 use Rattle.gql_syntax.proofs.TypeLaws.{list_depth, NotBang, typed_at, type_complete, reads_type as type_reads}
 use Rattle.gql_syntax.proofs.ValueLaws.{value_complete}
 use Rattle.gql_syntax.proofs.Standing.{token_mark}
-use Rattle.gql_syntax.specs.Formed.{FormedDirectives, FormedDefault, FormedType, FormedValue}
+use Rattle.gql_syntax.proofs.Shapes.{ShapedDirectives, ShapedDefault, ShapedType, ShapedValue}
 use Rattle.gql_syntax.specs.Machine.{further, want, outer, want_type, whole}
 use Rattle.gql_syntax.specs.Run.{unexpected}
 use Rattle.gql_syntax.specs.Spelling.{spell_directives, spell_type, spell_default, spell_value}
 use Rattle.gql_syntax.specs.Words.{on_word, IsEnumName}
-use Rattle.gql_sdl.specs.Given.{type_tree, vals_list, members_list, value_tree}
-use Rattle.gql_sdl.specs.Machine.{Fielded, an_object, an_interface, location_of, implements_word, Front, Heading, Fields, OpenField, Inputs, of_field, of_directive, of_object, OpenInput, TypedInput, Values, Typed, input_type, field_type, Owner, on_schema, on_scalar, on_fielded, on_union, on_enum, on_object, on_input, on_field, on_value, Listing, implementing, uniting, locating, State, head, entitled, directive_arguments, directive_on, listing, listing_more, roots, fields, field_arguments, inputs, input_colon, input_default, enum_values, in_directives, in_type, in_value, front_then, heading_then, heading_of, field_then, input_then, value_then, directives_of, open_root, typed_state, valued, advance, finish, no_front, listing_more_of, at_directives, after_directives, after_type}
-use Rattle.gql_sdl.specs.Schemas.{location_word, Description, WrittenInput, WrittenField, WrittenValue, Written, schema, scalar, object, interface, union, enum, input, directive, Described, NotEmpty, FormedInput, FormedField, FormedEnumValue, FormedWritten, spell_description, spell_input, spell_inputs, spell_argument_defs, spell_input_fields, spell_field, spell_fields, spell_fields_part, spell_enum_values, spell_enum_values_part, spell_roots, spell_further, spell_separated, spell_implements, spell_members_part, spell_repeatable, spell_written, spell_described, spell_definitions, spell_schema}
-use Rattle.gql_sdl.proofs.Seats.{Led, Neat, FormedDescribed}
+use Rattle.gql_syntax.proofs.BuiltTrees.{type_tree-ty_of, value_tree-value_of}
+use Rattle.gql_sdl.specs.Machine.{Fielded, an_object, an_interface, location_of, implements_word, Front, Heading, Fields, OpenField, Inputs, of_field, of_directive, of_object, OpenInput, TypedInput, Values, Typed, input_type, field_type, Owner, on_schema, on_scalar, on_fielded, on_union, on_enum, on_object, on_input, on_field, on_value, Listing, implementing, uniting, locating, State, head, entitled, directive_arguments, directive_on, listing, listing_more, roots, fields, field_arguments, inputs, input_colon, input_default, enum_values, in_directives, in_type, in_value, front_then, heading_then, heading_of, field_then, input_then, value_then, directives_of, open_root, typed_state, behind_default, advance, finish, no_front, listing_more_of, at_directives, after_directives, after_type}
+use Rattle.gql_sdl.specs.Schemas.{location_word, Description, WrittenInput, WrittenField, WrittenValue, Written, schema, scalar, object, interface, union, enum, input, directive, Described, NotEmpty, spell_description, spell_input, spell_inputs, spell_argument_defs, spell_input_fields, spell_field, spell_fields, spell_fields_part, spell_enum_values, spell_enum_values_part, spell_roots, spell_further, spell_separated, spell_implements, spell_members_part, spell_repeatable, spell_written, spell_described, spell_definitions, spell_schema}
+use Rattle.gql_sdl.proofs.Shapes.{ShapedInput, ShapedField, ShapedEnumValue, ShapedWritten}
+use Rattle.gql_sdl.proofs.Seats.{Led, Neat, ShapedDescribed}
 use Rattle.gql_sdl.proofs.Spellings.{kind_of-kind, location_of-location, enum_name-is_reserved}
-
--- ---- the trees that stand for types and values
-
-pub tree-of-ty : (t : TypeTree) → type_tree (ty_of t) ≡ t
-tree-of-ty (T.Named n) = refl
-tree-of-ty (T.List t) = refl
-tree-of-ty (T.NonNull t) = refl
-
-list-of-vals : (vs : List Val) → vals_list (vals_of vs) ≡ vs
-list-of-vals [] = refl
-list-of-vals (v ∷ vs) = ap (λ ws. v ∷ ws) (list-of-vals vs)
-
-list-of-members : (ms : List (List ℕ × Val)) → members_list (members_of ms) ≡ ms
-list-of-members [] = refl
-list-of-members (m ∷ ms) = ap (λ ks. m ∷ ks) (list-of-members ms)
-
-pub tree-of-value : (v : ValueTree) → value_tree (value_of v) ≡ v
-tree-of-value (V.Variable n) = refl
-tree-of-value (V.Int n) = refl
-tree-of-value (V.Text n) = refl
-tree-of-value (V.Bool n) = refl
-tree-of-value V.Null = refl
-tree-of-value (V.Enum n) = refl
-tree-of-value (V.List vs) = ap V.List (list-of-vals vs)
-tree-of-value (V.Object ms) = ap V.Object (list-of-members ms)
 
 -- ---- what may follow
 
@@ -221,11 +194,11 @@ module _ (limit : ℕ) where
   WrittenFits (input n ds ws) = DirectivesFit ds × AllByRecursion InputFits ws
   WrittenFits (directive n ws repeatable leading ls) = AllByRecursion InputFits ws
 
-  reads_directives : (o : Owner) (ds : List Directive) (ts : List Tok) → FormedDirectives true ds → DirectivesFit ds → Unled ts
+  reads_directives : (o : Owner) (ds : List Directive) (ts : List Tok) → ShapedDirectives true ds → DirectivesFit ds → Unled ts
       → on (directives_of o) (spell_directives token_mark ds ts) ≡ on (in_directives (further true ds o)) ts
   reads_directives o ds ts h f u = directives_outcome limit in_directives after_directives (advance limit) (λ r t. refl) finish (λ a. refl) ds [] true o ts (no_paren ts u) h f
 
-  reads_type : (y : Typed) (t : Ty) (ts : List Tok) → FormedType t → list_depth t ≤ limit → Unbanged ts
+  reads_type : (y : Typed) (t : Ty) (ts : List Tok) → ShapedType t → list_depth t ≤ limit → Unbanged ts
       → on (in_type (want_type limit (whole y))) (spell_type token_mark t 0 0 ts) ≡ on (typed_state y t) ts
   reads_type y t [] h f b =
       outcome_same (advance limit) finish (in_type (want_type limit (whole y))) (typed_at in_type typed_state (after_type limit) (advance limit) (λ r x. refl) t (whole y))
@@ -251,15 +224,15 @@ module _ (limit : ℕ) where
       not_bang tok.bang b = absurd b
       not_bang x b = tt
 
-  reads_value : (i : TypedInput) (v : Val) (ts : List Tok) → FormedValue true v → val_depth v ≤ limit
-      → on (in_value (want true limit (outer i))) (spell_value token_mark v 0 ts) ≡ on (valued i v) ts
+  reads_value : (i : TypedInput) (v : Val) (ts : List Tok) → ShapedValue true v → val_depth v ≤ limit
+      → on (in_value (want true limit (outer i))) (spell_value token_mark v 0 ts) ≡ on (behind_default i v) ts
   reads_value i v ts h f =
-      outcome_same (advance limit) finish (in_value (want true limit (outer i))) (valued i v) (spell_value token_mark v 0 ts) ts
-      (value_complete in_value valued (advance limit) (λ r t. refl) true limit (outer i) v 0 ts h f)
+      outcome_same (advance limit) finish (in_value (want true limit (outer i))) (behind_default i v) (spell_value token_mark v 0 ts) ts
+      (value_complete in_value behind_default (advance limit) (λ r t. refl) true limit (outer i) v 0 ts h f)
 
   -- ---- inputs
 
-  reads_ending : (o : Owner) (ds : List Directive) (ts : List Tok) → FormedDirectives true ds → DirectivesFit ds → Calm ts
+  reads_ending : (o : Owner) (ds : List Directive) (ts : List Tok) → ShapedDirectives true ds → DirectivesFit ds → Calm ts
       → on (directives_of o) (spell_directives token_mark ds ts) ≡ on (settled o ds) ts
   reads_ending o ds ts h f c = reads_directives o ds ts h f (calm-unled ts c) ∙ settles o ds ts c
 
@@ -268,26 +241,26 @@ module _ (limit : ℕ) where
   default-skips i (tok.equals ∷ ts) h = absurd h
   default-skips i (t ∷ ts) h = refl
 
-  reads_default : (i : TypedInput) (v : Option ValueTree) (ds : List Directive) (ts : List Tok) → FormedDefault v → DefaultFits v → Calm ts
+  reads_default : (i : TypedInput) (v : Option ValueTree) (ds : List Directive) (ts : List Tok) → ShapedDefault v → DefaultFits v → Calm ts
       → on (input_default i) (spell_default token_mark v (spell_directives token_mark ds ts)) ≡ on (directives_of (on_input i v)) (spell_directives token_mark ds ts)
   reads_default i None ds ts h f c = default-skips i (spell_directives token_mark ds ts) (directives-no_equals ds ts c)
   reads_default i (Some v) ds ts h f c =
       reads_value i (value_of v) (spell_directives token_mark ds ts) h f
-      ∙ ap (λ v. on (directives_of (on_input i (Some v))) (spell_directives token_mark ds ts)) (tree-of-value v)
+      ∙ ap (λ v. on (directives_of (on_input i (Some v))) (spell_directives token_mark ds ts)) (value_tree-value_of v)
 
   input_named : (i : Inputs) (ws : List WrittenInput) (d : Description) (n : List ℕ) (ts : List Tok)
       → on (inputs i ws None) (spell_description token_mark d (tok.name n ∷ ts)) ≡ on (input_colon (record { inputs = i; before = ws; description = d; title = n })) ts
   input_named i ws None n ts = refl
   input_named i ws (Some d) n ts = refl
 
-  reads_input : (i : Inputs) (ws : List WrittenInput) (w : WrittenInput) (ts : List Tok) → FormedInput w → InputFits w → Calm ts
+  reads_input : (i : Inputs) (ws : List WrittenInput) (w : WrittenInput) (ts : List Tok) → ShapedInput w → InputFits w → Calm ts
       → on (inputs i ws None) (spell_input token_mark w ts) ≡ on (inputs i (ws ++ w ∷ []) None) ts
   reads_input i ws w ts h f c =
       let o : OpenInput = record { inputs = i; before = ws; description = w.description; title = w.input.name } in
       let rest : List Tok = spell_default token_mark w.input.default (spell_directives token_mark w.input.directives ts) in
       input_named i ws w.description w.input.name (tok.colon ∷ spell_type token_mark (ty_of w.input.of) 0 0 rest)
       ∙ reads_type (input_type o) (ty_of w.input.of) rest h.0 f.0 (default-no_bang w.input.default w.input.directives ts c)
-      ∙ ap (λ t. on (input_default (record { input = o; of = t })) rest) (tree-of-ty w.input.of)
+      ∙ ap (λ t. on (input_default (record { input = o; of = t })) rest) (type_tree-ty_of w.input.of)
       ∙ reads_default (record { input = o; of = w.input.of }) w.input.default w.input.directives ts h.1 f.1 c
       ∙ reads_ending (on_input (record { input = o; of = w.input.of }) w.input.default) w.input.directives ts h.2 f.2 c
 
@@ -300,7 +273,7 @@ module _ (limit : ℕ) where
       on_description None = tt
       on_description (Some d) = tt
 
-  reads_inputs : (i : Inputs) (ws more : List WrittenInput) (ts : List Tok) → AllByRecursion FormedInput more → AllByRecursion InputFits more → Calm ts
+  reads_inputs : (i : Inputs) (ws more : List WrittenInput) (ts : List Tok) → AllByRecursion ShapedInput more → AllByRecursion InputFits more → Calm ts
       → on (inputs i ws None) (spell_inputs token_mark more ts) ≡ on (inputs i (ws ++ more) None) ts
   reads_inputs i ws [] ts h f c = ap (λ ws. on (inputs i ws None) ts) (sym (append-nil ws))
   reads_inputs i ws (w ∷ more) ts h f c =
@@ -310,7 +283,7 @@ module _ (limit : ℕ) where
 
   -- ---- fields
 
-  reads_field_arguments : (f : OpenField) (ws : List WrittenInput) (ts : List Tok) → AllByRecursion FormedInput ws → AllByRecursion InputFits ws
+  reads_field_arguments : (f : OpenField) (ws : List WrittenInput) (ts : List Tok) → AllByRecursion ShapedInput ws → AllByRecursion InputFits ws
       → on (field_arguments f) (spell_argument_defs token_mark ws (tok.colon ∷ ts))
       ≡ on (in_type (want_type limit (whole (field_type (record { field = f; arguments = ws }))))) ts
   reads_field_arguments f [] ts h k = refl
@@ -321,7 +294,7 @@ module _ (limit : ℕ) where
   field_named f fs None n ts = refl
   field_named f fs (Some d) n ts = refl
 
-  reads_field : (f : Fields) (fs : List WrittenField) (w : WrittenField) (ts : List Tok) → FormedField w → FieldFits w → Calm ts
+  reads_field : (f : Fields) (fs : List WrittenField) (w : WrittenField) (ts : List Tok) → ShapedField w → FieldFits w → Calm ts
       → on (fields f fs None) (spell_field token_mark w ts) ≡ on (fields f (fs ++ w ∷ []) None) ts
   reads_field f fs w ts h k c =
       let o : OpenField = record { fields = f; before = fs; description = w.description; title = w.name } in
@@ -329,7 +302,7 @@ module _ (limit : ℕ) where
       field_named f fs w.description w.name (spell_argument_defs token_mark w.arguments (tok.colon ∷ spell_type token_mark (ty_of w.of) 0 0 rest))
       ∙ reads_field_arguments o w.arguments (spell_type token_mark (ty_of w.of) 0 0 rest) h.0 k.0
       ∙ reads_type (field_type (record { field = o; arguments = w.arguments })) (ty_of w.of) rest h.1 k.1 (directives-no_bang w.directives ts c)
-      ∙ ap (λ t. on (directives_of (on_field (record { field = o; arguments = w.arguments }) t)) rest) (tree-of-ty w.of)
+      ∙ ap (λ t. on (directives_of (on_field (record { field = o; arguments = w.arguments }) t)) rest) (type_tree-ty_of w.of)
       ∙ reads_ending (on_field (record { field = o; arguments = w.arguments }) w.of) w.directives ts h.2 k.2 c
 
   calm-fields : (fs : List WrittenField) (ts : List Tok) → Calm ts → Calm (spell_fields token_mark fs ts)
@@ -341,7 +314,7 @@ module _ (limit : ℕ) where
       on_description None = tt
       on_description (Some d) = tt
 
-  reads_fields : (f : Fields) (fs more : List WrittenField) (ts : List Tok) → AllByRecursion FormedField more → AllByRecursion FieldFits more → Calm ts
+  reads_fields : (f : Fields) (fs more : List WrittenField) (ts : List Tok) → AllByRecursion ShapedField more → AllByRecursion FieldFits more → Calm ts
       → on (fields f fs None) (spell_fields token_mark more ts) ≡ on (fields f (fs ++ more) None) ts
   reads_fields f fs [] ts h k c = ap (λ fs. on (fields f fs None) ts) (sym (append-nil fs))
   reads_fields f fs (w ∷ more) ts h k c =
@@ -351,13 +324,13 @@ module _ (limit : ℕ) where
 
   -- ---- values
 
-  value_named : (v : Values) (vs : List WrittenValue) (n : List ℕ) (d : Description) (ts : List Tok) → IsEnumName n
+  behind_value_name : (v : Values) (vs : List WrittenValue) (n : List ℕ) (d : Description) (ts : List Tok) → IsEnumName n
       → on (enum_values v vs None) (spell_description token_mark d (tok.name n ∷ ts))
       ≡ on (directives_of (on_value (record { values = v; before = vs; description = d; title = n }))) ts
-  value_named v vs n None ts h =
+  behind_value_name v vs n None ts h =
       ap (λ b. outcome_from (advance limit) finish (cond b (Err unexpected) (Ok (directives_of (on_value (record { values = v; before = vs; description = None; title = n }))))) ts)
       (enum_name-is_reserved n h)
-  value_named v vs n (Some d) ts h =
+  behind_value_name v vs n (Some d) ts h =
       ap (λ b. outcome_from (advance limit) finish (cond b (Err unexpected) (Ok (directives_of (on_value (record { values = v; before = vs; description = Some d; title = n }))))) ts)
       (enum_name-is_reserved n h)
 
@@ -370,12 +343,12 @@ module _ (limit : ℕ) where
       on_description None = tt
       on_description (Some d) = tt
 
-  reads_values : (v : Values) (vs more : List WrittenValue) (ts : List Tok) → AllByRecursion FormedEnumValue more → AllByRecursion ValueFits more → Calm ts
+  reads_values : (v : Values) (vs more : List WrittenValue) (ts : List Tok) → AllByRecursion ShapedEnumValue more → AllByRecursion ValueFits more → Calm ts
       → on (enum_values v vs None) (spell_enum_values token_mark more ts) ≡ on (enum_values v (vs ++ more) None) ts
   reads_values v vs [] ts h k c = ap (λ vs. on (enum_values v vs None) ts) (sym (append-nil vs))
   reads_values v vs (w ∷ more) ts h k c =
       let rest : List Tok = spell_enum_values token_mark more ts in
-      value_named v vs w.value.name w.description (spell_directives token_mark w.value.directives rest) h.0.0
+      behind_value_name v vs w.value.name w.description (spell_directives token_mark w.value.directives rest) h.0.0
       ∙ reads_ending (on_value (record { values = v; before = vs; description = w.description; title = w.value.name })) w.value.directives rest h.0.1 k.0
       (calm-values more ts c)
       ∙ reads_values v (vs ++ w ∷ []) more ts h.1 k.1 c
@@ -408,10 +381,10 @@ module _ (limit : ℕ) where
       ∙ ap (λ ms. on (listing_more leading (uniting f n ds ms)) ts) (append_assoc ms (m ∷ []) more)
 
   -- a location behind those before it
-  located : (leading : Bool) (f : Front) (n : List ℕ) (ws : List WrittenInput) (r : Bool) (ls : List Location) (l : Location) (ts : List Tok)
+  behind_locations : (leading : Bool) (f : Front) (n : List ℕ) (ws : List WrittenInput) (r : Bool) (ls : List Location) (l : Location) (ts : List Tok)
       → outcome_from (advance limit) finish (listing_more_of leading (option_map (λ l. locating f n ws r (ls ++ l ∷ [])) (location_of (location_word l)))) ts
       ≡ on (listing_more leading (locating f n ws r (ls ++ l ∷ []))) ts
-  located leading f n ws r ls l ts =
+  behind_locations leading f n ws r ls l ts =
       ap (λ o. outcome_from (advance limit) finish (listing_more_of leading (option_map (λ l. locating f n ws r (ls ++ l ∷ [])) o)) ts) (location_of-location l)
 
   reads_locations_further : (leading : Bool) (f : Front) (n : List ℕ) (ws : List WrittenInput) (r : Bool) (ls more : List Location) (ts : List Tok)
@@ -419,7 +392,7 @@ module _ (limit : ℕ) where
       ≡ on (listing_more leading (locating f n ws r (ls ++ more))) ts
   reads_locations_further leading f n ws r ls [] ts = ap (λ ls. on (listing_more leading (locating f n ws r ls)) ts) (sym (append-nil ls))
   reads_locations_further leading f n ws r ls (m ∷ more) ts =
-      located leading f n ws r ls m (spell_further token_mark tok.bar 0 (map location_word more) ts)
+      behind_locations leading f n ws r ls m (spell_further token_mark tok.bar 0 (map location_word more) ts)
       ∙ reads_locations_further leading f n ws r (ls ++ m ∷ []) more ts
       ∙ ap (λ ls. on (listing_more leading (locating f n ws r ls)) ts) (append_assoc ls (m ∷ []) more)
 
@@ -427,9 +400,9 @@ module _ (limit : ℕ) where
       → on (listing (locating f n ws r [])) (spell_separated token_mark tok.bar 0 leading (map location_word ls) ts) ≡ on (listing_more leading (locating f n ws r ls)) ts
   reads_locations leading f n ws r [] ts h = absurd h
   reads_locations true f n ws r (l ∷ ls) ts h =
-      located true f n ws r [] l (spell_further token_mark tok.bar 0 (map location_word ls) ts) ∙ reads_locations_further true f n ws r (l ∷ []) ls ts
+      behind_locations true f n ws r [] l (spell_further token_mark tok.bar 0 (map location_word ls) ts) ∙ reads_locations_further true f n ws r (l ∷ []) ls ts
   reads_locations false f n ws r (l ∷ ls) ts h =
-      located false f n ws r [] l (spell_further token_mark tok.bar 0 (map location_word ls) ts) ∙ reads_locations_further false f n ws r (l ∷ []) ls ts
+      behind_locations false f n ws r [] l (spell_further token_mark tok.bar 0 (map location_word ls) ts) ∙ reads_locations_further false f n ws r (l ∷ []) ls ts
 
   -- ---- definitions
 
@@ -513,13 +486,13 @@ module _ (limit : ℕ) where
       let rest : List Tok = spell_directives token_mark ds (spell_fields_part token_mark fs ts) in
       reads_implements_further false f k n (i ∷ []) is rest ∙ implements-ends false f k n (i ∷ is) rest (fields-no_separator f k n (i ∷ is) ds fs ts c)
 
-  reads_fields_part : (h : Heading) (ds : List Directive) (fs : List WrittenField) (ts : List Tok) → AllByRecursion FormedField fs → AllByRecursion FieldFits fs
+  reads_fields_part : (h : Heading) (ds : List Directive) (fs : List WrittenField) (ts : List Tok) → AllByRecursion ShapedField fs → AllByRecursion FieldFits fs
       → Calm ts → on (in_directives (further true ds (on_fielded h))) (spell_fields_part token_mark fs ts) ≡ on (head (heading_then h ds fs)) ts
   reads_fields_part h ds [] ts k f c = settles (on_fielded h) ds ts c
   reads_fields_part h ds (e ∷ fs) ts k f c = reads_fields (record { heading = h; directives = ds }) [] (e ∷ fs) (tok.close_brace ∷ ts) k f tt
 
   reads_fielded : (f : Front) (k : Fielded) (n : List ℕ) (leading : Bool) (is : List (List ℕ)) (ds : List Directive) (fs : List WrittenField) (ts : List Tok)
-      → Led leading is → FormedDirectives true ds → DirectivesFit ds → AllByRecursion FormedField fs → AllByRecursion FieldFits fs → Follows ts
+      → Led leading is → ShapedDirectives true ds → DirectivesFit ds → AllByRecursion ShapedField fs → AllByRecursion FieldFits fs → Follows ts
       → on (entitled f k n) (spell_implements token_mark leading is (spell_directives token_mark ds (spell_fields_part token_mark fs ts)))
       ≡ on (head (heading_then (heading_of f k n leading is) ds fs)) ts
   reads_fielded f k n leading is ds fs ts l h d g e c =
@@ -540,7 +513,7 @@ module _ (limit : ℕ) where
   members-unled leading [] ts h = calm-unled ts h
   members-unled leading (m ∷ ms) ts h = tt
 
-  reads_values_part : (f : Front) (n : List ℕ) (ds : List Directive) (vs : List WrittenValue) (ts : List Tok) → AllByRecursion FormedEnumValue vs
+  reads_values_part : (f : Front) (n : List ℕ) (ds : List Directive) (vs : List WrittenValue) (ts : List Tok) → AllByRecursion ShapedEnumValue vs
       → AllByRecursion ValueFits vs → Calm ts
       → on (in_directives (further true ds (on_enum f n))) (spell_enum_values_part token_mark vs ts) ≡ on (head (front_then f (enum n ds vs))) ts
   reads_values_part f n ds [] ts h k c = settles (on_enum f n) ds ts c
@@ -550,7 +523,7 @@ module _ (limit : ℕ) where
   values-unled [] ts h = calm-unled ts h
   values-unled (v ∷ vs) ts h = tt
 
-  reads_input_fields : (f : Front) (n : List ℕ) (ds : List Directive) (ws : List WrittenInput) (ts : List Tok) → AllByRecursion FormedInput ws
+  reads_input_fields : (f : Front) (n : List ℕ) (ds : List Directive) (ws : List WrittenInput) (ts : List Tok) → AllByRecursion ShapedInput ws
       → AllByRecursion InputFits ws → Calm ts
       → on (in_directives (further true ds (on_object f n))) (spell_input_fields token_mark ws ts) ≡ on (head (front_then f (input n ds ws))) ts
   reads_input_fields f n ds [] ts h k c = settles (on_object f n) ds ts c
@@ -570,7 +543,7 @@ module _ (limit : ℕ) where
   arguments-skip f n true ts = refl
   arguments-skip f n false ts = refl
 
-  reads_directive_arguments : (f : Front) (n : List ℕ) (ws : List WrittenInput) (r : Bool) (ts : List Tok) → AllByRecursion FormedInput ws → AllByRecursion InputFits ws
+  reads_directive_arguments : (f : Front) (n : List ℕ) (ws : List WrittenInput) (r : Bool) (ts : List Tok) → AllByRecursion ShapedInput ws → AllByRecursion InputFits ws
       → on (directive_arguments f n) (spell_argument_defs token_mark ws (spell_repeatable token_mark r (tok.name on_word ∷ ts)))
       ≡ on (listing (locating f n ws r [])) ts
   reads_directive_arguments f n [] r ts h k = arguments-skip f n r ts ∙ reads_repeatable f n [] r ts
@@ -583,7 +556,7 @@ module _ (limit : ℕ) where
   reads_schema f ds [] ts h = absurd h
   reads_schema f ds (r ∷ rs) ts h = reads_roots f ds [] (r ∷ rs) (tok.close_brace ∷ ts)
 
-  pub reads_written : (f : Front) (n : ℕ) (w : Written) (ts : List Tok) → FormedWritten w → Neat w → WrittenFits w → Follows ts
+  pub reads_written : (f : Front) (n : ℕ) (w : Written) (ts : List Tok) → ShapedWritten w → Neat w → WrittenFits w → Follows ts
       → on (head f) (spell_written token_mark n w ts) ≡ on (head (front_then f w)) ts
   reads_written f n (schema ds rs) ts h k d c =
       reads_directives (on_schema f) ds (tok.open_brace ∷ spell_roots token_mark rs (tok.close_brace ∷ ts)) h.0 d tt ∙ reads_schema f ds rs ts h.1
@@ -604,7 +577,7 @@ module _ (limit : ℕ) where
       ∙ reads_locations leading f m ws r ls ts h.1
       ∙ locations-end leading f m ws r ls ts (calm-no_location f m ws r ls ts (calm-follows ts c))
 
-  reads_described : (ds : List Described) (above : ℕ) (d : Description) (w : Written) (ts : List Tok) → FormedWritten w → Neat w → WrittenFits w → Follows ts
+  reads_described : (ds : List Described) (above : ℕ) (d : Description) (w : Written) (ts : List Tok) → ShapedWritten w → Neat w → WrittenFits w → Follows ts
       → on (head (record { before = ds; description = None })) (spell_described token_mark above d w ts)
       ≡ on (head (record { before = ds ++ record { description = d; written = w } ∷ []; description = None })) ts
   reads_described ds above None w ts h k f c = reads_written (record { before = ds; description = None }) (above + 1) w ts h k f c
@@ -628,7 +601,7 @@ module _ (limit : ℕ) where
   definitions-follow above [] = tt
   definitions-follow above (d ∷ ds) = described-follows above d.description d.written (spell_definitions token_mark 0 ds)
 
-  reads_definitions : (above : ℕ) (before more : List Described) → AllByRecursion FormedDescribed more → AllByRecursion (λ d. WrittenFits d.written) more
+  reads_definitions : (above : ℕ) (before more : List Described) → AllByRecursion ShapedDescribed more → AllByRecursion (λ d. WrittenFits d.written) more
       → on (head (record { before = before; description = None })) (spell_definitions token_mark above more)
       ≡ on (head (record { before = before ++ more; description = None })) []
   reads_definitions above before [] h f = ap (λ ds. on (head (record { before = ds; description = None })) []) (sym (append-nil before))
@@ -637,7 +610,7 @@ module _ (limit : ℕ) where
       ∙ reads_definitions 0 (before ++ d ∷ []) more h.1 f.1
       ∙ ap (λ ds. on (head (record { before = ds; description = None })) []) (append_assoc before (d ∷ []) more)
 
-  pub reads_schemas : (v : List Described) → NotEmpty v → AllByRecursion FormedDescribed v → AllByRecursion (λ d. WrittenFits d.written) v
+  pub reads_schemas : (v : List Described) → NotEmpty v → AllByRecursion ShapedDescribed v → AllByRecursion (λ d. WrittenFits d.written) v
       → on (head no_front) (spell_schema token_mark v) ≡ Some v
   reads_schemas [] n h f = absurd n
   reads_schemas (d ∷ ds) n h f = reads_definitions 1 [] (d ∷ ds) h f

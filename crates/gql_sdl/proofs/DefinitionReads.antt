@@ -12,7 +12,7 @@ use Rattle.gql_syntax.specs.Answers.{node_count, Misses, wrong_at, Tells}
 use Rattle.gql_syntax.specs.Machine.{further}
 use Rattle.gql_syntax.specs.Nexts.{behind, is_at, is_text, word_of, next_is, next_is_text, next_word, Comes, stopped_at, token_count}
 use Rattle.gql_syntax.specs.Parts.{directives_read}
-use Rattle.gql_syntax.specs.Places.{Ahead, laid}
+use Rattle.gql_syntax.specs.Places.{Ahead, lay}
 use Rattle.gql_syntax.specs.Run.{unexpected}
 use Rattle.gql_syntax.specs.Spelling.{spell_directives}
 use Rattle.gql_syntax.specs.Texts.{nesting_limit}
@@ -20,7 +20,7 @@ use Rattle.gql_syntax.specs.declared.fault.Fault.{Fault}
 use Rattle.gql_syntax.specs.declared.fault.Fault.TheVariants.{Wrong, NoMemory}
 use Rattle.gql_sdl.specs.Machine as machine
 use Rattle.gql_sdl.specs.Machine.{Front, Fielded, Heading, Fields, fielded_word, Titled, Word, titled, a_schema, a_directive, spelled, titled_word, begin_definition, entitle, Owner, State, head, title, in_directives, directives_of, front_then, advance, finish}
-use Rattle.gql_sdl.specs.Reads.{going, Read, Fails, Reads, Anywhere, Begins, MayDefine, MayDescribe, behind_all, defined, whole, start, spell_first, spell_definition, spell_all, ReadSchema, MayOpen, unopened, Locating, LocatingOn, unlocated, repeated, unlisted, located, spell_locations, Led, Entitled, untold, implemented, NoDirective, unopened_fields, closed_fields, FieldedAt, MayFielded, fielded_head, fielded_end, fielded_of, spell_fielded}
+use Rattle.gql_sdl.specs.Reads.{run_on, Read, Fails, Reads, Anywhere, Begins, MayDefine, MayDescribe, behind_all, behind_definition, whole, start, spell_first, spell_definition, spell_all, ReadSchema, MayOpen, unopened, Locating, LocatingOn, before_repeatable, repeated, before_locations, behind_locations, spell_locations, Led, Entitled, before_implements, behind_implements, NoDirective, before_fields, behind_fields, FieldedAt, MayFielded, fielded_head, fielded_end, fielded_of, spell_fielded}
 use Rattle.gql_sdl.specs.Schemas as written
 use Rattle.gql_sdl.specs.Schemas.{Description, Described, NotEmpty, Written, WrittenInput, definition_of, inputs_of, spell_described, spell_definitions, spell_repeatable, written_of, field_of, spell_written, spell_implements, spell_fields_part, spell_argument_defs, spell_input_fields}
 use Rattle.gql_sdl.specs.declared.definitions.TypeWithFields.{TypeWithFields}
@@ -42,21 +42,21 @@ title-stops f k t e = refl
 
 -- behind what was read of it, the rest of a definition fails
 pub fails-rest : {K : Type 0} (word : List ℕ) (a d : Ahead) (May : K → Source → Type 0) (from : K → State) (under : Front → K) → d.text ≡ a.text
-    → ((f : Front) (size : ℕ) → size ≡ length a.text → Begins word f a.source → going size (head f) a.source ≡ going size (from (under f)) d.source)
+    → ((f : Front) (size : ℕ) → size ≡ length a.text → Begins word f a.source → run_on size (head f) a.source ≡ run_on size (from (under f)) d.source)
     → ((f : Front) → May (under f) d.source) → (f : Fault) → Fails May from d f → Fails (Begins word) head a f
 fails-rest word a d May from under t g may f h = fails-behind (Begins word) head May from a d under t g (λ k m. may k) f h
 
 -- and where it is read, the definition is whole
 pub reads-rest : {K W T : Type 0} (word : List ℕ) (nodes : ℕ) (a d e : Ahead) (May : K → Source → Type 0) (from : K → State) (to : K → W → State) (spell : W → List ℕ → List ℕ) (view : W → T)
     (under : Front → K) (t : T) (r : Read May from to spell view d e t) (whole : W → Written) (def : SchemaDef) → d.text ≡ a.text → token_count d.source ≤ token_count a.source
-    → ((f : Front) (size : ℕ) → size ≡ length a.text → Begins word f a.source → going size (head f) a.source ≡ going size (from (under f)) d.source)
+    → ((f : Front) (size : ℕ) → size ≡ length a.text → Begins word f a.source → run_on size (head f) a.source ≡ run_on size (from (under f)) d.source)
     → ((f : Front) → May (under f) d.source) → ((f : Front) (w : W) → to (under f) w ≡ head (front_then f (whole w)))
-    → ((ns : List ℕ) → laid (spell_written node_count nodes (whole r.written) ns) a ≡ laid (spell r.written ns) d) → written_of (whole r.written) ≡ def
+    → ((ns : List ℕ) → lay (spell_written node_count nodes (whole r.written) ns) a ≡ lay (spell r.written ns) d) → written_of (whole r.written) ≡ def
     → Defined word nodes a e def
 reads-rest word nodes a d e May from to spell view under t r whole def x fewer g may link laying viewed = record {
   written = whole r.written;
   viewed = viewed;
-  goes = λ f size z m. g f size z m ∙ r.goes (under f) size (z ∙ ap (λ (s : List ℕ). length s) (sym x)) (may f) ∙ ap (λ s. going size s e.source) (link f r.written);
+  goes = λ f size z m. g f size z m ∙ r.goes (under f) size (z ∙ ap (λ (s : List ℕ). length s) (sym x)) (may f) ∙ ap (λ s. run_on size s e.source) (link f r.written);
   nodes = λ ns. laying ns ∙ r.nodes ns;
   taken = omega (arith, r.taken, fewer);
   text = r.text ∙ x;
@@ -65,9 +65,9 @@ reads-rest word nodes a d e May from to spell view under t r whole def x fewer g
 -- ---- definitions that begin with a word and a name
 
 module _ (k : Titled) (a b : Ahead) (s : b.source ≡ behind a.source) (t : b.text ≡ a.text) where
-  pub to_title : (f : Front) (size : ℕ) → size ≡ length a.text → Begins (titled_word k) f a.source → going size (head f) a.source ≡ going size (title f k) b.source
+  pub to_title : (f : Front) (size : ℕ) → size ≡ length a.text → Begins (titled_word k) f a.source → run_on size (head f) a.source ≡ run_on size (title f k) b.source
   to_title f size z m =
-      on-name size (head f) (title f k) a.source (titled_word k) m (ap (begin_definition f) (word_of-spelled (titled k))) ∙ ap (going size (title f k)) (sym s)
+      on-name size (head f) (title f k) a.source (titled_word k) m (ap (begin_definition f) (word_of-spelled (titled k))) ∙ ap (run_on size (title f k)) (sym s)
 
   pub titled-no_name : (f : Fault) → Misses f (next_word b.source ≡ None) (stopped_at (length b.text) b.source) → Fails (Begins (titled_word k)) head a f
   titled-no_name f m =
@@ -75,19 +75,19 @@ module _ (k : Titled) (a b : Ahead) (s : b.source ≡ behind a.source) (t : b.te
       (fails-missed (λ (f : Front) (s : Source). Unit {0}) (λ f. title f k) b (next_word b.source ≡ None) f m (λ f z miss. (refl, λ t c. title-stops f k t (no_word b.source t c miss))))
 
   module _ (c : Ahead) (n : List ℕ) (w : next_word b.source ≡ Some n) (s2 : c.source ≡ behind b.source) (t2 : c.text ≡ b.text) where
-    pub to_entitled : (f : Front) (size : ℕ) → size ≡ length a.text → Begins (titled_word k) f a.source → going size (head f) a.source ≡ going size (entitle f k n) c.source
-    to_entitled f size z m = to_title f size z m ∙ on-name size (title f k) (entitle f k n) b.source n w refl ∙ ap (going size (entitle f k n)) (sym s2)
+    pub to_entitled : (f : Front) (size : ℕ) → size ≡ length a.text → Begins (titled_word k) f a.source → run_on size (head f) a.source ≡ run_on size (entitle f k n) c.source
+    to_entitled f size z m = to_title f size z m ∙ on-name size (title f k) (entitle f k n) b.source n w refl ∙ ap (run_on size (entitle f k n)) (sym s2)
 
     module _ (owner : Front → Owner) (same : (f : Front) → entitle f k n ≡ directives_of (owner f)) where
-      to_owner : (f : Front) (size : ℕ) → size ≡ length a.text → Begins (titled_word k) f a.source → going size (head f) a.source ≡ going size (directives_of (owner f)) c.source
-      to_owner f size z m = to_entitled f size z m ∙ ap (λ s. going size s c.source) (same f)
+      to_owner : (f : Front) (size : ℕ) → size ≡ length a.text → Begins (titled_word k) f a.source → run_on size (head f) a.source ≡ run_on size (directives_of (owner f)) c.source
+      to_owner f size z m = to_entitled f size z m ∙ ap (λ s. run_on size s c.source) (same f)
 
       pub titled-no_directives : (f : Fault) → Tells f (directives_read nesting_limit true (length c.text) c.source) → Fails (Begins (titled_word k)) head a f
       titled-no_directives f h =
           fails-rest (titled_word k) a c (λ (o : Owner) (s : Source). Unit {0}) (λ o. directives_of o) owner (t2 ∙ t) to_owner (λ f. tt) f (fails-directives c f h)
 
       pub to_directives : (d : Ahead) (ds : List Directive) → directives_read nesting_limit true (length c.text) c.source ≡ Ok (ds, d.source)
-          → (f : Front) (size : ℕ) → size ≡ length a.text → Begins (titled_word k) f a.source → going size (head f) a.source ≡ going size (in_directives (further true ds (owner f))) d.source
+          → (f : Front) (size : ℕ) → size ≡ length a.text → Begins (titled_word k) f a.source → run_on size (head f) a.source ≡ run_on size (in_directives (further true ds (owner f))) d.source
       to_directives d ds directed f size z m =
           to_owner f size z m
           ∙ on-directives size (owner f) c.source d.source ds
@@ -95,9 +95,9 @@ module _ (k : Titled) (a b : Ahead) (s : b.source ≡ behind a.source) (t : b.te
 
 -- ---- scalars
 
-pub scalar-read : (nodes : ℕ) (a b c d : Ahead) (n : List ℕ) (ds : List Directive) → b.source ≡ behind a.source → ((ns : List ℕ) → laid (nodes ∷ ns) a ≡ laid ns b) → b.text ≡ a.text
-    → next_word b.source ≡ Some n → c.source ≡ behind b.source → ((ns : List ℕ) → laid (1 ∷ ns) b ≡ laid ns c) → c.text ≡ b.text
-    → directives_read nesting_limit true (length c.text) c.source ≡ Ok (ds, d.source) → ((ns : List ℕ) → laid (spell_directives node_count ds ns) c ≡ laid ns d) → d.text ≡ c.text
+pub scalar-read : (nodes : ℕ) (a b c d : Ahead) (n : List ℕ) (ds : List Directive) → b.source ≡ behind a.source → ((ns : List ℕ) → lay (nodes ∷ ns) a ≡ lay ns b) → b.text ≡ a.text
+    → next_word b.source ≡ Some n → c.source ≡ behind b.source → ((ns : List ℕ) → lay (1 ∷ ns) b ≡ lay ns c) → c.text ≡ b.text
+    → directives_read nesting_limit true (length c.text) c.source ≡ Ok (ds, d.source) → ((ns : List ℕ) → lay (spell_directives node_count ds ns) c ≡ lay ns d) → d.text ≡ c.text
     → next_is 64 d.source ≡ false → token_count d.source ≤ token_count c.source
     → Defined (codes "scalar") nodes a d (written_of (written.scalar n ds))
 scalar-read nodes a b c d n ds s l t w s2 l2 t2 directed l3 t3 last fewer = record {
@@ -117,8 +117,8 @@ scalar-read nodes a b c d n ds s l t w s2 l2 t2 directed l3 t3 last fewer = reco
 -- ---- schemas
 
 pub to_schema : (a b : Ahead) → b.source ≡ behind a.source
-    → (f : Front) (size : ℕ) → size ≡ length a.text → Begins (codes "schema") f a.source → going size (head f) a.source ≡ going size (directives_of (machine.on_schema f)) b.source
-to_schema a b s f size z m = on-name size (head f) (directives_of (machine.on_schema f)) a.source (codes "schema") m refl ∙ ap (going size (directives_of (machine.on_schema f))) (sym s)
+    → (f : Front) (size : ℕ) → size ≡ length a.text → Begins (codes "schema") f a.source → run_on size (head f) a.source ≡ run_on size (directives_of (machine.on_schema f)) b.source
+to_schema a b s f size z m = on-name size (head f) (directives_of (machine.on_schema f)) a.source (codes "schema") m refl ∙ ap (run_on size (directives_of (machine.on_schema f))) (sym s)
 
 pub schema-no_directives : (a b : Ahead) (f : Fault) → b.source ≡ behind a.source → b.text ≡ a.text → Tells f (directives_read nesting_limit true (length b.text) b.source)
     → Fails (Begins (codes "schema")) head a f
@@ -126,7 +126,7 @@ schema-no_directives a b f s t h =
     fails-rest (codes "schema") a b (λ (o : Owner) (s : Source). Unit {0}) (λ o. directives_of o) (λ f. machine.on_schema f) t (to_schema a b s) (λ f. tt) f (fails-directives b f h)
 
 pub to_roots : (a b c : Ahead) (ds : List Directive) → b.source ≡ behind a.source → b.text ≡ a.text → directives_read nesting_limit true (length b.text) b.source ≡ Ok (ds, c.source)
-    → (f : Front) (size : ℕ) → size ≡ length a.text → Begins (codes "schema") f a.source → going size (head f) a.source ≡ going size (in_directives (further true ds (machine.on_schema f))) c.source
+    → (f : Front) (size : ℕ) → size ≡ length a.text → Begins (codes "schema") f a.source → run_on size (head f) a.source ≡ run_on size (in_directives (further true ds (machine.on_schema f))) c.source
 to_roots a b c ds s t directed f size z m =
     to_schema a b s f size z m
     ∙ on-directives size (machine.on_schema f) b.source c.source ds (subst (λ n. directives_read nesting_limit true n b.source ≡ Ok (ds, c.source)) (ap (λ (s : List ℕ). length s) t ∙ sym z) directed)
@@ -142,8 +142,8 @@ directive_title-stops f (tok.name n) e = absurd (cc)
 directive_title-stops f t e = refl
 
 module _ (a b : Ahead) (s : b.source ≡ behind a.source) (t : b.text ≡ a.text) where
-  to_sign : (f : Front) (size : ℕ) → size ≡ length a.text → Begins (codes "directive") f a.source → going size (head f) a.source ≡ going size (machine.directive_sign f) b.source
-  to_sign f size z m = on-name size (head f) (machine.directive_sign f) a.source (codes "directive") m refl ∙ ap (going size (machine.directive_sign f)) (sym s)
+  to_sign : (f : Front) (size : ℕ) → size ≡ length a.text → Begins (codes "directive") f a.source → run_on size (head f) a.source ≡ run_on size (machine.directive_sign f) b.source
+  to_sign f size z m = on-name size (head f) (machine.directive_sign f) a.source (codes "directive") m refl ∙ ap (run_on size (machine.directive_sign f)) (sym s)
 
   pub directive-no_sign : (f : Fault) → Misses f (next_is 64 b.source ≡ false) (stopped_at (length b.text) b.source) → Fails (Begins (codes "directive")) head a f
   directive-no_sign f x =
@@ -152,8 +152,8 @@ module _ (a b : Ahead) (s : b.source ≡ behind a.source) (t : b.text ≡ a.text
       (λ f z miss. (refl, λ t c. directive_sign-stops f t (not_at 64 b.source t c miss))))
 
   module _ (c : Ahead) (sign : next_is 64 b.source ≡ true) (s2 : c.source ≡ behind b.source) (t2 : c.text ≡ b.text) where
-    to_name : (f : Front) (size : ℕ) → size ≡ length a.text → Begins (codes "directive") f a.source → going size (head f) a.source ≡ going size (machine.directive_title f) c.source
-    to_name f size z m = to_sign f size z m ∙ on-sign size 64 (machine.directive_sign f) (machine.directive_title f) b.source sign refl ∙ ap (going size (machine.directive_title f)) (sym s2)
+    to_name : (f : Front) (size : ℕ) → size ≡ length a.text → Begins (codes "directive") f a.source → run_on size (head f) a.source ≡ run_on size (machine.directive_title f) c.source
+    to_name f size z m = to_sign f size z m ∙ on-sign size 64 (machine.directive_sign f) (machine.directive_title f) b.source sign refl ∙ ap (run_on size (machine.directive_title f)) (sym s2)
 
     pub directive-no_name : (f : Fault) → Misses f (next_word c.source ≡ None) (stopped_at (length c.text) c.source) → Fails (Begins (codes "directive")) head a f
     directive-no_name f x =
@@ -162,9 +162,9 @@ module _ (a b : Ahead) (s : b.source ≡ behind a.source) (t : b.text ≡ a.text
         (λ f z miss. (refl, λ t d. directive_title-stops f t (no_word c.source t d miss))))
 
     pub to_arguments : (d : Ahead) (n : List ℕ) → next_word c.source ≡ Some n → d.source ≡ behind c.source
-        → (f : Front) (size : ℕ) → size ≡ length a.text → Begins (codes "directive") f a.source → going size (head f) a.source ≡ going size (machine.directive_arguments f n) d.source
+        → (f : Front) (size : ℕ) → size ≡ length a.text → Begins (codes "directive") f a.source → run_on size (head f) a.source ≡ run_on size (machine.directive_arguments f n) d.source
     to_arguments d n w s3 f size z m =
-        to_name f size z m ∙ on-name size (machine.directive_title f) (machine.directive_arguments f n) c.source n w refl ∙ ap (going size (machine.directive_arguments f n)) (sym s3)
+        to_name f size z m ∙ on-name size (machine.directive_title f) (machine.directive_arguments f n) c.source n w refl ∙ ap (run_on size (machine.directive_arguments f n)) (sym s3)
 
 -- ---- types with fields
 
@@ -172,20 +172,20 @@ module _ (a b c : Ahead) (n : List ℕ) (s : b.source ≡ behind a.source) (t : 
   abbrev pub told_at : FieldedAt → Entitled
   told_at x = record { front = x.front; kind = x.kind; title = n }
 
-  to_implements : (x : FieldedAt) (size : ℕ) → size ≡ length a.text → MayFielded x a.source → going size (fielded_head x) a.source ≡ going size (untold (told_at x)) c.source
+  to_implements : (x : FieldedAt) (size : ℕ) → size ≡ length a.text → MayFielded x a.source → run_on size (fielded_head x) a.source ≡ run_on size (before_implements (told_at x)) c.source
   to_implements x size z m = to_entitled (machine.with_fields x.kind) a b s t c n w s2 t2 x.front size z m
 
-  pub fielded-no_implements : (f : Fault) → Fails Anywhere untold c f → Fails MayFielded fielded_head a f
-  fielded-no_implements f h = fails-behind MayFielded fielded_head Anywhere untold a c told_at (t2 ∙ t) to_implements (λ x m. tt) f h
+  pub fielded-no_implements : (f : Fault) → Fails Anywhere before_implements c f → Fails MayFielded fielded_head a f
+  fielded-no_implements f h = fails-behind MayFielded fielded_head Anywhere before_implements a c told_at (t2 ∙ t) to_implements (λ x m. tt) f h
 
-  module _ (d : Ahead) (is : List (List ℕ)) (r : Read Anywhere untold implemented (λ (w : Led (List ℕ)) (ns : List ℕ). spell_implements node_count w.leading w.all ns) (λ w. w.all) c d is) where
+  module _ (d : Ahead) (is : List (List ℕ)) (r : Read Anywhere before_implements behind_implements (λ (w : Led (List ℕ)) (ns : List ℕ). spell_implements node_count w.leading w.all ns) (λ w. w.all) c d is) where
     abbrev pub heading_at : FieldedAt → Heading
     heading_at x = machine.heading_of x.front x.kind n r.written.leading r.written.all
 
     text_d : d.text ≡ a.text
     text_d = r.text ∙ t2 ∙ t
 
-    to_its_directives : (x : FieldedAt) (size : ℕ) → size ≡ length a.text → MayFielded x a.source → going size (fielded_head x) a.source ≡ going size (directives_of (machine.on_fielded (heading_at x))) d.source
+    to_its_directives : (x : FieldedAt) (size : ℕ) → size ≡ length a.text → MayFielded x a.source → run_on size (fielded_head x) a.source ≡ run_on size (directives_of (machine.on_fielded (heading_at x))) d.source
     to_its_directives x size z m = to_implements x size z m ∙ r.goes (told_at x) size (z ∙ ap (λ (s : List ℕ). length s) (sym (t2 ∙ t))) tt
 
     pub fielded-no_directives : (f : Fault) → Tells f (directives_read nesting_limit true (length d.text) d.source) → Fails MayFielded fielded_head a f
@@ -197,17 +197,17 @@ module _ (a b c : Ahead) (n : List ℕ) (s : b.source ≡ behind a.source) (t : 
       abbrev pub fields_of : FieldedAt → Fields
       fields_of x = record { heading = heading_at x; directives = ds }
 
-      to_fields : (x : FieldedAt) (size : ℕ) → size ≡ length a.text → MayFielded x a.source → going size (fielded_head x) a.source ≡ going size (unopened_fields (fields_of x)) e.source
+      to_fields : (x : FieldedAt) (size : ℕ) → size ≡ length a.text → MayFielded x a.source → run_on size (fielded_head x) a.source ≡ run_on size (before_fields (fields_of x)) e.source
       to_fields x size z m =
           to_its_directives x size z m
           ∙ on-directives size (machine.on_fielded (heading_at x)) d.source e.source ds
           (subst (λ n. directives_read nesting_limit true n d.source ≡ Ok (ds, e.source)) (ap (λ (s : List ℕ). length s) text_d ∙ sym z) directed)
 
-      pub fielded-no_fields : (f : Fault) → Fails NoDirective unopened_fields e f → Fails MayFielded fielded_head a f
-      fielded-no_fields f h = fails-behind MayFielded fielded_head NoDirective unopened_fields a e fields_of (t4 ∙ text_d) to_fields (λ x m. last) f h
+      pub fielded-no_fields : (f : Fault) → Fails NoDirective before_fields e f → Fails MayFielded fielded_head a f
+      fielded-no_fields f h = fails-behind MayFielded fielded_head NoDirective before_fields a e fields_of (t4 ∙ text_d) to_fields (λ x m. last) f h
 
-      pub fielded-read : (nodes : ℕ) (g : Ahead) (fs : List FieldTree) (q : Read NoDirective unopened_fields closed_fields (spell_fields_part node_count) (map field_of) e g fs)
-          → ((ns : List ℕ) → laid (nodes ∷ ns) a ≡ laid ns b) → ((ns : List ℕ) → laid (1 ∷ ns) b ≡ laid ns c) → ((ns : List ℕ) → laid (spell_directives node_count ds ns) d ≡ laid ns e)
+      pub fielded-read : (nodes : ℕ) (g : Ahead) (fs : List FieldTree) (q : Read NoDirective before_fields behind_fields (spell_fields_part node_count) (map field_of) e g fs)
+          → ((ns : List ℕ) → lay (nodes ∷ ns) a ≡ lay ns b) → ((ns : List ℕ) → lay (1 ∷ ns) b ≡ lay ns c) → ((ns : List ℕ) → lay (spell_directives node_count ds ns) d ≡ lay ns e)
           → token_count g.source ≤ token_count a.source
           → Read MayFielded fielded_head fielded_end (spell_fielded nodes) fielded_of a g (record { name = n; implements = is; directives = ds; fields = fs })
       fielded-read nodes g fs q l l2 l4 fewer = record {
@@ -275,25 +275,25 @@ module _ (a b c d : Ahead) (n : List ℕ) (s : b.source ≡ behind a.source) (t 
     abbrev locating_at : Front → Locating
     locating_at f = record { front = f; title = n; arguments = r.written }
 
-    to_marks : (f : Front) (size : ℕ) → size ≡ length a.text → Begins (codes "directive") f a.source → going size (head f) a.source ≡ going size (unlocated (locating_at f)) e.source
+    to_marks : (f : Front) (size : ℕ) → size ≡ length a.text → Begins (codes "directive") f a.source → run_on size (head f) a.source ≡ run_on size (before_repeatable (locating_at f)) e.source
     to_marks f size z m =
         to_arguments a b s t c sign s2 t2 d n w s3 f size z m ∙ r.goes (machine.of_directive f n) size (z ∙ ap (λ (s : List ℕ). length s) (sym text_d2)) (refl, refl, tt)
 
-    pub directive-no_marks : (f : Fault) → Fails Anywhere unlocated e f → Fails (Begins (codes "directive")) head a f
-    directive-no_marks f h = fails-rest (codes "directive") a e Anywhere unlocated locating_at (r.text ∙ text_d2) to_marks (λ f. tt) f h
+    pub directive-no_marks : (f : Fault) → Fails Anywhere before_repeatable e f → Fails (Begins (codes "directive")) head a f
+    directive-no_marks f h = fails-rest (codes "directive") a e Anywhere before_repeatable locating_at (r.text ∙ text_d2) to_marks (λ f. tt) f h
 
-    module _ (g : Ahead) (rep : Bool) (q : Read Anywhere unlocated repeated (λ (r : Bool) (ns : List ℕ). spell_repeatable node_count r (0 ∷ ns)) (λ r. r) e g rep) where
+    module _ (g : Ahead) (rep : Bool) (q : Read Anywhere before_repeatable repeated (λ (r : Bool) (ns : List ℕ). spell_repeatable node_count r (0 ∷ ns)) (λ r. r) e g rep) where
       abbrev locating_on : Front → LocatingOn
       locating_on f = record { directive = locating_at f; repeatable = q.written }
 
-      to_locations : (f : Front) (size : ℕ) → size ≡ length a.text → Begins (codes "directive") f a.source → going size (head f) a.source ≡ going size (unlisted (locating_on f)) g.source
+      to_locations : (f : Front) (size : ℕ) → size ≡ length a.text → Begins (codes "directive") f a.source → run_on size (head f) a.source ≡ run_on size (before_locations (locating_on f)) g.source
       to_locations f size z m = to_marks f size z m ∙ q.goes (locating_at f) size (z ∙ ap (λ (s : List ℕ). length s) (sym (r.text ∙ text_d2))) tt
 
-      pub directive-no_locations : (f : Fault) → Fails Anywhere unlisted g f → Fails (Begins (codes "directive")) head a f
-      directive-no_locations f h = fails-rest (codes "directive") a g Anywhere unlisted locating_on (q.text ∙ r.text ∙ text_d2) to_locations (λ f. tt) f h
+      pub directive-no_locations : (f : Fault) → Fails Anywhere before_locations g f → Fails (Begins (codes "directive")) head a f
+      directive-no_locations f h = fails-rest (codes "directive") a g Anywhere before_locations locating_on (q.text ∙ r.text ∙ text_d2) to_locations (λ f. tt) f h
 
-      pub directive-read : (nodes : ℕ) (h : Ahead) (ls : List Location) (p : Read Anywhere unlisted located spell_locations (λ (w : Led Location). w.all) g h ls)
-          → ((ns : List ℕ) → laid (nodes ∷ ns) a ≡ laid ns b) → ((ns : List ℕ) → laid (0 ∷ ns) b ≡ laid ns c) → ((ns : List ℕ) → laid (1 ∷ ns) c ≡ laid ns d)
+      pub directive-read : (nodes : ℕ) (h : Ahead) (ls : List Location) (p : Read Anywhere before_locations behind_locations spell_locations (λ (w : Led Location). w.all) g h ls)
+          → ((ns : List ℕ) → lay (nodes ∷ ns) a ≡ lay ns b) → ((ns : List ℕ) → lay (0 ∷ ns) b ≡ lay ns c) → ((ns : List ℕ) → lay (1 ∷ ns) c ≡ lay ns d)
           → token_count d.source ≤ token_count a.source
           → Defined (codes "directive") nodes a h (S.Directive n args rep ls)
       directive-read nodes h ls p l l2 l3 fewer = record {
@@ -316,7 +316,7 @@ begun-reads word nodes a e (Ok d) w r = record { written = r.written; viewed = r
 begun-reads word nodes a e (Err (Wrong code at)) w r = λ f size z m. r f size z w
 begun-reads word nodes a e (Err NoMemory) w r = tt
 
-described-stops : (d : Description) (e : List ℕ) (to : Description → State) → (d ≡ None → ⊥) → machine.described d e to ≡ Err unexpected
+described-stops : (d : Description) (e : List ℕ) (to : Description → State) → (d ≡ None → ⊥) → machine.describe d e to ≡ Err unexpected
 described-stops None e to never = absurd (never refl)
 described-stops (Some d) e to never = refl
 
@@ -341,22 +341,22 @@ no-definition a h =
     takes-none f m t c = head-stops f t (λ e. not_text a.source t c (m e).0) (λ n same. h n (came t c n same))
 
     on_front : (before : List Described) (d : Description) (size : ℕ) → MayDescribe (record { before = before; description = d }) a.source
-        → going size (head (record { before = before; description = d })) a.source ≡ Err (stopped_at size a.source)
+        → run_on size (head (record { before = before; description = d })) a.source ≡ Err (stopped_at size a.source)
     on_front [] d size m = stops size (head (record { before = []; description = d })) a.source refl (takes-none (record { before = []; description = d }) m)
     on_front (b ∷ before) (Some d) size m = stops size (head (record { before = b ∷ before; description = Some d })) a.source refl (takes-none (record { before = b ∷ before; description = Some d }) m)
     on_front (b ∷ before) None size m = on_end (m refl).1
       where
-        on_end : MayDefine (b ∷ before) a.source → going size (head (record { before = b ∷ before; description = None })) a.source ≡ Err (stopped_at size a.source)
+        on_end : MayDefine (b ∷ before) a.source → run_on size (head (record { before = b ∷ before; description = None })) a.source ≡ Err (stopped_at size a.source)
         on_end (inl e) = absurd (cc)
         on_end (inr e) = stops-open size (head (record { before = b ∷ before; description = None })) a.source e (takes-none (record { before = b ∷ before; description = None }) m)
 
-    stopped : (f : Front) (size : ℕ) → MayDescribe f a.source → going size (head f) a.source ≡ Err (stopped_at size a.source)
+    stopped : (f : Front) (size : ℕ) → MayDescribe f a.source → run_on size (head f) a.source ≡ Err (stopped_at size a.source)
     stopped f size m = on_front f.before f.description size m
 
 -- ---- a definition with its description
 
 pub plain-definition : (nodes : ℕ) (a e : Ahead) (r : Result SchemaDef Fault) → next_is_text a.source ≡ false
-    → Reads MayDescribe head whole (spell_written node_count nodes) written_of a e r → Reads MayDefine behind_all defined (spell_definition nodes) definition_of a e r
+    → Reads MayDescribe head whole (spell_written node_count nodes) written_of a e r → Reads MayDefine behind_all behind_definition (spell_definition nodes) definition_of a e r
 plain-definition nodes a e (Ok d) n r = record {
   written = record { description = None; written = r.written };
   viewed = r.viewed;
@@ -368,14 +368,14 @@ plain-definition nodes a e (Ok d) n r = record {
 plain-definition nodes a e (Err f) n r =
     fails-behind MayDefine behind_all MayDescribe head a a (λ ds. record { before = ds; description = None }) refl (λ ds size z m. refl) (λ ds m e. (n, m)) f r
 
-pub described-definition : (nodes : ℕ) (a b e : Ahead) (r : Result SchemaDef Fault) → next_is_text a.source ≡ true → b.source ≡ behind a.source → ((ns : List ℕ) → laid (nodes ∷ ns) a ≡ laid ns b)
-    → b.text ≡ a.text → Reads MayDescribe head whole (spell_written node_count 0) written_of b e r → Reads MayDefine behind_all defined (spell_definition nodes) definition_of a e r
+pub described-definition : (nodes : ℕ) (a b e : Ahead) (r : Result SchemaDef Fault) → next_is_text a.source ≡ true → b.source ≡ behind a.source → ((ns : List ℕ) → lay (nodes ∷ ns) a ≡ lay ns b)
+    → b.text ≡ a.text → Reads MayDescribe head whole (spell_written node_count 0) written_of b e r → Reads MayDefine behind_all behind_definition (spell_definition nodes) definition_of a e r
 described-definition nodes a b e (Ok d) n s l t r =
     let x = comes_text a.source n in record {
       written = record { description = Some x.0; written = r.written };
       viewed = r.viewed;
       goes = λ ds size z m. on-token size (behind_all ds) (head (record { before = ds; description = Some x.0 })) a.source (tok.text x.0) x.1 refl
-          ∙ ap (going size (head (record { before = ds; description = Some x.0 }))) (sym s)
+          ∙ ap (run_on size (head (record { before = ds; description = Some x.0 }))) (sym s)
           ∙ r.goes (record { before = ds; description = Some x.0 }) size (z ∙ ap (λ (s : List ℕ). length s) (sym t)) (λ e. absurd (cc));
       nodes = λ ns. l (spell_written node_count 0 r.written ns) ∙ r.nodes ns;
       taken = omega (arith, r.taken, ap token_count s, behind-count a.source);
@@ -385,14 +385,14 @@ described-definition nodes a b e (Err f) n s l t r =
     let x = comes_text a.source n in
     fails-behind MayDefine behind_all MayDescribe head a b (λ ds. record { before = ds; description = Some x.0 }) t
     (λ ds size z m. on-token size (behind_all ds) (head (record { before = ds; description = Some x.0 })) a.source (tok.text x.0) x.1 refl
-    ∙ ap (going size (head (record { before = ds; description = Some x.0 }))) (sym s)) (λ ds m e. absurd (cc)) f r
+    ∙ ap (run_on size (head (record { before = ds; description = Some x.0 }))) (sym s)) (λ ds m e. absurd (cc)) f r
 
 -- ---- definitions, one behind the other
 
 abbrev pub Definitions : (a b : Ahead) → List SchemaDef → Type 0
 Definitions a b ds = Read {K = Unit {0}} Anywhere start (λ u ds. behind_all ds) (spell_all 2) (map definition_of) a b ds
 
-pub first-definition : (a b : Ahead) (d : SchemaDef) (us : List SchemaDef) → Read MayDefine behind_all defined (spell_definition 2) definition_of a b d → us ≡ d ∷ [] → Definitions a b us
+pub first-definition : (a b : Ahead) (d : SchemaDef) (us : List SchemaDef) → Read MayDefine behind_all behind_definition (spell_definition 2) definition_of a b d → us ≡ d ∷ [] → Definitions a b us
 first-definition a b d us r e = record {
   written = r.written ∷ [];
   viewed = ap (λ d. d ∷ []) r.viewed ∙ sym e;
@@ -412,12 +412,12 @@ some-written [] h = h
 some-written (d ∷ ds) h = tt
 
 pub next-definition : (a b c : Ahead) (ds us : List SchemaDef) (d : SchemaDef) → Definitions a b ds → NotEmpty ds → b.source ≢ ended
-    → Read MayDefine behind_all defined (spell_definition 1) definition_of b c d → us ≡ ds ++ d ∷ [] → Definitions a c us
+    → Read MayDefine behind_all behind_definition (spell_definition 1) definition_of b c d → us ≡ ds ++ d ∷ [] → Definitions a c us
 next-definition a b c ds us d r h n i e = record {
   written = r.written ++ i.written ∷ [];
   viewed = map-then definition_of r.written i.written ∙ ap (λ xs. xs ++ definition_of i.written ∷ []) r.viewed ∙ ap (λ x. ds ++ x ∷ []) i.viewed ∙ sym e;
   goes = λ u size z m. r.goes u size z m ∙ i.goes r.written size (z ∙ ap (λ (s : List ℕ). length s) (sym r.text)) (inr n);
-  nodes = λ ns. ap (λ xs. laid xs a) (all-then 2 r.written i.written ns (some-written r.written (subst NotEmpty (sym r.viewed) h)))
+  nodes = λ ns. ap (λ xs. lay xs a) (all-then 2 r.written i.written ns (some-written r.written (subst NotEmpty (sym r.viewed) h)))
       ∙ r.nodes (spell_definition 1 i.written ns) ∙ i.nodes ns;
   taken = omega (arith, r.taken, i.taken);
   text = i.text ∙ r.text;
@@ -443,12 +443,12 @@ schema-read a b ds r h n = record {
   written = r.written;
   viewed = r.viewed;
   read = λ size z. r.goes tt size z tt ∙ at_the_end size b.source r.written n (some-written r.written (subst NotEmpty (sym r.viewed) h));
-  nodes = ap (λ xs. laid xs a) (sym (all-nodes 1 r.written)) ∙ r.nodes [];
+  nodes = ap (λ xs. lay xs a) (sym (all-nodes 1 r.written)) ∙ r.nodes [];
 }
   where
-    at_the_end : (size : ℕ) (s : Source) (ds : List Described) → s ≡ ended → NotEmpty ds → going size (behind_all ds) s ≡ Ok ds
+    at_the_end : (size : ℕ) (s : Source) (ds : List Described) → s ≡ ended → NotEmpty ds → run_on size (behind_all ds) s ≡ Ok ds
     at_the_end size s [] n h = absurd h
-    at_the_end size s (d ∷ ds) n h = ap (going size (behind_all (d ∷ ds))) n
+    at_the_end size s (d ∷ ds) n h = ap (run_on size (behind_all (d ∷ ds))) n
 
 -- ---- words that begin no definition
 

@@ -11,7 +11,7 @@ use Rattle.gql_syntax.specs.Nexts.{is_at, next_is, Comes}
 use Rattle.gql_syntax.specs.Run.{unexpected}
 use Rattle.gql_syntax.specs.Texts.{nesting_limit}
 use Rattle.gql_sdl.specs.Machine.{Front, Inputs, of_field, of_directive, of_object, State, inputs, after_inputs, closed, advance, finish}
-use Rattle.gql_sdl.specs.Reads.{going, InputsAt, inputs_at, input_at, opener, closer, MayOpen, MayInput, unopened, Undirected}
+use Rattle.gql_sdl.specs.Reads.{run_on, InputsAt, inputs_at, input_at, opener, closer, MayOpen, MayInput, unopened, Undirected}
 use Rattle.gql_sdl.specs.Schemas.{WrittenInput, NotEmpty, spell_input, spell_inputs, spell_argument_defs}
 use Rattle.gql_sdl.proofs.Fronts.{inputs-then}
 use Rattle.gql_sdl.proofs.Goings.{alike}
@@ -73,7 +73,7 @@ pub inputs-opens : (opening closing : ℕ) (s : Source) → next_is opening s �
 inputs-opens opening closing s n i m = (opening, n, subst (λ c. advance nesting_limit (unopened i) (punctuator_of c) ≡ Ok (inputs i [] None)) m.0 (inputs-open i))
 
 pub inputs-absent : (opening closing : ℕ) (s : Source) → next_is opening s ≡ false → (i : Inputs) (size : ℕ) → MayOpen opening closing i s
-    → going size (unopened i) s ≡ going size (after_inputs i []) s
+    → run_on size (unopened i) s ≡ run_on size (after_inputs i []) s
 inputs-absent opening closing s n i size m =
     alike size (unopened i) (after_inputs i []) s (same_end i)
     (λ t c. same i t c (subst (λ o. is_at o t ≡ false) (sym m.0) (not_at opening s t c n)) m.2)

@@ -13,16 +13,16 @@ use Rattle.gql_syntax.specs.Answers.{node_count, Misses, default_read}
 use Rattle.gql_syntax.specs.Machine.{further, want_type, whole}
 use Rattle.gql_syntax.specs.Nexts.{behind, is_at, word_of, is_text, next_is, next_word, next_is_text, Comes, stopped_at, token_count}
 use Rattle.gql_syntax.specs.Parts.{directives_read, type_read}
-use Rattle.gql_syntax.specs.Places.{Ahead, laid}
+use Rattle.gql_syntax.specs.Places.{Ahead, lay}
 use Rattle.gql_syntax.specs.Run.{unexpected}
 use Rattle.gql_syntax.specs.Spelling.{spell_type, spell_default, spell_directives}
 use Rattle.gql_syntax.specs.Texts.{nesting_limit}
 use Rattle.gql_syntax.specs.declared.fault.Fault.{Fault}
-use Rattle.gql_sdl.specs.Given.{value_tree}
+use Rattle.gql_syntax.specs.Built.{value_tree}
 use Rattle.gql_sdl.specs.Machine.{of_field, of_directive, of_object, OpenInput, TypedInput, input_type, on_input, State, inputs, input_colon, input_default, in_directives, in_type, directives_of, closed, advance, finish, input_then}
-use Rattle.gql_sdl.specs.Reads.{going, Read, Fails, Reads, Member, an_input, a_field, opened, Named, named, spell_named, closer, MayName, InputsAt, MayInput, inputs_at, input_at}
+use Rattle.gql_sdl.specs.Reads.{run_on, Read, Fails, Reads, Member, an_input, a_field, opened, Named, named, spell_named, closer, MayName, InputsAt, MayInput, inputs_at, input_at}
 use Rattle.gql_sdl.specs.Schemas.{Description, WrittenInput, spell_input}
-use Rattle.gql_sdl.proofs.Complete.{tree-of-ty, tree-of-value}
+use Rattle.gql_syntax.proofs.BuiltTrees.{type_tree-ty_of, value_tree-value_of}
 use Rattle.gql_sdl.proofs.Goings.{on-token, on-name, on-sign, alike, on-type, on-default, on-directives, fails-missed, fails-behind}
 
 pub comes_text : (s : Source) → next_is_text s ≡ true → (d : List ℕ) × Comes s (tok.text d)
@@ -107,12 +107,12 @@ takes-text (a_field f fs) d = refl
 
 -- a name without a description
 pub plain-name : (a b : Ahead) (r : Result (List ℕ) Fault) → next_is_text a.source ≡ false → IfOk r (λ n. next_word a.source ≡ Some n) → OnOk r (b.source ≡ behind a.source)
-    → OnOk r ((ns : List ℕ) → laid (2 ∷ ns) a ≡ laid ns b) → b.text ≡ a.text → IfErr r (λ f. Misses f (next_word a.source ≡ None) (stopped_at (length a.text) a.source))
+    → OnOk r ((ns : List ℕ) → lay (2 ∷ ns) a ≡ lay ns b) → b.text ≡ a.text → IfErr r (λ f. Misses f (next_word a.source ≡ None) (stopped_at (length a.text) a.source))
     → Reads MayName (λ k. opened k None) named spell_named (λ (w : Named). w.title) a b r
 plain-name a b (Ok n) x w s l t f = record {
   written = record { description = None; title = n };
   viewed = refl;
-  goes = λ k size e m. on-name size (opened k None) (named k (record { description = None; title = n })) a.source n w (takes-name k None n) ∙ ap (going size (named k (record { description = None; title = n }))) (sym s);
+  goes = λ k size e m. on-name size (opened k None) (named k (record { description = None; title = n })) a.source n w (takes-name k None n) ∙ ap (run_on size (named k (record { description = None; title = n }))) (sym s);
   nodes = l;
   taken = subst (λ s. token_count s ≤ token_count a.source) (sym s) (behind-count a.source);
   text = t;
@@ -123,17 +123,17 @@ plain-name a b (Err e) x w s l t f =
 
 -- a name behind a description
 pub described-name : (a b c : Ahead) (r : Result (List ℕ) Fault) → next_is_text a.source ≡ true → b.source ≡ behind a.source
-    → ((ns : List ℕ) → laid (0 ∷ ns) a ≡ laid ns b) → b.text ≡ a.text
+    → ((ns : List ℕ) → lay (0 ∷ ns) a ≡ lay ns b) → b.text ≡ a.text
     → IfOk r (λ n. next_word b.source ≡ Some n) → OnOk r (c.source ≡ behind b.source)
-    → OnOk r ((ns : List ℕ) → laid (2 ∷ ns) b ≡ laid ns c) → c.text ≡ b.text → IfErr r (λ f. Misses f (next_word b.source ≡ None) (stopped_at (length b.text) b.source))
+    → OnOk r ((ns : List ℕ) → lay (2 ∷ ns) b ≡ lay ns c) → c.text ≡ b.text → IfErr r (λ f. Misses f (next_word b.source ≡ None) (stopped_at (length b.text) b.source))
     → Reads MayName (λ k. opened k None) named spell_named (λ (w : Named). w.title) a c r
 described-name a b c (Ok n) x s l t w s2 l2 t2 f =
     let d = comes_text a.source x in
     let written : Named = record { description = Some d.0; title = n } in record {
       written = written;
       viewed = refl;
-      goes = λ k size e m. on-token size (opened k None) (opened k (Some d.0)) a.source (tok.text d.0) d.1 (takes-text k d.0) ∙ ap (going size (opened k (Some d.0))) (sym s)
-          ∙ on-name size (opened k (Some d.0)) (named k written) b.source n w (takes-name k (Some d.0) n) ∙ ap (going size (named k written)) (sym s2);
+      goes = λ k size e m. on-token size (opened k None) (opened k (Some d.0)) a.source (tok.text d.0) d.1 (takes-text k d.0) ∙ ap (run_on size (opened k (Some d.0))) (sym s)
+          ∙ on-name size (opened k (Some d.0)) (named k written) b.source n w (takes-name k (Some d.0) n) ∙ ap (run_on size (named k written)) (sym s2);
       nodes = λ ns. l (2 ∷ ns) ∙ l2 ns;
       taken = omega (arith, behind-count a.source, behind-count b.source, ap token_count s, ap token_count s2);
       text = t2 ∙ t;
@@ -141,7 +141,7 @@ described-name a b c (Ok n) x s l t w s2 l2 t2 f =
 described-name a b c (Err e) x s l t w s2 l2 t2 f =
     let d = comes_text a.source x in
     fails-behind MayName (λ k. opened k None) (λ (k : Member) (s : Source). Unit {0}) (λ k. opened k (Some d.0)) a b (λ k. k) t
-    (λ k size e m. on-token size (opened k None) (opened k (Some d.0)) a.source (tok.text d.0) d.1 (takes-text k d.0) ∙ ap (going size (opened k (Some d.0))) (sym s))
+    (λ k size e m. on-token size (opened k None) (opened k (Some d.0)) a.source (tok.text d.0) d.1 (takes-text k d.0) ∙ ap (run_on size (opened k (Some d.0))) (sym s))
     (λ k m. tt) e
     (fails-missed (λ (k : Member) (s : Source). Unit {0}) (λ k. opened k (Some d.0)) b (next_word b.source ≡ None) e f
     (λ k m miss. (open-ends k (Some d.0), λ t c. described-stops k d.0 t (no_word b.source t c miss))))
@@ -152,18 +152,18 @@ module _ (a b : Ahead) (n : List ℕ) (r : Read MayName (λ k. opened k None) na
   abbrev pub open_input : InputsAt → OpenInput
   open_input k = record { inputs = k.inputs; before = k.before; description = r.written.description; title = n }
 
-  pub to_colon : (k : InputsAt) (size : ℕ) → size ≡ length a.text → MayInput k a.source → going size (inputs_at k) a.source ≡ going size (input_colon (open_input k)) b.source
+  pub to_colon : (k : InputsAt) (size : ℕ) → size ≡ length a.text → MayInput k a.source → run_on size (inputs_at k) a.source ≡ run_on size (input_colon (open_input k)) b.source
   to_colon k size e m =
       r.goes (an_input k.inputs k.before) size e m
-      ∙ ap (λ n. going size (input_colon (record { inputs = k.inputs; before = k.before; description = r.written.description; title = n })) b.source) r.viewed
+      ∙ ap (λ n. run_on size (input_colon (record { inputs = k.inputs; before = k.before; description = r.written.description; title = n })) b.source) r.viewed
 
   module _ (c : Ahead) (colon : next_is 58 b.source ≡ true) (s : c.source ≡ behind b.source) (t : c.text ≡ b.text) where
     pub to_type : (k : InputsAt) (size : ℕ) → size ≡ length a.text → MayInput k a.source
-        → going size (inputs_at k) a.source ≡ going size (in_type (want_type nesting_limit (whole (input_type (open_input k))))) c.source
+        → run_on size (inputs_at k) a.source ≡ run_on size (in_type (want_type nesting_limit (whole (input_type (open_input k))))) c.source
     to_type k size e m =
         to_colon k size e m
         ∙ on-sign size 58 (input_colon (open_input k)) (in_type (want_type nesting_limit (whole (input_type (open_input k))))) b.source colon refl
-        ∙ ap (going size (in_type (want_type nesting_limit (whole (input_type (open_input k)))))) (sym s)
+        ∙ ap (run_on size (in_type (want_type nesting_limit (whole (input_type (open_input k)))))) (sym s)
 
     text_c : c.text ≡ a.text
     text_c = t ∙ r.text
@@ -172,12 +172,12 @@ module _ (a b : Ahead) (n : List ℕ) (r : Read MayName (λ k. opened k None) na
       abbrev pub typed_input : InputsAt → TypedInput
       typed_input k = record { input = open_input k; of = of }
 
-      pub to_default : (k : InputsAt) (size : ℕ) → size ≡ length a.text → MayInput k a.source → going size (inputs_at k) a.source ≡ going size (input_default (typed_input k)) d.source
+      pub to_default : (k : InputsAt) (size : ℕ) → size ≡ length a.text → MayInput k a.source → run_on size (inputs_at k) a.source ≡ run_on size (input_default (typed_input k)) d.source
       to_default k size e m =
           to_type k size e m
           ∙ on-type size (input_type (open_input k)) c.source d.source (ty_of of)
           (subst (λ n. type_read nesting_limit n c.source ≡ Ok (ty_of of, d.source)) (ap (λ (s : List ℕ). length s) text_c ∙ sym e) typed)
-          ∙ ap (λ t. going size (input_default (record { input = open_input k; of = t })) d.source) (tree-of-ty of)
+          ∙ ap (λ t. run_on size (input_default (record { input = open_input k; of = t })) d.source) (type_tree-ty_of of)
 
       text_d : d.text ≡ a.text
       text_d = u ∙ text_c
@@ -185,22 +185,22 @@ module _ (a b : Ahead) (n : List ℕ) (r : Read MayName (λ k. opened k None) na
       module _ (e : Ahead) (default : Option ValueTree) (defaulted : default_read (length d.text) d.source ≡ Ok (option_map value_of default, e.source)) (v : e.text ≡ d.text) where
         trees : (o : Option ValueTree) → option_map value_tree (option_map value_of o) ≡ o
         trees None = refl
-        trees (Some v) = ap Some (tree-of-value v)
+        trees (Some v) = ap Some (value_tree-value_of v)
 
         pub to_directives : (k : InputsAt) (size : ℕ) → size ≡ length a.text → MayInput k a.source
-            → going size (inputs_at k) a.source ≡ going size (directives_of (on_input (typed_input k) default)) e.source
+            → run_on size (inputs_at k) a.source ≡ run_on size (directives_of (on_input (typed_input k) default)) e.source
         to_directives k size z m =
             to_default k size z m
             ∙ on-default size (typed_input k) d.source e.source (option_map value_of default)
             (subst (λ n. default_read n d.source ≡ Ok (option_map value_of default, e.source)) (ap (λ (s : List ℕ). length s) text_d ∙ sym z) defaulted)
-            ∙ ap (λ o. going size (directives_of (on_input (typed_input k) o)) e.source) (trees default)
+            ∙ ap (λ o. run_on size (directives_of (on_input (typed_input k) o)) e.source) (trees default)
 
         text_e : e.text ≡ a.text
         text_e = v ∙ text_d
 
         module _ (g : Ahead) (ds : List Directive) (directed : directives_read nesting_limit true (length e.text) e.source ≡ Ok (ds, g.source)) (w : g.text ≡ e.text) (last : next_is 64 g.source ≡ false) where
-          settles-input : (k : InputsAt) (size : ℕ) → going size (in_directives (further true ds (on_input (typed_input k) default))) g.source
-              ≡ going size (inputs k.inputs (input_then (typed_input k) default ds) None) g.source
+          settles-input : (k : InputsAt) (size : ℕ) → run_on size (in_directives (further true ds (on_input (typed_input k) default))) g.source
+              ≡ run_on size (inputs k.inputs (input_then (typed_input k) default ds) None) g.source
           settles-input k size =
               alike size (in_directives (further true ds (on_input (typed_input k) default))) (inputs k.inputs (input_then (typed_input k) default ds) None) g.source refl
               (λ t c. same t (not_at 64 g.source t c last))
@@ -211,15 +211,15 @@ module _ (a b : Ahead) (n : List ℕ) (r : Read MayName (λ k. opened k None) na
               same t e = refl
 
           pub to_end : (k : InputsAt) (size : ℕ) → size ≡ length a.text → MayInput k a.source
-              → going size (inputs_at k) a.source ≡ going size (inputs k.inputs (input_then (typed_input k) default ds) None) g.source
+              → run_on size (inputs_at k) a.source ≡ run_on size (inputs k.inputs (input_then (typed_input k) default ds) None) g.source
           to_end k size z m =
               to_directives k size z m
               ∙ on-directives size (on_input (typed_input k) default) e.source g.source ds
               (subst (λ n. directives_read nesting_limit true n e.source ≡ Ok (ds, g.source)) (ap (λ (s : List ℕ). length s) text_e ∙ sym z) directed)
               ∙ settles-input k size
 
-          pub input-read : ((ns : List ℕ) → laid (0 ∷ ns) b ≡ laid ns c) → ((ns : List ℕ) → laid (spell_type node_count (ty_of of) 0 0 ns) c ≡ laid ns d)
-              → ((ns : List ℕ) → laid (spell_default node_count default ns) d ≡ laid ns e) → ((ns : List ℕ) → laid (spell_directives node_count ds ns) e ≡ laid ns g)
+          pub input-read : ((ns : List ℕ) → lay (0 ∷ ns) b ≡ lay ns c) → ((ns : List ℕ) → lay (spell_type node_count (ty_of of) 0 0 ns) c ≡ lay ns d)
+              → ((ns : List ℕ) → lay (spell_default node_count default ns) d ≡ lay ns e) → ((ns : List ℕ) → lay (spell_directives node_count ds ns) e ≡ lay ns g)
               → token_count g.source ≤ token_count a.source
               → Read MayInput inputs_at input_at (spell_input node_count) (λ (w : WrittenInput). w.input) a g (record { name = n; of = of; default = default; directives = ds })
           input-read l1 l2 l3 l4 fewer = record {

@@ -1,3 +1,4 @@
+pub mod Shapes
 pub mod Complete
 pub mod DefinitionReads
 pub mod Ends
@@ -19,3 +20,4 @@ pub mod Steps
 pub mod Wholes
 pub mod Separated
 pub mod Spellings
+pub mod NodeCounts

@@ -7,13 +7,13 @@ use Rattle.gql_ast.specs.declared.location.Location.{Location}
 use Rattle.gql_syntax.proofs.Tokens.{not_at, no_word}
 use Rattle.gql_syntax.specs.Answers.{node_count, Misses, wrong_at}
 use Rattle.gql_syntax.specs.Nexts.{behind, is_at, word_of, next_is, next_word, Comes, stopped_at, token_count}
-use Rattle.gql_syntax.specs.Places.{Ahead, laid}
+use Rattle.gql_syntax.specs.Places.{Ahead, lay}
 use Rattle.gql_syntax.specs.Run.{unexpected}
 use Rattle.gql_syntax.specs.Texts.{nesting_limit}
 use Rattle.gql_syntax.specs.Words.{on_word}
 use Rattle.gql_syntax.specs.declared.fault.Fault.{Fault}
 use Rattle.gql_sdl.specs.Machine.{Front, Fielded, Listing, implementing, uniting, locating, listing_then, listing_more_of, listing_name, location_of, implements_word, repeatable_word, State, head, entitled, listing, listing_led, listing_more, listing_next, directive_on, directives_of, on_fielded, heading_of, front_then, at_directives, advance, finish}
-use Rattle.gql_sdl.specs.Reads.{going, Read, Fails, Reads, Anywhere, Led, Names, for_type, for_union, names_listing, names_separator, MayList, unnamed, names_listed, spell_names, NamesAt, led, MayLead, MayNames, led_names, led_named, untold, implemented, Uniting, ununited, united, NoDirective, Locating, unlocated, repeated, unlisted, located, LocatingAt, MayLocate, led_locating, led_located, spell_led, spell_locations}
+use Rattle.gql_sdl.specs.Reads.{run_on, Read, Fails, Reads, Anywhere, Led, Names, for_type, for_union, names_listing, names_separator, MayList, before_names, behind_names, spell_names, NamesAt, led, MayLead, MayNames, led_names, behind_led_names, before_implements, behind_implements, Uniting, before_union_members, behind_union_members, NoDirective, Locating, before_repeatable, repeated, before_locations, behind_locations, LocatingAt, MayLocate, led_locating, behind_led_locations, spell_led, spell_locations}
 use Rattle.gql_sdl.specs.Schemas.{location_word, NotEmpty, union, spell_separated, spell_implements, spell_members_part, spell_repeatable}
 use Rattle.gql_sdl.proofs.Goings.{on-name, on-sign, alike, fails-behind, fails-missed, fails-stopped}
 use Rattle.gql_sdl.proofs.InputReads.{behind-count}
@@ -29,7 +29,7 @@ names_separated separator = record {
   first = led_names;
   next = λ k ns. listing_next k.leading (names_listing k.names ns);
   more = λ k ns. listing_more k.leading (names_listing k.names ns);
-  ended = led_named;
+  ended = behind_led_names;
   separator = separator;
   nodes = 1;
   word = λ n. n;
@@ -70,14 +70,14 @@ unled separator true s t c m e = absurd (cc)
 unled separator false s t c m e = not_at separator s t c m
 
 names-end : (names : Names) (leading : Bool) (ns : List (List ℕ)) (t : Tok) → is_at (names_separator names) t ≡ false
-    → advance nesting_limit (listing_more leading (names_listing names ns)) t ≡ advance nesting_limit (names_listed names (record { leading = leading; all = ns })) t
+    → advance nesting_limit (listing_more leading (names_listing names ns)) t ≡ advance nesting_limit (behind_names names (record { leading = leading; all = ns })) t
 names-end (for_type f k m) leading ns tok.ampersand e = absurd (cc)
 names-end (for_type f k m) leading ns t e = refl
 names-end (for_union f m ds) leading ns tok.bar e = absurd (cc)
 names-end (for_union f m ds) leading ns t e = refl
 
 names-finish : (names : Names) (leading : Bool) (ns : List (List ℕ))
-    → finish (listing_more leading (names_listing names ns)) ≡ finish (names_listed names (record { leading = leading; all = ns }))
+    → finish (listing_more leading (names_listing names ns)) ≡ finish (behind_names names (record { leading = leading; all = ns }))
 names-finish (for_type f k m) leading ns = refl
 names-finish (for_union f m ds) leading ns = refl
 
@@ -101,7 +101,7 @@ names_laws separator = record {
 
 -- ---- a separator in front, or none
 
-names-lead : (names : Names) → advance nesting_limit (unnamed names) (punctuator_of (names_separator names)) ≡ Ok (listing_led (names_listing names []))
+names-lead : (names : Names) → advance nesting_limit (before_names names) (punctuator_of (names_separator names)) ≡ Ok (listing_led (names_listing names []))
 names-lead (for_type f k n) = refl
 names-lead (for_union f n ds) = refl
 
@@ -113,47 +113,47 @@ separated-leading : (n : ℕ) (ws : List (List ℕ)) (ns : List ℕ) → NotEmpt
 separated-leading n [] ns h = absurd h
 separated-leading n (w ∷ ws) ns h = refl
 
-pub names-led : (separator : ℕ) (a b c : Ahead) (ws : List (List ℕ)) → next_is separator a.source ≡ true → b.source ≡ behind a.source → ((ns : List ℕ) → laid (0 ∷ ns) a ≡ laid ns b) → b.text ≡ a.text
-    → Read (MayNames separator) led_names led_named (sep_nodes (names_separated separator)) (λ (ws : List (List ℕ)). ws) b c ws → NotEmpty ws
-    → Read (MayList separator) unnamed names_listed spell_names (λ (w : Led (List ℕ)). w.all) a c ws
+pub names-led : (separator : ℕ) (a b c : Ahead) (ws : List (List ℕ)) → next_is separator a.source ≡ true → b.source ≡ behind a.source → ((ns : List ℕ) → lay (0 ∷ ns) a ≡ lay ns b) → b.text ≡ a.text
+    → Read (MayNames separator) led_names behind_led_names (sep_nodes (names_separated separator)) (λ (ws : List (List ℕ)). ws) b c ws → NotEmpty ws
+    → Read (MayList separator) before_names behind_names spell_names (λ (w : Led (List ℕ)). w.all) a c ws
 names-led separator a b c ws n s l t r h = record {
   written = record { leading = true; all = r.written };
   viewed = r.viewed;
-  goes = λ k size z m. on-sign size separator (unnamed k) (listing_led (names_listing k [])) a.source n
-      (subst (λ o. advance nesting_limit (unnamed k) (punctuator_of o) ≡ Ok (listing_led (names_listing k []))) m (names-lead k))
-      ∙ ap (going size (listing_led (names_listing k []))) (sym s)
+  goes = λ k size z m. on-sign size separator (before_names k) (listing_led (names_listing k [])) a.source n
+      (subst (λ o. advance nesting_limit (before_names k) (punctuator_of o) ≡ Ok (listing_led (names_listing k []))) m (names-lead k))
+      ∙ ap (run_on size (listing_led (names_listing k []))) (sym s)
       ∙ r.goes (record { names = k; leading = true }) size (z ∙ ap (λ (s : List ℕ). length s) (sym t)) (m, tt);
-  nodes = λ ns. ap (λ xs. laid xs a) (separated-leading 1 r.written ns (subst NotEmpty (sym r.viewed) h))
+  nodes = λ ns. ap (λ xs. lay xs a) (separated-leading 1 r.written ns (subst NotEmpty (sym r.viewed) h))
       ∙ l (spell_separated node_count tok.bar 1 false r.written ns)
-      ∙ ap (λ xs. laid (spell_separated node_count tok.bar 1 false xs ns) b) (sym (map-same r.written)) ∙ r.nodes ns;
+      ∙ ap (λ xs. lay (spell_separated node_count tok.bar 1 false xs ns) b) (sym (map-same r.written)) ∙ r.nodes ns;
   taken = omega (arith, r.taken, ap token_count s, behind-count a.source);
   text = r.text ∙ t;
 }
 
 pub names-led-fail : (separator : ℕ) (a b : Ahead) (f : Fault) → next_is separator a.source ≡ true → b.source ≡ behind a.source → b.text ≡ a.text
-    → Fails (MayNames separator) led_names b f → Fails (MayList separator) unnamed a f
+    → Fails (MayNames separator) led_names b f → Fails (MayList separator) before_names a f
 names-led-fail separator a b f n s t h =
-    fails-behind (MayList separator) unnamed (MayNames separator) led_names a b (λ k. record { names = k; leading = true }) t
-    (λ k size z m. on-sign size separator (unnamed k) (listing_led (names_listing k [])) a.source n
-    (subst (λ o. advance nesting_limit (unnamed k) (punctuator_of o) ≡ Ok (listing_led (names_listing k []))) m (names-lead k))
-    ∙ ap (going size (listing_led (names_listing k []))) (sym s))
+    fails-behind (MayList separator) before_names (MayNames separator) led_names a b (λ k. record { names = k; leading = true }) t
+    (λ k size z m. on-sign size separator (before_names k) (listing_led (names_listing k [])) a.source n
+    (subst (λ o. advance nesting_limit (before_names k) (punctuator_of o) ≡ Ok (listing_led (names_listing k []))) m (names-lead k))
+    ∙ ap (run_on size (listing_led (names_listing k []))) (sym s))
     (λ k m. (m, tt)) f h
 
 pub names-unled : (separator : ℕ) (a c : Ahead) (ws : List (List ℕ)) → next_is separator a.source ≡ false
-    → Read (MayNames separator) led_names led_named (sep_nodes (names_separated separator)) (λ (ws : List (List ℕ)). ws) a c ws
-    → Read (MayList separator) unnamed names_listed spell_names (λ (w : Led (List ℕ)). w.all) a c ws
+    → Read (MayNames separator) led_names behind_led_names (sep_nodes (names_separated separator)) (λ (ws : List (List ℕ)). ws) a c ws
+    → Read (MayList separator) before_names behind_names spell_names (λ (w : Led (List ℕ)). w.all) a c ws
 names-unled separator a c ws n r = record {
   written = record { leading = false; all = r.written };
   viewed = r.viewed;
   goes = λ k size z m. r.goes (record { names = k; leading = false }) size z (m, n);
-  nodes = λ ns. ap (λ xs. laid (spell_separated node_count tok.bar 1 false xs ns) a) (sym (map-same r.written)) ∙ r.nodes ns;
+  nodes = λ ns. ap (λ xs. lay (spell_separated node_count tok.bar 1 false xs ns) a) (sym (map-same r.written)) ∙ r.nodes ns;
   taken = r.taken;
   text = r.text;
 }
 
-pub names-unled-fail : (separator : ℕ) (a : Ahead) (f : Fault) → next_is separator a.source ≡ false → Fails (MayNames separator) led_names a f → Fails (MayList separator) unnamed a f
+pub names-unled-fail : (separator : ℕ) (a : Ahead) (f : Fault) → next_is separator a.source ≡ false → Fails (MayNames separator) led_names a f → Fails (MayList separator) before_names a f
 names-unled-fail separator a f n h =
-    fails-behind (MayList separator) unnamed (MayNames separator) led_names a a (λ k. record { names = k; leading = false }) refl (λ k size z m. refl) (λ k m. (m, n)) f h
+    fails-behind (MayList separator) before_names (MayNames separator) led_names a a (λ k. record { names = k; leading = false }) refl (λ k size z m. refl) (λ k m. (m, n)) f h
 
 -- ---- `implements`
 
@@ -161,16 +161,16 @@ implements-test : (f : Front) (k : Fielded) (n : List ℕ) (m : List ℕ) (b : B
     → advance nesting_limit (entitled f k n) (tok.name m) ≡ Ok (listing (implementing f k n []))
 implements-test f k n m b e same = ap (λ m. advance nesting_limit (entitled f k n) (tok.name m)) same
 
-pub implements-read : (a b c : Ahead) (ws : List (List ℕ)) → next_word a.source ≡ Some implements_word → b.source ≡ behind a.source → ((ns : List ℕ) → laid (0 ∷ ns) a ≡ laid ns b) → b.text ≡ a.text
-    → Read (MayList 38) unnamed names_listed spell_names (λ (w : Led (List ℕ)). w.all) b c ws → NotEmpty ws
-    → Read Anywhere untold implemented (λ (w : Led (List ℕ)) (ns : List ℕ). spell_implements node_count w.leading w.all ns) (λ w. w.all) a c ws
+pub implements-read : (a b c : Ahead) (ws : List (List ℕ)) → next_word a.source ≡ Some implements_word → b.source ≡ behind a.source → ((ns : List ℕ) → lay (0 ∷ ns) a ≡ lay ns b) → b.text ≡ a.text
+    → Read (MayList 38) before_names behind_names spell_names (λ (w : Led (List ℕ)). w.all) b c ws → NotEmpty ws
+    → Read Anywhere before_implements behind_implements (λ (w : Led (List ℕ)) (ns : List ℕ). spell_implements node_count w.leading w.all ns) (λ w. w.all) a c ws
 implements-read a b c ws n s l t r h = record {
   written = r.written;
   viewed = r.viewed;
-  goes = λ k size z m. on-name size (untold k) (listing (implementing k.front k.kind k.title [])) a.source implements_word n refl
-      ∙ ap (going size (listing (implementing k.front k.kind k.title []))) (sym s)
+  goes = λ k size z m. on-name size (before_implements k) (listing (implementing k.front k.kind k.title [])) a.source implements_word n refl
+      ∙ ap (run_on size (listing (implementing k.front k.kind k.title []))) (sym s)
       ∙ r.goes (for_type k.front k.kind k.title) size (z ∙ ap (λ (s : List ℕ). length s) (sym t)) refl;
-  nodes = λ ns. ap (λ xs. laid xs a) (spelled r.written.all ns (subst NotEmpty (sym r.viewed) h)) ∙ l (spell_names r.written ns) ∙ r.nodes ns;
+  nodes = λ ns. ap (λ xs. lay xs a) (spelled r.written.all ns (subst NotEmpty (sym r.viewed) h)) ∙ l (spell_names r.written ns) ∙ r.nodes ns;
   taken = omega (arith, r.taken, ap token_count s, behind-count a.source);
   text = r.text ∙ t;
 }
@@ -183,11 +183,11 @@ implements-read a b c ws n s l t r h = record {
         on_leading true = refl
         on_leading false = refl
 
-pub implements-fail : (a b : Ahead) (f : Fault) → next_word a.source ≡ Some implements_word → b.source ≡ behind a.source → b.text ≡ a.text → Fails (MayList 38) unnamed b f → Fails Anywhere untold a f
+pub implements-fail : (a b : Ahead) (f : Fault) → next_word a.source ≡ Some implements_word → b.source ≡ behind a.source → b.text ≡ a.text → Fails (MayList 38) before_names b f → Fails Anywhere before_implements a f
 implements-fail a b f n s t h =
-    fails-behind Anywhere untold (MayList 38) unnamed a b (λ k. for_type k.front k.kind k.title) t
-    (λ k size z m. on-name size (untold k) (listing (implementing k.front k.kind k.title [])) a.source implements_word n refl
-    ∙ ap (going size (listing (implementing k.front k.kind k.title []))) (sym s)) (λ k m. refl) f h
+    fails-behind Anywhere before_implements (MayList 38) before_names a b (λ k. for_type k.front k.kind k.title) t
+    (λ k size z m. on-name size (before_implements k) (listing (implementing k.front k.kind k.title [])) a.source implements_word n refl
+    ∙ ap (run_on size (listing (implementing k.front k.kind k.title []))) (sym s)) (λ k m. refl) f h
 
 entitled-skips : (f : Front) (k : Fielded) (n : List ℕ) (t : Tok) → ((m : List ℕ) → t ≡ tok.name m → bytes_eq m implements_word ≡ false)
     → advance nesting_limit (entitled f k n) t ≡ advance nesting_limit (directives_of (on_fielded (heading_of f k n false []))) t
@@ -197,11 +197,11 @@ entitled-skips f k n t h = refl
 
 -- another word, or none, follows
 pub implements-absent : (a : Ahead) (us : List (List ℕ)) → us ≡ [] → ((m : List ℕ) → next_word a.source ≡ Some m → bytes_eq m implements_word ≡ false)
-    → Read Anywhere untold implemented (λ (w : Led (List ℕ)) (ns : List ℕ). spell_implements node_count w.leading w.all ns) (λ w. w.all) a a us
+    → Read Anywhere before_implements behind_implements (λ (w : Led (List ℕ)) (ns : List ℕ). spell_implements node_count w.leading w.all ns) (λ w. w.all) a a us
 implements-absent a us e h = record {
   written = record { leading = false; all = [] };
   viewed = sym e;
-  goes = λ k size z m. alike size (untold k) (directives_of (on_fielded (heading_of k.front k.kind k.title false []))) a.source refl
+  goes = λ k size z m. alike size (before_implements k) (directives_of (on_fielded (heading_of k.front k.kind k.title false []))) a.source refl
       (λ t c. entitled-skips k.front k.kind k.title t (λ m same. h m (on_cases (word-cases a.source t c) m same)));
   nodes = λ ns. refl;
   taken = omega arith;
@@ -217,16 +217,16 @@ implements-absent a us e h = record {
 
 -- ---- the members of a union
 
-pub members-read : (a b c : Ahead) (ws : List (List ℕ)) → next_is 61 a.source ≡ true → b.source ≡ behind a.source → ((ns : List ℕ) → laid (0 ∷ ns) a ≡ laid ns b) → b.text ≡ a.text
-    → Read (MayList 124) unnamed names_listed spell_names (λ (w : Led (List ℕ)). w.all) b c ws → NotEmpty ws
-    → Read NoDirective ununited united (λ (w : Led (List ℕ)) (ns : List ℕ). spell_members_part node_count w.leading w.all ns) (λ w. w.all) a c ws
+pub members-read : (a b c : Ahead) (ws : List (List ℕ)) → next_is 61 a.source ≡ true → b.source ≡ behind a.source → ((ns : List ℕ) → lay (0 ∷ ns) a ≡ lay ns b) → b.text ≡ a.text
+    → Read (MayList 124) before_names behind_names spell_names (λ (w : Led (List ℕ)). w.all) b c ws → NotEmpty ws
+    → Read NoDirective before_union_members behind_union_members (λ (w : Led (List ℕ)) (ns : List ℕ). spell_members_part node_count w.leading w.all ns) (λ w. w.all) a c ws
 members-read a b c ws n s l t r h = record {
   written = r.written;
   viewed = r.viewed;
-  goes = λ k size z m. on-sign size 61 (ununited k) (listing (uniting k.front k.title k.directives [])) a.source n refl
-      ∙ ap (going size (listing (uniting k.front k.title k.directives []))) (sym s)
+  goes = λ k size z m. on-sign size 61 (before_union_members k) (listing (uniting k.front k.title k.directives [])) a.source n refl
+      ∙ ap (run_on size (listing (uniting k.front k.title k.directives []))) (sym s)
       ∙ r.goes (for_union k.front k.title k.directives) size (z ∙ ap (λ (s : List ℕ). length s) (sym t)) refl;
-  nodes = λ ns. ap (λ xs. laid xs a) (spelled r.written.all ns (subst NotEmpty (sym r.viewed) h)) ∙ l (spell_names r.written ns) ∙ r.nodes ns;
+  nodes = λ ns. ap (λ xs. lay xs a) (spelled r.written.all ns (subst NotEmpty (sym r.viewed) h)) ∙ l (spell_names r.written ns) ∙ r.nodes ns;
   taken = omega (arith, r.taken, ap token_count s, behind-count a.source);
   text = r.text ∙ t;
 }
@@ -235,18 +235,18 @@ members-read a b c ws n s l t r h = record {
     spelled [] ns h = absurd h
     spelled (w ∷ ws) ns h = refl
 
-pub members-fail : (a b : Ahead) (f : Fault) → next_is 61 a.source ≡ true → b.source ≡ behind a.source → b.text ≡ a.text → Fails (MayList 124) unnamed b f → Fails NoDirective ununited a f
+pub members-fail : (a b : Ahead) (f : Fault) → next_is 61 a.source ≡ true → b.source ≡ behind a.source → b.text ≡ a.text → Fails (MayList 124) before_names b f → Fails NoDirective before_union_members a f
 members-fail a b f n s t h =
-    fails-behind NoDirective ununited (MayList 124) unnamed a b (λ k. for_union k.front k.title k.directives) t
-    (λ k size z m. on-sign size 61 (ununited k) (listing (uniting k.front k.title k.directives [])) a.source n refl
-    ∙ ap (going size (listing (uniting k.front k.title k.directives []))) (sym s)) (λ k m. refl) f h
+    fails-behind NoDirective before_union_members (MayList 124) before_names a b (λ k. for_union k.front k.title k.directives) t
+    (λ k size z m. on-sign size 61 (before_union_members k) (listing (uniting k.front k.title k.directives [])) a.source n refl
+    ∙ ap (run_on size (listing (uniting k.front k.title k.directives []))) (sym s)) (λ k m. refl) f h
 
 pub members-absent : (a : Ahead) (us : List (List ℕ)) → us ≡ [] → next_is 61 a.source ≡ false
-    → Read NoDirective ununited united (λ (w : Led (List ℕ)) (ns : List ℕ). spell_members_part node_count w.leading w.all ns) (λ w. w.all) a a us
+    → Read NoDirective before_union_members behind_union_members (λ (w : Led (List ℕ)) (ns : List ℕ). spell_members_part node_count w.leading w.all ns) (λ w. w.all) a a us
 members-absent a us e n = record {
   written = record { leading = false; all = [] };
   viewed = sym e;
-  goes = λ k size z m. alike size (ununited k) (head (front_then k.front (union k.title k.directives false []))) a.source refl
+  goes = λ k size z m. alike size (before_union_members k) (head (front_then k.front (union k.title k.directives false []))) a.source refl
       (λ t c. same k t (not_at 61 a.source t c n) (not_at 64 a.source t c m));
   nodes = λ ns. refl;
   taken = omega arith;
@@ -254,7 +254,7 @@ members-absent a us e n = record {
 }
   where
     same : (k : Uniting) (t : Tok) → is_at 61 t ≡ false → is_at 64 t ≡ false
-        → advance nesting_limit (ununited k) t ≡ advance nesting_limit (head (front_then k.front (union k.title k.directives false []))) t
+        → advance nesting_limit (before_union_members k) t ≡ advance nesting_limit (head (front_then k.front (union k.title k.directives false []))) t
     same k tok.equals e d = absurd (cc)
     same k tok.at_sign e d = absurd (cc)
     same k t e d = refl
@@ -273,7 +273,7 @@ locations_separated = record {
   first = led_locating;
   next = λ k ls. listing_next k.leading (locations_of k ls);
   more = λ k ls. listing_more k.leading (locations_of k ls);
-  ended = led_located;
+  ended = behind_led_locations;
   separator = 124;
   nodes = 0;
   word = location_word;
@@ -312,7 +312,7 @@ locations-no_first k true t s h = h
 locations-no_first k false tok.bar s h = let e = s refl in absurd (cc)
 locations-no_first k false t s h = h
 
-locations-end : (k : LocatingAt) (ls : List Location) (t : Tok) → is_at 124 t ≡ false → advance nesting_limit (listing_more k.leading (locations_of k ls)) t ≡ advance nesting_limit (led_located k ls) t
+locations-end : (k : LocatingAt) (ls : List Location) (t : Tok) → is_at 124 t ≡ false → advance nesting_limit (listing_more k.leading (locations_of k ls)) t ≡ advance nesting_limit (behind_led_locations k ls) t
 locations-end k ls tok.bar e = absurd (cc)
 locations-end k ls t e = refl
 
@@ -334,30 +334,30 @@ locations-leading : (ls : List Location) (ns : List ℕ) → NotEmpty ls
 locations-leading [] ns h = absurd h
 locations-leading (l ∷ ls) ns h = refl
 
-pub locations-led : (a b c : Ahead) (ls : List Location) → next_is 124 a.source ≡ true → b.source ≡ behind a.source → ((ns : List ℕ) → laid (0 ∷ ns) a ≡ laid ns b) → b.text ≡ a.text
-    → Read MayLocate led_locating led_located (sep_nodes locations_separated) (λ (ls : List Location). ls) b c ls → NotEmpty ls
-    → Read Anywhere unlisted located spell_locations (λ (w : Led Location). w.all) a c ls
+pub locations-led : (a b c : Ahead) (ls : List Location) → next_is 124 a.source ≡ true → b.source ≡ behind a.source → ((ns : List ℕ) → lay (0 ∷ ns) a ≡ lay ns b) → b.text ≡ a.text
+    → Read MayLocate led_locating behind_led_locations (sep_nodes locations_separated) (λ (ls : List Location). ls) b c ls → NotEmpty ls
+    → Read Anywhere before_locations behind_locations spell_locations (λ (w : Led Location). w.all) a c ls
 locations-led a b c ls n s l t r h = record {
   written = record { leading = true; all = r.written };
   viewed = r.viewed;
-  goes = λ k size z m. on-sign size 124 (unlisted k) (led_locating (record { on = k; leading = true })) a.source n refl
-      ∙ ap (going size (led_locating (record { on = k; leading = true }))) (sym s)
+  goes = λ k size z m. on-sign size 124 (before_locations k) (led_locating (record { on = k; leading = true })) a.source n refl
+      ∙ ap (run_on size (led_locating (record { on = k; leading = true }))) (sym s)
       ∙ r.goes (record { on = k; leading = true }) size (z ∙ ap (λ (s : List ℕ). length s) (sym t)) tt;
-  nodes = λ ns. ap (λ xs. laid xs a) (locations-leading r.written ns (subst NotEmpty (sym r.viewed) h))
+  nodes = λ ns. ap (λ xs. lay xs a) (locations-leading r.written ns (subst NotEmpty (sym r.viewed) h))
       ∙ l (spell_separated node_count tok.bar 0 false (map location_word r.written) ns) ∙ r.nodes ns;
   taken = omega (arith, r.taken, ap token_count s, behind-count a.source);
   text = r.text ∙ t;
 }
 
-pub locations-led-fail : (a b : Ahead) (f : Fault) → next_is 124 a.source ≡ true → b.source ≡ behind a.source → b.text ≡ a.text → Fails MayLocate led_locating b f → Fails Anywhere unlisted a f
+pub locations-led-fail : (a b : Ahead) (f : Fault) → next_is 124 a.source ≡ true → b.source ≡ behind a.source → b.text ≡ a.text → Fails MayLocate led_locating b f → Fails Anywhere before_locations a f
 locations-led-fail a b f n s t h =
-    fails-behind Anywhere unlisted MayLocate led_locating a b (λ k. record { on = k; leading = true }) t
-    (λ k size z m. on-sign size 124 (unlisted k) (led_locating (record { on = k; leading = true })) a.source n refl
-    ∙ ap (going size (led_locating (record { on = k; leading = true }))) (sym s)) (λ k m. tt) f h
+    fails-behind Anywhere before_locations MayLocate led_locating a b (λ k. record { on = k; leading = true }) t
+    (λ k size z m. on-sign size 124 (before_locations k) (led_locating (record { on = k; leading = true })) a.source n refl
+    ∙ ap (run_on size (led_locating (record { on = k; leading = true }))) (sym s)) (λ k m. tt) f h
 
 pub locations-unled : (a c : Ahead) (ls : List Location) → next_is 124 a.source ≡ false
-    → Read MayLocate led_locating led_located (sep_nodes locations_separated) (λ (ls : List Location). ls) a c ls
-    → Read Anywhere unlisted located spell_locations (λ (w : Led Location). w.all) a c ls
+    → Read MayLocate led_locating behind_led_locations (sep_nodes locations_separated) (λ (ls : List Location). ls) a c ls
+    → Read Anywhere before_locations behind_locations spell_locations (λ (w : Led Location). w.all) a c ls
 locations-unled a c ls n r = record {
   written = record { leading = false; all = r.written };
   viewed = r.viewed;
@@ -367,18 +367,18 @@ locations-unled a c ls n r = record {
   text = r.text;
 }
 
-pub locations-unled-fail : (a : Ahead) (f : Fault) → next_is 124 a.source ≡ false → Fails MayLocate led_locating a f → Fails Anywhere unlisted a f
+pub locations-unled-fail : (a : Ahead) (f : Fault) → next_is 124 a.source ≡ false → Fails MayLocate led_locating a f → Fails Anywhere before_locations a f
 locations-unled-fail a f n h =
-    fails-behind Anywhere unlisted MayLocate led_locating a a (λ k. record { on = k; leading = false }) refl (λ k size z m. refl) (λ k m. n) f h
+    fails-behind Anywhere before_locations MayLocate led_locating a a (λ k. record { on = k; leading = false }) refl (λ k size z m. refl) (λ k m. n) f h
 
 -- ---- `repeatable` and `on`
 
-pub on-read : (a b : Ahead) → next_word a.source ≡ Some on_word → b.source ≡ behind a.source → ((ns : List ℕ) → laid (0 ∷ ns) a ≡ laid ns b) → b.text ≡ a.text
-    → Read Anywhere unlocated repeated (λ (r : Bool) (ns : List ℕ). spell_repeatable node_count r (0 ∷ ns)) (λ r. r) a b false
+pub on-read : (a b : Ahead) → next_word a.source ≡ Some on_word → b.source ≡ behind a.source → ((ns : List ℕ) → lay (0 ∷ ns) a ≡ lay ns b) → b.text ≡ a.text
+    → Read Anywhere before_repeatable repeated (λ (r : Bool) (ns : List ℕ). spell_repeatable node_count r (0 ∷ ns)) (λ r. r) a b false
 on-read a b n s l t = record {
   written = false;
   viewed = refl;
-  goes = λ k size z m. on-name size (unlocated k) (repeated k false) a.source on_word n refl ∙ ap (going size (repeated k false)) (sym s);
+  goes = λ k size z m. on-name size (before_repeatable k) (repeated k false) a.source on_word n refl ∙ ap (run_on size (repeated k false)) (sym s);
   nodes = l;
   taken = subst (λ s. token_count s ≤ token_count a.source) (sym s) (behind-count a.source);
   text = t;
@@ -387,14 +387,14 @@ on-read a b n s l t = record {
 abbrev marked : Locating → State
 marked k = directive_on k.front k.title k.arguments true
 
-pub repeatable-read : (a b c : Ahead) → next_word a.source ≡ Some repeatable_word → b.source ≡ behind a.source → ((ns : List ℕ) → laid (0 ∷ ns) a ≡ laid ns b) → b.text ≡ a.text
-    → next_word b.source ≡ Some on_word → c.source ≡ behind b.source → ((ns : List ℕ) → laid (0 ∷ ns) b ≡ laid ns c) → c.text ≡ b.text
-    → Read Anywhere unlocated repeated (λ (r : Bool) (ns : List ℕ). spell_repeatable node_count r (0 ∷ ns)) (λ r. r) a c true
+pub repeatable-read : (a b c : Ahead) → next_word a.source ≡ Some repeatable_word → b.source ≡ behind a.source → ((ns : List ℕ) → lay (0 ∷ ns) a ≡ lay ns b) → b.text ≡ a.text
+    → next_word b.source ≡ Some on_word → c.source ≡ behind b.source → ((ns : List ℕ) → lay (0 ∷ ns) b ≡ lay ns c) → c.text ≡ b.text
+    → Read Anywhere before_repeatable repeated (λ (r : Bool) (ns : List ℕ). spell_repeatable node_count r (0 ∷ ns)) (λ r. r) a c true
 repeatable-read a b c n s l t n2 s2 l2 t2 = record {
   written = true;
   viewed = refl;
-  goes = λ k size z m. on-name size (unlocated k) (marked k) a.source repeatable_word n refl ∙ ap (going size (marked k)) (sym s)
-      ∙ on-name size (marked k) (repeated k true) b.source on_word n2 refl ∙ ap (going size (repeated k true)) (sym s2);
+  goes = λ k size z m. on-name size (before_repeatable k) (marked k) a.source repeatable_word n refl ∙ ap (run_on size (marked k)) (sym s)
+      ∙ on-name size (marked k) (repeated k true) b.source on_word n2 refl ∙ ap (run_on size (repeated k true)) (sym s2);
   nodes = λ ns. l (0 ∷ ns) ∙ l2 ns;
   taken = omega (arith, ap token_count s, ap token_count s2, behind-count a.source, behind-count b.source);
   text = t2 ∙ t;
@@ -405,7 +405,7 @@ marked-stops k (tok.name m) h = ap (λ b. cond b (Ok (repeated k true)) (Err une
 marked-stops k t h = refl
 
 unlocated-stops : (k : Locating) (t : Tok) → ((m : List ℕ) → t ≡ tok.name m → bytes_eq m repeatable_word ≡ false) → ((m : List ℕ) → t ≡ tok.name m → bytes_eq m on_word ≡ false)
-    → advance nesting_limit (unlocated k) t ≡ Err unexpected
+    → advance nesting_limit (before_repeatable k) t ≡ Err unexpected
 unlocated-stops k (tok.name m) h g =
     ap (λ b. cond b (Ok (marked k)) (cond (bytes_eq m on_word) (Ok (repeated k false)) (Err unexpected))) (h m refl) ∙ ap (λ b. cond b (Ok (repeated k false)) (Err unexpected)) (g m refl)
 unlocated-stops k t h g = refl
@@ -423,21 +423,21 @@ other-word s w n t c m same = on_test (bytes_eq m w) refl
     on_test true e = absurd (n (came (word-cases s t c) ∙ ap (λ m. Some m) (same_word m w e)))
 
 pub repeatable-no_on : (a b : Ahead) (f : Fault) → next_word a.source ≡ Some repeatable_word → b.source ≡ behind a.source → b.text ≡ a.text
-    → Misses f (next_word b.source ≢ Some on_word) (stopped_at (length b.text) b.source) → Fails Anywhere unlocated a f
+    → Misses f (next_word b.source ≢ Some on_word) (stopped_at (length b.text) b.source) → Fails Anywhere before_repeatable a f
 repeatable-no_on a b f n s t m =
-    fails-behind Anywhere unlocated (λ (k : Locating) (s : Source). Unit {0}) marked a b (λ k. k) t
-    (λ k size z m. on-name size (unlocated k) (marked k) a.source repeatable_word n refl ∙ ap (going size (marked k)) (sym s)) (λ k m. tt) f
+    fails-behind Anywhere before_repeatable (λ (k : Locating) (s : Source). Unit {0}) marked a b (λ k. k) t
+    (λ k size z m. on-name size (before_repeatable k) (marked k) a.source repeatable_word n refl ∙ ap (run_on size (marked k)) (sym s)) (λ k m. tt) f
     (fails-missed (λ (k : Locating) (s : Source). Unit {0}) marked b (next_word b.source ≢ Some on_word) f m
     (λ k z miss. (refl, λ t c. marked-stops k t (other-word b.source on_word miss t c))))
 
-pub no_on : (a : Ahead) (f : Fault) → next_word a.source ≢ Some repeatable_word → Misses f (next_word a.source ≢ Some on_word) (stopped_at (length a.text) a.source) → Fails Anywhere unlocated a f
+pub no_on : (a : Ahead) (f : Fault) → next_word a.source ≢ Some repeatable_word → Misses f (next_word a.source ≢ Some on_word) (stopped_at (length a.text) a.source) → Fails Anywhere before_repeatable a f
 no_on a f r m =
-    fails-missed Anywhere unlocated a (next_word a.source ≢ Some on_word) f m
+    fails-missed Anywhere before_repeatable a (next_word a.source ≢ Some on_word) f m
     (λ k z miss. (refl, λ t c. unlocated-stops k t (other-word a.source repeatable_word r t c) (other-word a.source on_word miss t c)))
 
-pub no_word_there : (a : Ahead) → next_word a.source ≡ None → Fails Anywhere unlocated a (wrong_at (stopped_at (length a.text) a.source))
+pub no_word_there : (a : Ahead) → next_word a.source ≡ None → Fails Anywhere before_repeatable a (wrong_at (stopped_at (length a.text) a.source))
 no_word_there a n =
-    fails-stopped Anywhere unlocated a
+    fails-stopped Anywhere before_repeatable a
     (λ k z. (
       refl,
       λ t c. unlocated-stops k t (other-word a.source repeatable_word (λ e. let h : None ≡ Some repeatable_word = sym n ∙ e in absurd (cc)) t c)
@@ -455,41 +455,41 @@ not-false true e = refl
 not-false false e = absurd (cc)
 
 pub names-led-reads : (separator : ℕ) (a b c : Ahead) (r : Result (List (List ℕ)) Fault) → next_is separator a.source ≡ true → b.source ≡ behind a.source
-    → ((ns : List ℕ) → laid (0 ∷ ns) a ≡ laid ns b) → b.text ≡ a.text
-    → Reads (MayNames separator) led_names led_named (spell_led 1 (λ (n : List ℕ). n)) (λ (ws : List (List ℕ)). ws) b c r → IfOk r NotEmpty
-    → Reads (MayList separator) unnamed names_listed spell_names (λ (w : Led (List ℕ)). w.all) a c r
+    → ((ns : List ℕ) → lay (0 ∷ ns) a ≡ lay ns b) → b.text ≡ a.text
+    → Reads (MayNames separator) led_names behind_led_names (spell_led 1 (λ (n : List ℕ). n)) (λ (ws : List (List ℕ)). ws) b c r → IfOk r NotEmpty
+    → Reads (MayList separator) before_names behind_names spell_names (λ (w : Led (List ℕ)). w.all) a c r
 names-led-reads separator a b c (Ok ws) n s l t r h = names-led separator a b c ws n s l t r h
 names-led-reads separator a b c (Err f) n s l t r h = names-led-fail separator a b f n s t r
 
 pub names-unled-reads : (separator : ℕ) (a c : Ahead) (r : Result (List (List ℕ)) Fault) → next_is separator a.source ≡ false
-    → Reads (MayNames separator) led_names led_named (spell_led 1 (λ (n : List ℕ). n)) (λ (ws : List (List ℕ)). ws) a c r
-    → Reads (MayList separator) unnamed names_listed spell_names (λ (w : Led (List ℕ)). w.all) a c r
+    → Reads (MayNames separator) led_names behind_led_names (spell_led 1 (λ (n : List ℕ). n)) (λ (ws : List (List ℕ)). ws) a c r
+    → Reads (MayList separator) before_names behind_names spell_names (λ (w : Led (List ℕ)). w.all) a c r
 names-unled-reads separator a c (Ok ws) n r = names-unled separator a c ws n r
 names-unled-reads separator a c (Err f) n r = names-unled-fail separator a f n r
 
 pub implements-reads : (a b c : Ahead) (r : Result (List (List ℕ)) Fault) → next_word a.source ≡ Some implements_word → b.source ≡ behind a.source
-    → ((ns : List ℕ) → laid (0 ∷ ns) a ≡ laid ns b) → b.text ≡ a.text
-    → Reads (MayList 38) unnamed names_listed spell_names (λ (w : Led (List ℕ)). w.all) b c r → IfOk r NotEmpty
-    → Reads Anywhere untold implemented (λ (w : Led (List ℕ)) (ns : List ℕ). spell_implements node_count w.leading w.all ns) (λ w. w.all) a c r
+    → ((ns : List ℕ) → lay (0 ∷ ns) a ≡ lay ns b) → b.text ≡ a.text
+    → Reads (MayList 38) before_names behind_names spell_names (λ (w : Led (List ℕ)). w.all) b c r → IfOk r NotEmpty
+    → Reads Anywhere before_implements behind_implements (λ (w : Led (List ℕ)) (ns : List ℕ). spell_implements node_count w.leading w.all ns) (λ w. w.all) a c r
 implements-reads a b c (Ok ws) n s l t r h = implements-read a b c ws n s l t r h
 implements-reads a b c (Err f) n s l t r h = implements-fail a b f n s t r
 
 pub members-reads : (a b c : Ahead) (r : Result (List (List ℕ)) Fault) → next_is 61 a.source ≡ true → b.source ≡ behind a.source
-    → ((ns : List ℕ) → laid (0 ∷ ns) a ≡ laid ns b) → b.text ≡ a.text
-    → Reads (MayList 124) unnamed names_listed spell_names (λ (w : Led (List ℕ)). w.all) b c r → IfOk r NotEmpty
-    → Reads NoDirective ununited united (λ (w : Led (List ℕ)) (ns : List ℕ). spell_members_part node_count w.leading w.all ns) (λ w. w.all) a c r
+    → ((ns : List ℕ) → lay (0 ∷ ns) a ≡ lay ns b) → b.text ≡ a.text
+    → Reads (MayList 124) before_names behind_names spell_names (λ (w : Led (List ℕ)). w.all) b c r → IfOk r NotEmpty
+    → Reads NoDirective before_union_members behind_union_members (λ (w : Led (List ℕ)) (ns : List ℕ). spell_members_part node_count w.leading w.all ns) (λ w. w.all) a c r
 members-reads a b c (Ok ws) n s l t r h = members-read a b c ws n s l t r h
 members-reads a b c (Err f) n s l t r h = members-fail a b f n s t r
 
 pub locations-led-reads : (a b c : Ahead) (r : Result (List Location) Fault) → next_is 124 a.source ≡ true → b.source ≡ behind a.source
-    → ((ns : List ℕ) → laid (0 ∷ ns) a ≡ laid ns b) → b.text ≡ a.text
-    → Reads MayLocate led_locating led_located (spell_led 0 location_word) (λ (ls : List Location). ls) b c r → IfOk r NotEmpty
-    → Reads Anywhere unlisted located spell_locations (λ (w : Led Location). w.all) a c r
+    → ((ns : List ℕ) → lay (0 ∷ ns) a ≡ lay ns b) → b.text ≡ a.text
+    → Reads MayLocate led_locating behind_led_locations (spell_led 0 location_word) (λ (ls : List Location). ls) b c r → IfOk r NotEmpty
+    → Reads Anywhere before_locations behind_locations spell_locations (λ (w : Led Location). w.all) a c r
 locations-led-reads a b c (Ok ls) n s l t r h = locations-led a b c ls n s l t r h
 locations-led-reads a b c (Err f) n s l t r h = locations-led-fail a b f n s t r
 
 pub locations-unled-reads : (a c : Ahead) (r : Result (List Location) Fault) → next_is 124 a.source ≡ false
-    → Reads MayLocate led_locating led_located (spell_led 0 location_word) (λ (ls : List Location). ls) a c r
-    → Reads Anywhere unlisted located spell_locations (λ (w : Led Location). w.all) a c r
+    → Reads MayLocate led_locating behind_led_locations (spell_led 0 location_word) (λ (ls : List Location). ls) a c r
+    → Reads Anywhere before_locations behind_locations spell_locations (λ (w : Led Location). w.all) a c r
 locations-unled-reads a c (Ok ls) n r = locations-unled a c ls n r
 locations-unled-reads a c (Err f) n r = locations-unled-fail a f n r

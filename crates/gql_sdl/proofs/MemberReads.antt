@@ -16,16 +16,16 @@ use Rattle.gql_syntax.specs.Answers.{node_count, Misses, wrong_at, Tells}
 use Rattle.gql_syntax.specs.Machine.{further, want_type, whole}
 use Rattle.gql_syntax.specs.Nexts.{behind, is_at, word_of, is_text, next_is, next_word, next_is_text, Comes, stopped_at, token_count}
 use Rattle.gql_syntax.specs.Parts.{directives_read, type_read}
-use Rattle.gql_syntax.specs.Places.{Ahead, laid}
+use Rattle.gql_syntax.specs.Places.{Ahead, lay}
 use Rattle.gql_syntax.specs.Run.{unexpected}
 use Rattle.gql_syntax.specs.Spelling.{spell_type, spell_directives}
 use Rattle.gql_syntax.specs.Texts.{nesting_limit}
 use Rattle.gql_syntax.specs.Words.{kind_word}
 use Rattle.gql_syntax.specs.declared.fault.Fault.{Fault}
 use Rattle.gql_sdl.specs.Machine.{Front, Fields, OpenField, ArguedField, of_field, Values, OpenValue, Typed, field_type, Owner, on_field, on_value, State, fields, field_arguments, field_colon, enum_values, roots, root_colon, root_name, in_directives, in_type, directives_of, closed, after_inputs, field_then, value_then, advance, is_reserved, kind_of, open_root}
-use Rattle.gql_sdl.specs.Reads.{going, Read, Fails, Reads, a_field, opened, Named, named, spell_named, MayName, MayOpen, unopened, FieldsAt, fields_at, field_at, MayField, NoDirective, unopened_fields, closed_fields, ValuesAt, values_at, value_at, value_named, unopened_values, closed_values, RootsOf, RootsAt, roots_at, root_at, unopened_roots, closed_roots}
+use Rattle.gql_sdl.specs.Reads.{run_on, Read, Fails, Reads, a_field, opened, Named, named, spell_named, MayName, MayOpen, unopened, FieldsAt, fields_at, field_at, MayField, NoDirective, before_fields, behind_fields, ValuesAt, values_at, value_at, behind_value_name, before_values, behind_values, RootsOf, RootsAt, roots_at, root_at, unopened_roots, closed_roots}
 use Rattle.gql_sdl.specs.Schemas.{Description, WrittenField, WrittenValue, NotEmpty, spell_argument_defs, spell_field, spell_fields, spell_fields_part, spell_enum_value, spell_enum_values, spell_enum_values_part, spell_roots, inputs_of, field_of}
-use Rattle.gql_sdl.proofs.Complete.{tree-of-ty}
+use Rattle.gql_syntax.proofs.BuiltTrees.{type_tree-ty_of}
 use Rattle.gql_sdl.proofs.Fronts.{fields-then, values-then, roots-then}
 use Rattle.gql_sdl.proofs.Goings.{on-token, on-name, on-sign, alike, on-type, on-directives, fails-missed, fails-stopped, fails-behind, fails-type, fails-directives}
 use Rattle.gql_sdl.proofs.InputReads.{comes_text, not_text, behind-count}
@@ -46,10 +46,10 @@ module _ (a b : Ahead) (n : List ℕ) (r : Read MayName (λ k. opened k None) na
   abbrev pub open_field : FieldsAt → OpenField
   open_field k = record { fields = k.fields; before = k.before; description = r.written.description; title = n }
 
-  to_arguments : (k : FieldsAt) (size : ℕ) → size ≡ length a.text → MayField k a.source → going size (fields_at k) a.source ≡ going size (field_arguments (open_field k)) b.source
+  to_arguments : (k : FieldsAt) (size : ℕ) → size ≡ length a.text → MayField k a.source → run_on size (fields_at k) a.source ≡ run_on size (field_arguments (open_field k)) b.source
   to_arguments k size e m =
       r.goes (a_field k.fields k.before) size e m
-      ∙ ap (λ n. going size (field_arguments (record { fields = k.fields; before = k.before; description = r.written.description; title = n })) b.source) r.viewed
+      ∙ ap (λ n. run_on size (field_arguments (record { fields = k.fields; before = k.before; description = r.written.description; title = n })) b.source) r.viewed
 
   pub field-no_arguments : (f : Fault) → Fails (MayOpen 40 41) unopened b f → Fails MayField fields_at a f
   field-no_arguments f h =
@@ -62,7 +62,7 @@ module _ (a b : Ahead) (n : List ℕ) (r : Read MayName (λ k. opened k None) na
     text_c : c.text ≡ a.text
     text_c = q.text ∙ r.text
 
-    to_colon : (k : FieldsAt) (size : ℕ) → size ≡ length a.text → MayField k a.source → going size (fields_at k) a.source ≡ going size (field_colon (argued_field k)) c.source
+    to_colon : (k : FieldsAt) (size : ℕ) → size ≡ length a.text → MayField k a.source → run_on size (fields_at k) a.source ≡ run_on size (field_colon (argued_field k)) c.source
     to_colon k size e m =
         to_arguments k size e m ∙ q.goes (of_field (open_field k)) size (e ∙ ap (λ (s : List ℕ). length s) (sym r.text)) (refl, refl, tt)
 
@@ -77,11 +77,11 @@ module _ (a b : Ahead) (n : List ℕ) (r : Read MayName (λ k. opened k None) na
       text_d = t ∙ text_c
 
       to_type : (k : FieldsAt) (size : ℕ) → size ≡ length a.text → MayField k a.source
-          → going size (fields_at k) a.source ≡ going size (in_type (want_type nesting_limit (whole (field_type (argued_field k))))) d.source
+          → run_on size (fields_at k) a.source ≡ run_on size (in_type (want_type nesting_limit (whole (field_type (argued_field k))))) d.source
       to_type k size e m =
           to_colon k size e m
           ∙ on-sign size 58 (field_colon (argued_field k)) (in_type (want_type nesting_limit (whole (field_type (argued_field k))))) c.source colon refl
-          ∙ ap (going size (in_type (want_type nesting_limit (whole (field_type (argued_field k)))))) (sym s)
+          ∙ ap (run_on size (in_type (want_type nesting_limit (whole (field_type (argued_field k)))))) (sym s)
 
       pub field-no_type : (f : Fault) → Tells f (type_read nesting_limit (length d.text) d.source) → Fails MayField fields_at a f
       field-no_type f h =
@@ -93,12 +93,12 @@ module _ (a b : Ahead) (n : List ℕ) (r : Read MayName (λ k. opened k None) na
         text_e = u ∙ text_d
 
         to_directives : (k : FieldsAt) (size : ℕ) → size ≡ length a.text → MayField k a.source
-            → going size (fields_at k) a.source ≡ going size (directives_of (on_field (argued_field k) of)) e.source
+            → run_on size (fields_at k) a.source ≡ run_on size (directives_of (on_field (argued_field k) of)) e.source
         to_directives k size z m =
             to_type k size z m
             ∙ on-type size (field_type (argued_field k)) d.source e.source (ty_of of)
             (subst (λ n. type_read nesting_limit n d.source ≡ Ok (ty_of of, e.source)) (ap (λ (s : List ℕ). length s) text_d ∙ sym z) typed)
-            ∙ ap (λ t. going size (directives_of (on_field (argued_field k) t)) e.source) (tree-of-ty of)
+            ∙ ap (λ t. run_on size (directives_of (on_field (argued_field k) t)) e.source) (type_tree-ty_of of)
 
         pub field-no_directives : (f : Fault) → Tells f (directives_read nesting_limit true (length e.text) e.source) → Fails MayField fields_at a f
         field-no_directives f h =
@@ -106,8 +106,8 @@ module _ (a b : Ahead) (n : List ℕ) (r : Read MayName (λ k. opened k None) na
             (fails-directives e f h)
 
         pub field-read : (g : Ahead) (ds : List Directive) → directives_read nesting_limit true (length e.text) e.source ≡ Ok (ds, g.source) → g.text ≡ e.text → next_is 64 g.source ≡ false
-            → ((ns : List ℕ) → laid (0 ∷ ns) c ≡ laid ns d) → ((ns : List ℕ) → laid (spell_type node_count (ty_of of) 0 0 ns) d ≡ laid ns e)
-            → ((ns : List ℕ) → laid (spell_directives node_count ds ns) e ≡ laid ns g) → token_count g.source ≤ token_count a.source
+            → ((ns : List ℕ) → lay (0 ∷ ns) c ≡ lay ns d) → ((ns : List ℕ) → lay (spell_type node_count (ty_of of) 0 0 ns) d ≡ lay ns e)
+            → ((ns : List ℕ) → lay (spell_directives node_count ds ns) e ≡ lay ns g) → token_count g.source ≤ token_count a.source
             → Read MayField fields_at field_at (spell_field node_count) field_of a g (record { name = n; arguments = args; of = of; directives = ds })
         field-read g ds directed w last l1 l2 l3 fewer = record {
           written = record { description = r.written.description; name = n; arguments = q.written; of = of; directives = ds };
@@ -138,9 +138,9 @@ fields-closed (a ∷ all) to h = refl
 abbrev pub fields_list : ListOf Fields FieldsAt WrittenField FieldTree
 fields_list = record {
   May = NoDirective;
-  unopened = unopened_fields;
+  unopened = before_fields;
   open_at = λ f fs. fields f fs None;
-  close_at = closed_fields;
+  close_at = behind_fields;
   closing = 125;
   spells = spell_fields node_count;
   whole = spell_fields_part node_count;
@@ -169,13 +169,13 @@ fields_laws = record {
 
 -- behind directives, where no list is opened
 module _ (s : Source) where
-  pub fields-opens : next_is 123 s ≡ true → (f : Fields) → NoDirective f s → (c : ℕ) × (next_is c s ≡ true) × (advance nesting_limit (unopened_fields f) (punctuator_of c) ≡ Ok (fields f [] None))
+  pub fields-opens : next_is 123 s ≡ true → (f : Fields) → NoDirective f s → (c : ℕ) × (next_is c s ≡ true) × (advance nesting_limit (before_fields f) (punctuator_of c) ≡ Ok (fields f [] None))
   fields-opens n f m = (123, n, refl)
 
-  pub fields-absent : next_is 123 s ≡ false → (f : Fields) (size : ℕ) → NoDirective f s → going size (unopened_fields f) s ≡ going size (closed_fields f []) s
-  fields-absent n f size m = alike size (unopened_fields f) (closed_fields f []) s refl (λ t c. same t (not_at 123 s t c n) (not_at 64 s t c m))
+  pub fields-absent : next_is 123 s ≡ false → (f : Fields) (size : ℕ) → NoDirective f s → run_on size (before_fields f) s ≡ run_on size (behind_fields f []) s
+  fields-absent n f size m = alike size (before_fields f) (behind_fields f []) s refl (λ t c. same t (not_at 123 s t c n) (not_at 64 s t c m))
     where
-      same : (t : Tok) → is_at 123 t ≡ false → is_at 64 t ≡ false → advance nesting_limit (unopened_fields f) t ≡ advance nesting_limit (closed_fields f []) t
+      same : (t : Tok) → is_at 123 t ≡ false → is_at 64 t ≡ false → advance nesting_limit (before_fields f) t ≡ advance nesting_limit (behind_fields f []) t
       same tok.open_brace e d = absurd (cc)
       same tok.at_sign e d = absurd (cc)
       same t e d = refl
@@ -205,11 +205,11 @@ abbrev pub NoEnumName : Source → Type 0
 NoEnumName ahead = (n : List ℕ) → next_word ahead ≡ Some n → is_reserved n ≡ true
 
 takes-value : (k : ValuesAt) (d : Description) (n : List ℕ) → is_reserved n ≡ false
-    → advance nesting_limit (enum_values k.values k.before d) (tok.name n) ≡ Ok (value_named k (record { description = d; title = n }))
-takes-value k d n e = ap (λ b. cond b (Err unexpected) (Ok (value_named k (record { description = d; title = n })))) e
+    → advance nesting_limit (enum_values k.values k.before d) (tok.name n) ≡ Ok (behind_value_name k (record { description = d; title = n }))
+takes-value k d n e = ap (λ b. cond b (Err unexpected) (Ok (behind_value_name k (record { description = d; title = n })))) e
 
 refuses-value : (k : ValuesAt) (d : Description) (n : List ℕ) → is_reserved n ≡ true → advance nesting_limit (enum_values k.values k.before d) (tok.name n) ≡ Err unexpected
-refuses-value k d n e = ap (λ b. cond b (Err unexpected) (Ok (value_named k (record { description = d; title = n })))) e
+refuses-value k d n e = ap (λ b. cond b (Err unexpected) (Ok (behind_value_name k (record { description = d; title = n })))) e
 
 pub word-cases : (s : Source) (t : Tok) → Comes s t → (word_of t ≡ None) ⊎ ((n : List ℕ) × (t ≡ tok.name n) × (next_word s ≡ Some n))
 word-cases ended t c = absurd c
@@ -235,14 +235,14 @@ no-described-value k d s miss t c = on_word (word-cases s t c)
     on_word (inr w) = ap (λ t. advance nesting_limit (enum_values k.values k.before (Some d)) t) w.1 ∙ refuses-value k (Some d) w.0 (miss w.0 w.2)
 
 pub plain-value : (a b : Ahead) (r : Result (List ℕ) Fault) → next_is_text a.source ≡ false → IfOk r (λ n. next_word a.source ≡ Some n) → IfOk r (λ n. is_reserved n ≡ false)
-    → OnOk r (b.source ≡ behind a.source) → OnOk r ((ns : List ℕ) → laid (2 ∷ ns) a ≡ laid ns b) → OnOk r (b.text ≡ a.text)
+    → OnOk r (b.source ≡ behind a.source) → OnOk r ((ns : List ℕ) → lay (2 ∷ ns) a ≡ lay ns b) → OnOk r (b.text ≡ a.text)
     → IfErr r (λ f. Misses f (NoEnumName a.source) (stopped_at (length a.text) a.source))
-    → Reads MayField values_at value_named spell_named (λ (w : Named). w.title) a b r
+    → Reads MayField values_at behind_value_name spell_named (λ (w : Named). w.title) a b r
 plain-value a b (Ok n) x w v s l t f = record {
   written = record { description = None; title = n };
   viewed = refl;
-  goes = λ k size e m. on-name size (values_at k) (value_named k (record { description = None; title = n })) a.source n w (takes-value k None n v)
-      ∙ ap (going size (value_named k (record { description = None; title = n }))) (sym s);
+  goes = λ k size e m. on-name size (values_at k) (behind_value_name k (record { description = None; title = n })) a.source n w (takes-value k None n v)
+      ∙ ap (run_on size (behind_value_name k (record { description = None; title = n }))) (sym s);
   nodes = l;
   taken = subst (λ s. token_count s ≤ token_count a.source) (sym s) (behind-count a.source);
   text = t;
@@ -251,18 +251,18 @@ plain-value a b (Err e) x w v s l t f =
     fails-missed MayField values_at a (NoEnumName a.source) e f (λ k m miss. (refl, λ t c. no-value k a.source miss x m t c))
 
 pub described-value : (a b c : Ahead) (r : Result (List ℕ) Fault) → next_is_text a.source ≡ true → b.source ≡ behind a.source
-    → ((ns : List ℕ) → laid (0 ∷ ns) a ≡ laid ns b) → b.text ≡ a.text
+    → ((ns : List ℕ) → lay (0 ∷ ns) a ≡ lay ns b) → b.text ≡ a.text
     → IfOk r (λ n. next_word b.source ≡ Some n) → IfOk r (λ n. is_reserved n ≡ false) → OnOk r (c.source ≡ behind b.source)
-    → OnOk r ((ns : List ℕ) → laid (2 ∷ ns) b ≡ laid ns c) → OnOk r (c.text ≡ b.text) → IfErr r (λ f. Misses f (NoEnumName b.source) (stopped_at (length b.text) b.source))
-    → Reads MayField values_at value_named spell_named (λ (w : Named). w.title) a c r
+    → OnOk r ((ns : List ℕ) → lay (2 ∷ ns) b ≡ lay ns c) → OnOk r (c.text ≡ b.text) → IfErr r (λ f. Misses f (NoEnumName b.source) (stopped_at (length b.text) b.source))
+    → Reads MayField values_at behind_value_name spell_named (λ (w : Named). w.title) a c r
 described-value a b c (Ok n) x s l t w v s2 l2 t2 f =
     let d = comes_text a.source x in
     let written : Named = record { description = Some d.0; title = n } in record {
       written = written;
       viewed = refl;
       goes = λ k size e m. on-token size (values_at k) (enum_values k.values k.before (Some d.0)) a.source (tok.text d.0) d.1 refl
-          ∙ ap (going size (enum_values k.values k.before (Some d.0))) (sym s)
-          ∙ on-name size (enum_values k.values k.before (Some d.0)) (value_named k written) b.source n w (takes-value k (Some d.0) n v) ∙ ap (going size (value_named k written)) (sym s2);
+          ∙ ap (run_on size (enum_values k.values k.before (Some d.0))) (sym s)
+          ∙ on-name size (enum_values k.values k.before (Some d.0)) (behind_value_name k written) b.source n w (takes-value k (Some d.0) n v) ∙ ap (run_on size (behind_value_name k written)) (sym s2);
       nodes = λ ns. l (2 ∷ ns) ∙ l2 ns;
       taken = omega (arith, behind-count a.source, behind-count b.source, ap token_count s, ap token_count s2);
       text = t2 ∙ t;
@@ -270,26 +270,26 @@ described-value a b c (Ok n) x s l t w v s2 l2 t2 f =
 described-value a b c (Err e) x s l t w v s2 l2 t2 f =
     let d = comes_text a.source x in
     fails-behind MayField values_at (λ (k : ValuesAt) (s : Source). Unit {0}) (λ k. enum_values k.values k.before (Some d.0)) a b (λ k. k) t
-    (λ k size e m. on-token size (values_at k) (enum_values k.values k.before (Some d.0)) a.source (tok.text d.0) d.1 refl ∙ ap (going size (enum_values k.values k.before (Some d.0))) (sym s))
+    (λ k size e m. on-token size (values_at k) (enum_values k.values k.before (Some d.0)) a.source (tok.text d.0) d.1 refl ∙ ap (run_on size (enum_values k.values k.before (Some d.0))) (sym s))
     (λ k m. tt) e
     (fails-missed (λ (k : ValuesAt) (s : Source). Unit {0}) (λ k. enum_values k.values k.before (Some d.0)) b (NoEnumName b.source) e f
     (λ k m miss. (refl, λ t c. no-described-value k d.0 b.source miss t c)))
 
-module _ (a b : Ahead) (n : List ℕ) (r : Read MayField values_at value_named spell_named (λ (w : Named). w.title) a b n) where
+module _ (a b : Ahead) (n : List ℕ) (r : Read MayField values_at behind_value_name spell_named (λ (w : Named). w.title) a b n) where
   abbrev pub open_value : ValuesAt → OpenValue
   open_value k = record { values = k.values; before = k.before; description = r.written.description; title = n }
 
-  to_value : (k : ValuesAt) (size : ℕ) → size ≡ length a.text → MayField k a.source → going size (values_at k) a.source ≡ going size (directives_of (on_value (open_value k))) b.source
+  to_value : (k : ValuesAt) (size : ℕ) → size ≡ length a.text → MayField k a.source → run_on size (values_at k) a.source ≡ run_on size (directives_of (on_value (open_value k))) b.source
   to_value k size e m =
       r.goes k size e m
-      ∙ ap (λ n. going size (directives_of (on_value (record { values = k.values; before = k.before; description = r.written.description; title = n }))) b.source) r.viewed
+      ∙ ap (λ n. run_on size (directives_of (on_value (record { values = k.values; before = k.before; description = r.written.description; title = n }))) b.source) r.viewed
 
   pub value-no_directives : (f : Fault) → Tells f (directives_read nesting_limit true (length b.text) b.source) → Fails MayField values_at a f
   value-no_directives f h =
       fails-behind MayField values_at (λ (o : Owner) (s : Source). Unit {0}) (λ o. directives_of o) a b (λ k. on_value (open_value k)) r.text to_value (λ k m. tt) f (fails-directives b f h)
 
   pub value-read : (g : Ahead) (ds : List Directive) → directives_read nesting_limit true (length b.text) b.source ≡ Ok (ds, g.source) → g.text ≡ b.text → next_is 64 g.source ≡ false
-      → ((ns : List ℕ) → laid (spell_directives node_count ds ns) b ≡ laid ns g) → token_count g.source ≤ token_count a.source
+      → ((ns : List ℕ) → lay (spell_directives node_count ds ns) b ≡ lay ns g) → token_count g.source ≤ token_count a.source
       → Read MayField values_at value_at (spell_enum_value node_count) (λ (w : WrittenValue). w.value) a g (record { name = n; directives = ds })
   value-read g ds directed w last l fewer = record {
     written = record { description = r.written.description; value = record { name = n; directives = ds } };
@@ -312,9 +312,9 @@ module _ (a b : Ahead) (n : List ℕ) (r : Read MayField values_at value_named s
 abbrev pub values_list : ListOf Values ValuesAt WrittenValue EnumValue
 values_list = record {
   May = NoDirective;
-  unopened = unopened_values;
+  unopened = before_values;
   open_at = λ v vs. enum_values v vs None;
-  close_at = closed_values;
+  close_at = behind_values;
   closing = 125;
   spells = spell_enum_values node_count;
   whole = spell_enum_values_part node_count;
@@ -342,13 +342,13 @@ values_laws = record {
 }
 
 module _ (s : Source) where
-  pub values-opens : next_is 123 s ≡ true → (v : Values) → NoDirective v s → (c : ℕ) × (next_is c s ≡ true) × (advance nesting_limit (unopened_values v) (punctuator_of c) ≡ Ok (enum_values v [] None))
+  pub values-opens : next_is 123 s ≡ true → (v : Values) → NoDirective v s → (c : ℕ) × (next_is c s ≡ true) × (advance nesting_limit (before_values v) (punctuator_of c) ≡ Ok (enum_values v [] None))
   values-opens n v m = (123, n, refl)
 
-  pub values-absent : next_is 123 s ≡ false → (v : Values) (size : ℕ) → NoDirective v s → going size (unopened_values v) s ≡ going size (closed_values v []) s
-  values-absent n v size m = alike size (unopened_values v) (closed_values v []) s refl (λ t c. same t (not_at 123 s t c n) (not_at 64 s t c m))
+  pub values-absent : next_is 123 s ≡ false → (v : Values) (size : ℕ) → NoDirective v s → run_on size (before_values v) s ≡ run_on size (behind_values v []) s
+  values-absent n v size m = alike size (before_values v) (behind_values v []) s refl (λ t c. same t (not_at 123 s t c n) (not_at 64 s t c m))
     where
-      same : (t : Tok) → is_at 123 t ≡ false → is_at 64 t ≡ false → advance nesting_limit (unopened_values v) t ≡ advance nesting_limit (closed_values v []) t
+      same : (t : Tok) → is_at 123 t ≡ false → is_at 64 t ≡ false → advance nesting_limit (before_values v) t ≡ advance nesting_limit (behind_values v []) t
       same tok.open_brace e d = absurd (cc)
       same tok.at_sign e d = absurd (cc)
       same t e d = refl
@@ -390,10 +390,10 @@ module _ (a b : Ahead) (x : Kind) (w : next_word a.source ≡ Some (kind_word x)
   abbrev name_at : RootsAt → State
   name_at k = root_name k.schema.front k.schema.directives k.before x
 
-  to_root_colon : (k : RootsAt) (size : ℕ) → size ≡ length a.text → MayField k a.source → going size (roots_at k) a.source ≡ going size (colon_at k) b.source
+  to_root_colon : (k : RootsAt) (size : ℕ) → size ≡ length a.text → MayField k a.source → run_on size (roots_at k) a.source ≡ run_on size (colon_at k) b.source
   to_root_colon k size e m =
       on-name size (roots_at k) (colon_at k) a.source (kind_word x) w (ap (λ o. open_root k.schema.front k.schema.directives k.before o) (kind_of-kind x))
-      ∙ ap (going size (colon_at k)) (sym s)
+      ∙ ap (run_on size (colon_at k)) (sym s)
 
   pub root-no_colon : (f : Fault) → Misses f (next_is 58 b.source ≡ false) (stopped_at (length b.text) b.source) → Fails MayField roots_at a f
   root-no_colon f m =
@@ -402,8 +402,8 @@ module _ (a b : Ahead) (x : Kind) (w : next_word a.source ≡ Some (kind_word x)
       (λ k z miss. (refl, λ t c. root_colon-stops k.schema.front k.schema.directives k.before x t (not_at 58 b.source t c miss))))
 
   module _ (c : Ahead) (colon : next_is 58 b.source ≡ true) (u : c.source ≡ behind b.source) (v : c.text ≡ b.text) where
-    to_root_name : (k : RootsAt) (size : ℕ) → size ≡ length a.text → MayField k a.source → going size (roots_at k) a.source ≡ going size (name_at k) c.source
-    to_root_name k size e m = to_root_colon k size e m ∙ on-sign size 58 (colon_at k) (name_at k) b.source colon refl ∙ ap (going size (name_at k)) (sym u)
+    to_root_name : (k : RootsAt) (size : ℕ) → size ≡ length a.text → MayField k a.source → run_on size (roots_at k) a.source ≡ run_on size (name_at k) c.source
+    to_root_name k size e m = to_root_colon k size e m ∙ on-sign size 58 (colon_at k) (name_at k) b.source colon refl ∙ ap (run_on size (name_at k)) (sym u)
 
     pub root-no_name : (f : Fault) → Misses f (next_word c.source ≡ None) (stopped_at (length c.text) c.source) → Fails MayField roots_at a f
     root-no_name f m =
@@ -412,13 +412,13 @@ module _ (a b : Ahead) (x : Kind) (w : next_word a.source ≡ Some (kind_word x)
         (λ k z miss. (refl, λ t d. root_name-stops k.schema.front k.schema.directives k.before x t (no_word c.source t d miss))))
 
     pub root-read : (d : Ahead) (n : List ℕ) → next_word c.source ≡ Some n → d.source ≡ behind c.source → d.text ≡ c.text
-        → ((ns : List ℕ) → laid (1 ∷ ns) a ≡ laid ns b) → ((ns : List ℕ) → laid (0 ∷ ns) b ≡ laid ns c) → ((ns : List ℕ) → laid (1 ∷ ns) c ≡ laid ns d)
+        → ((ns : List ℕ) → lay (1 ∷ ns) a ≡ lay ns b) → ((ns : List ℕ) → lay (0 ∷ ns) b ≡ lay ns c) → ((ns : List ℕ) → lay (1 ∷ ns) c ≡ lay ns d)
         → Read MayField roots_at root_at (λ (r : Root) (ns : List ℕ). 1 ∷ 0 ∷ 1 ∷ ns) (λ r. r) a d (record { kind = x; name = n })
     root-read d n y z q l1 l2 l3 = record {
       written = record { kind = x; name = n };
       viewed = refl;
       goes = λ k size e m. to_root_name k size e m
-          ∙ on-name size (name_at k) (root_at k (record { kind = x; name = n })) c.source n y refl ∙ ap (going size (root_at k (record { kind = x; name = n }))) (sym z);
+          ∙ on-name size (name_at k) (root_at k (record { kind = x; name = n })) c.source n y refl ∙ ap (run_on size (root_at k (record { kind = x; name = n }))) (sym z);
       nodes = λ ns. l1 (0 ∷ 1 ∷ ns) ∙ l2 (1 ∷ ns) ∙ l3 ns;
       taken = omega (arith, behind-count a.source, behind-count b.source, behind-count c.source, ap token_count s, ap token_count u, ap token_count z);
       text = q ∙ v ∙ t;

@@ -1,6 +1,6 @@
 -- The machine of schemas reads the grammar of schemas. Of the trees that are written with the same tokens it gives the one that
 -- has no separator in front of an empty list.
-use Rattle.std.proofs.Common.{◌≡◌, ◌≤◌, ◌<◌, ℕ, ◌+◌, List, ◌∷◌, map, Some, Result, Ok, Err, IfOk, refl, ap, ◌∙◌, arith}
+use Rattle.std.proofs.Common.{◌≡◌, ◌≤◌, ◌<◌, ℕ, ◌+◌, List, [], ◌∷◌, map, Some, Result, Ok, Err, IfOk, refl, ap, ◌∙◌, arith}
 use Rattle.std.specs.List.{AllByRecursion}
 use Rattle.gql_lex.specs.Toks.{Tok}
 use Rattle.gql_ast.specs.Ty.{Ty}
@@ -13,13 +13,14 @@ use Rattle.gql_syntax.proofs.ValueLaws.{from_ok, value_sound, value_shallow, val
 use Rattle.gql_syntax.specs.FirstFault.{Grammar, Shallow}
 use Rattle.gql_syntax.specs.Machine.{further, at_name, applied, arguing}
 use Rattle.gql_syntax.specs.Run.{Halt, unexpected, too_deep}
-use Rattle.gql_sdl.specs.Machine.{Typed, input_type, field_type, State, head, in_directives, in_type, in_value, after_directives, after_type, typed_state, valued, advance, finish, no_front}
-use Rattle.gql_sdl.specs.Schemas.{Described, NotEmpty, schemas}
+use Rattle.gql_sdl.specs.Machine.{Typed, input_type, field_type, State, head, in_directives, in_type, in_value, after_directives, after_type, typed_state, behind_default, advance, finish, no_front}
+use Rattle.gql_sdl.specs.Schemas.{Described, NotEmpty, FormedWritten, schemas}
 use Rattle.gql_sdl.proofs.Complete.{reads_schemas}
 use Rattle.gql_sdl.proofs.Ends.{state-ends}
 use Rattle.gql_sdl.proofs.Fits.{definitions-fit}
 use Rattle.gql_sdl.proofs.Rises.{Rises, own-rises, after-keeps, after_type-rises}
-use Rattle.gql_sdl.proofs.Seats.{FormedDescribed}
+use Rattle.gql_sdl.proofs.Seats.{Neat, ShapedDescribed}
+use Rattle.gql_sdl.proofs.Shapes.{ShapedWritten, definitions_forms, written_shape}
 use Rattle.gql_sdl.proofs.States.{owner_ground, default_ground, typed_ground, so_far, level_at, lift, Seated, Own, machine}
 use Rattle.gql_sdl.proofs.Steps.{Goes, own-goes, after-goes, after_type-goes, typed_state-front, typed_state-seated, valued-front, valued-seated}
 use Rattle.gql_sdl.proofs.Wholes.{finish-whole, map-definitions}
@@ -77,11 +78,26 @@ own-lift k s o = refl
 
 -- ---- the grammar without separators in front of nothing
 
+abbrev pub FormedDescribed : Described → Type 0
+FormedDescribed d = FormedWritten d.written × Neat d.written
+
 abbrev pub NeatSchema : List Described → Type 0
 NeatSchema v = NotEmpty v × AllByRecursion FormedDescribed v
 
 abbrev pub neat : Grammar (List Described)
 neat = record { tokens = schemas.tokens; levels = schemas.levels; Formed = NeatSchema }
+
+written_shapes : (ds : List Described) → AllByRecursion ShapedDescribed ds → AllByRecursion (λ d. ShapedWritten d.written) ds
+written_shapes [] h = tt
+written_shapes (d ∷ ds) h = (h.0.0, written_shapes ds h.1)
+
+neat_forms : (ds : List Described) → AllByRecursion ShapedDescribed ds → AllByRecursion (λ d. FormedWritten d.written) ds → AllByRecursion FormedDescribed ds
+neat_forms [] h f = tt
+neat_forms (d ∷ ds) h f = ((f.0, h.0.1), neat_forms ds h.1 f.1)
+
+neat_shapes : (ds : List Described) → AllByRecursion FormedDescribed ds → AllByRecursion ShapedDescribed ds
+neat_shapes [] f = tt
+neat_shapes (d ∷ ds) f = ((written_shape d.written f.0.0, f.0.1), neat_shapes ds f.1)
 
 -- ---- the laws, state by state
 
@@ -111,7 +127,7 @@ sound limit (in_type y) t next h e =
     type_sound typed_ground (λ y t. 0) in_type typed_state (after_type limit) limit so_far (λ r ts. refl) (λ y t ts. typed_state-front 0 y t ts)
     (λ y t x h f. if-sound limit _ x 0 (after_type limit y t x) (after_type-goes limit y t x h f)) y t next h e
 sound limit (in_value r) t next h e =
-    value_sound default_ground in_value valued so_far (λ r ts. refl) (λ i v ts. valued-front 0 i v ts) r t next e
+    value_sound default_ground in_value behind_default so_far (λ r ts. refl) (λ i v ts. valued-front 0 i v ts) r t next e
 sound limit s t next h e = own-sound limit s t next tt h e
 
 shallow : (limit : ℕ) (s : State) (t : Tok) (next : State) → Seated limit s → advance limit s t ≡ Ok next → level_at s t ≤ limit
@@ -127,7 +143,7 @@ shallow limit (in_type y) t next h e =
     nothing : (r : Result State Halt) → IfOk r (λ next. 0 ≤ limit)
     nothing (Ok s) = omega arith
     nothing (Err x) = tt
-shallow limit (in_value r) t next h e = value_shallow default_ground in_value valued limit r t next h e
+shallow limit (in_value r) t next h e = value_shallow default_ground in_value behind_default limit r t next h e
 shallow limit s t next h e = omega arith
 
 seated : (limit : ℕ) (s : State) (t : Tok) (next : State) → Seated limit s → advance limit s t ≡ Ok next → Seated limit next
@@ -138,7 +154,7 @@ seated limit (in_type y) t next h e =
     type_seated typed_ground (λ y t. 0) in_type typed_state (after_type limit) limit (Seated limit) (λ r h. h) (λ y t h f. typed_state-seated limit y t h f)
     (λ y t x h f. if-seated limit _ x 0 (after_type limit y t x) (after_type-goes limit y t x h f)) y t next h e
 seated limit (in_value r) t next h e =
-    value_seated default_ground in_value valued limit (Seated limit) (λ r h. h) (λ i v h f. valued-seated limit i v h f) r t next h e
+    value_seated default_ground in_value behind_default limit (Seated limit) (λ r h. h) (λ i v h f. valued-seated limit i v h f) r t next h e
 seated limit s t next h e = own-seated limit s t next tt h e
 
 deep : (limit : ℕ) (s : State) (t : Tok) → Seated limit s → advance limit s t ≡ Err too_deep → limit < level_at s t
@@ -147,7 +163,7 @@ deep limit (in_directives d) t h e =
 deep limit (in_type y) t h e =
     type_deep typed_ground (λ y t. 0) in_type typed_state (after_type limit) limit
     (λ y t x h. not-deep (after_type limit y t x) (after_type (0 + limit) y t x) _ (after_type-rises 0 limit y t x)) y t h e
-deep limit (in_value r) t h e = value_deep default_ground in_value valued limit r t h e
+deep limit (in_value r) t h e = value_deep default_ground in_value behind_default limit r t h e
 deep limit s t h e = rises-not_deep 0 (advance limit s t) (advance (0 + limit) s t) _ (own-rises 0 limit s t tt) e
 
 lift_step : (k limit : ℕ) (s : State) (t : Tok) (next : State) → advance limit s t ≡ Ok next → advance (k + limit) (lift k s) t ≡ Ok (lift k next)
@@ -161,7 +177,7 @@ lift_step k limit (in_type y) t next e =
     typed_lift : (y : Typed) (t : Ty) → lift k (typed_state y t) ≡ typed_state y t
     typed_lift (input_type i) t = refl
     typed_lift (field_type a) t = refl
-lift_step k limit (in_value r) t next e = value_lift_step default_ground in_value valued valued k (lift k) (λ r. refl) (λ i v. refl) r t next e
+lift_step k limit (in_value r) t next e = value_lift_step default_ground in_value behind_default behind_default k (lift k) (λ r. refl) (λ i v. refl) r t next e
 lift_step k limit s t next e = rises-step k (advance limit s t) (advance (k + limit) s t) next (own-rises k limit s t tt) e
 
 lift_unexpected : (k limit : ℕ) (s : State) (t : Tok) → advance limit s t ≡ Err unexpected → advance (k + limit) (lift k s) t ≡ Err unexpected
@@ -175,7 +191,7 @@ lift_unexpected k limit (in_type y) t e =
     typed_lift : (y : Typed) (t : Ty) → lift k (typed_state y t) ≡ typed_state y t
     typed_lift (input_type i) t = refl
     typed_lift (field_type a) t = refl
-lift_unexpected k limit (in_value r) t e = value_lift_unexpected default_ground in_value valued valued k (lift k) (λ r. refl) (λ i v. refl) r t e
+lift_unexpected k limit (in_value r) t e = value_lift_unexpected default_ground in_value behind_default behind_default k (lift k) (λ r. refl) (λ i v. refl) r t e
 lift_unexpected k limit s t e = rises-unexpected k (advance limit s t) (advance (k + limit) s t) (own-rises k limit s t tt) e
 
 abbrev Opened : (limit : ℕ) → State → Tok → Type 0
@@ -192,7 +208,7 @@ lift_too_deep limit (in_type y) t e =
     opened limit (in_type y) t (type_lift_too_deep typed_ground (λ y t. 0) in_type typed_state (after_type limit) typed_state (after_type (1 + limit))
     (λ y t x. rises-opens 1 (after_type limit y t x) (after_type (1 + limit) y t x) (after_type-rises 1 limit y t x)) y t e)
 lift_too_deep limit (in_value r) t e =
-    opened limit (in_value r) t (value_lift_too_deep default_ground in_value valued valued r t e)
+    opened limit (in_value r) t (value_lift_too_deep default_ground in_value behind_default behind_default r t e)
 lift_too_deep limit s t e = rises-not_deep 1 (advance limit s t) (advance (1 + limit) s t) _ (own-rises 1 limit s t tt) e
 
 lift_so_far : (k : ℕ) (s : State) (ts : List Leveled) → so_far (lift k s) ts ≡ so_far s ts
@@ -227,12 +243,12 @@ written limit s v h e =
     let w = finish-whole limit s v h e in record {
       tokens = ap (map (λ (p : Leveled). p.0)) w.spelled ∙ map-definitions (λ (p : Leveled). p.0) leveled 1 v;
       levels = ap (map (λ (p : Leveled). p.1)) w.spelled ∙ map-definitions (λ (p : Leveled). p.1) leveled 1 v;
-      formed = (w.not_empty, w.formed);
+      formed = λ f. (w.not_empty, neat_forms v w.formed (definitions_forms 1 v (written_shapes v w.formed) f));
     }
 
 complete : (limit : ℕ) (v : List Described) → NeatSchema v → Shallow limit (schemas.levels v) → Finishes machine limit (head no_front) (schemas.tokens v) v
 complete limit v f h =
-    finishes machine limit (head no_front) (schemas.tokens v) v (reads_schemas limit v f.0 f.1 (definitions-fit limit 1 v h))
+    finishes machine limit (head no_front) (schemas.tokens v) v (reads_schemas limit v f.0 (neat_shapes v f.1) (definitions-fit limit 1 v h))
 
 pub laws : Laws neat machine
 laws = record {

@@ -15,7 +15,7 @@ use Rattle.gql_syntax.proofs.Lying.{fault_lies}
 use Rattle.gql_syntax.proofs.Reading.{tree_found, tree_only, parse_fault_found, read_text}
 use Rattle.gql_syntax.specs.Answers.{LiesIn, fault_in}
 use Rattle.gql_syntax.specs.FirstFault.{Spells, Shallow, Begins, Unexpected, TooDeep, FaultAhead, IsFirstFault}
-use Rattle.gql_syntax.specs.Places.{Ahead, placed}
+use Rattle.gql_syntax.specs.Places.{Ahead, place_nodes}
 use Rattle.gql_syntax.specs.Run.{unexpected, too_deep, code_of}
 use Rattle.gql_syntax.specs.Spelling.{Mark}
 use Rattle.gql_syntax.specs.Texts.{nesting_limit, NoText, FaultAtOffset, IsParseFault}
@@ -25,10 +25,9 @@ use Rattle.gql_sdl.specs.Machine.{head, no_front, advance, finish}
 use Rattle.gql_sdl.specs.Reads.{ReadSchema, Fails, Anywhere, start}
 use Rattle.gql_sdl.specs.Schemas.{Description, Written, schema, scalar, object, interface, union, enum, input, directive, Described, NotEmpty, FormedWritten, written_of, definition_of, schemas, nodes_of, spell_implements, spell_members_part, spell_written, spell_described, spell_definitions}
 use Rattle.gql_sdl.specs.Trees.{IsSchema}
-use Rattle.gql_sdl.proofs.Seats.{Led, Neat, FormedDescribed}
-use Rattle.gql_sdl.proofs.SchemaLaws.{neat, laws}
+use Rattle.gql_sdl.proofs.Seats.{Led, Neat}
+use Rattle.gql_sdl.proofs.SchemaLaws.{neat, laws, FormedDescribed}
 use Rattle.gql_sdl.proofs.States.{machine}
-use Rattle.gql_sdl.proofs.Wholes.{formed-schema}
 
 -- ---- no separator in front of nothing
 
@@ -87,6 +86,10 @@ neatly-same (directive n ws repeatable leading ls) = refl
 tidied-formed : (ds : List Described) → AllByRecursion (λ d. FormedWritten d.written) ds → AllByRecursion FormedDescribed (map tidied ds)
 tidied-formed [] h = tt
 tidied-formed (d ∷ ds) h = ((neatly-formed d.written h.0, neatly-neat d.written), tidied-formed ds h.1)
+
+formed-schema : (v : List Described) → AllByRecursion FormedDescribed v → AllByRecursion (λ d. FormedWritten d.written) v
+formed-schema [] h = tt
+formed-schema (d ∷ ds) h = (h.0.0, formed-schema ds h.1)
 
 tidied-some : (ds : List Described) → NotEmpty ds → NotEmpty (map tidied ds)
 tidied-some [] h = h
@@ -200,7 +203,7 @@ tree-read file text p s =
       tokens = s.tree.tokens ∙ ap (λ ts. Some ts) (sym (tokens-neat s.written));
       formed = (tidied-some s.written s.tree.formed.0, tidied-formed s.written s.tree.formed.1);
       shallow = subst (Shallow nesting_limit) (sym (levels-neat s.written)) s.tree.shallow;
-      places = s.tree.places ∙ ap (λ ns. placed file text [] ns (lexed 0 text)) (sym (nodes-neat s.written));
+      places = s.tree.places ∙ ap (λ ns. place_nodes file text [] ns (lexed 0 text)) (sym (nodes-neat s.written));
     })
 
 pub schema-only : (file : ℕ) (text : List ℕ) (end : Ahead) (ds : List SchemaDef) (p : Placed SchemaTree) → ReadSchema (at_start file text) end ds → IsSchema file text p
@@ -210,7 +213,7 @@ schema-only file text end ds p r s =
     let same : r.written ≡ map tidied s.written = cc in
     let trees : ds ≡ p.tree.definitions = sym r.viewed ∙ ap (λ ws. map definition_of ws) same ∙ tidied-same s.written ∙ sym s.definitions in
     let places : end.places ≡ p.places =
-    sym r.nodes ∙ ap (λ ws. placed file text [] (nodes_of ws) (lexed 0 text)) same ∙ ap (λ ns. placed file text [] ns (lexed 0 text)) (nodes-neat s.written) ∙ sym s.tree.places in
+    sym r.nodes ∙ ap (λ ws. place_nodes file text [] (nodes_of ws) (lexed 0 text)) same ∙ ap (λ ns. place_nodes file text [] ns (lexed 0 text)) (nodes-neat s.written) ∙ sym s.tree.places in
     λ i. record { tree = record { definitions = trees i }; places = places i }
 
 -- a text with a fault is no schema
@@ -241,5 +244,5 @@ one-schema file text p q s z =
     let trees : p.tree.definitions ≡ q.tree.definitions =
     s.definitions ∙ sym (tidied-same s.written) ∙ ap (λ ws. map definition_of ws) same ∙ tidied-same z.written ∙ sym z.definitions in
     let places : p.places ≡ q.places =
-    s.tree.places ∙ ap (λ ns. placed file text [] ns (lexed 0 text)) (sym (nodes-neat s.written) ∙ ap nodes_of same ∙ nodes-neat z.written) ∙ sym z.tree.places in
+    s.tree.places ∙ ap (λ ns. place_nodes file text [] ns (lexed 0 text)) (sym (nodes-neat s.written) ∙ ap nodes_of same ∙ nodes-neat z.written) ∙ sym z.tree.places in
     λ i. record { tree = record { definitions = trees i }; places = places i }

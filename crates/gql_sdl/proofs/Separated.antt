@@ -5,12 +5,12 @@ use Rattle.gql_lex.specs.Toks as tok
 use Rattle.gql_lex.specs.Toks.{Tok, punctuator_of}
 use Rattle.gql_syntax.specs.Answers.{node_count, Misses}
 use Rattle.gql_syntax.specs.Nexts.{behind, next_is, next_word, Comes, stopped_at, token_count}
-use Rattle.gql_syntax.specs.Places.{Ahead, laid}
+use Rattle.gql_syntax.specs.Places.{Ahead, lay}
 use Rattle.gql_syntax.specs.Run.{unexpected}
 use Rattle.gql_syntax.specs.Texts.{nesting_limit}
 use Rattle.gql_syntax.specs.declared.fault.Fault.{Fault}
 use Rattle.gql_sdl.specs.Machine.{State, advance, finish}
-use Rattle.gql_sdl.specs.Reads.{going, Read, Fails}
+use Rattle.gql_sdl.specs.Reads.{run_on, Read, Fails}
 use Rattle.gql_sdl.specs.Schemas.{NotEmpty, spell_separated, spell_further}
 use Rattle.gql_sdl.proofs.Fronts.{further-then}
 use Rattle.gql_sdl.proofs.Goings.{on-name, on-sign, alike, fails-behind, fails-missed}
@@ -49,11 +49,11 @@ module _ {K W : Type 0} (L : Separated K W) (laws : SeparatedLaws L) where
   Listed a b ws = Read L.May L.first L.more (sep_nodes L) (λ (ws : List W). ws) a b ws
 
   pub listed-first : (a b : Ahead) (w : W) (us : List W) → us ≡ w ∷ [] → next_word a.source ≡ Some (L.word w) → b.source ≡ behind a.source
-      → ((ns : List ℕ) → laid (L.nodes ∷ ns) a ≡ laid ns b) → b.text ≡ a.text → Listed a b us
+      → ((ns : List ℕ) → lay (L.nodes ∷ ns) a ≡ lay ns b) → b.text ≡ a.text → Listed a b us
   listed-first a b w us e n s l t = subst (λ us. Listed a b us) (sym e) (record {
     written = w ∷ [];
     viewed = refl;
-    goes = λ k size z m. on-name size (L.first k) (L.more k (w ∷ [])) a.source (L.word w) n (laws.takes_first k w) ∙ ap (going size (L.more k (w ∷ []))) (sym s);
+    goes = λ k size z m. on-name size (L.first k) (L.more k (w ∷ [])) a.source (L.word w) n (laws.takes_first k w) ∙ ap (run_on size (L.more k (w ∷ []))) (sym s);
     nodes = l;
     taken = subst (λ s. token_count s ≤ token_count a.source) (sym s) (behind-count a.source);
     text = t;
@@ -66,22 +66,22 @@ module _ {K W : Type 0} (L : Separated K W) (laws : SeparatedLaws L) where
       ∙ ap (λ xs. L.nodes ∷ xs) (further-then node_count tok.bar L.nodes (map L.word ws) (L.word w) ns)
 
   to_next : (a b c : Ahead) (ws : List W) (r : Listed a b ws) → next_is L.separator b.source ≡ true → c.source ≡ behind b.source
-      → (k : K) (size : ℕ) → size ≡ length a.text → L.May k a.source → going size (L.first k) a.source ≡ going size (L.next k r.written) c.source
+      → (k : K) (size : ℕ) → size ≡ length a.text → L.May k a.source → run_on size (L.first k) a.source ≡ run_on size (L.next k r.written) c.source
   to_next a b c ws r n s k size z m =
       r.goes k size z m ∙ on-sign size L.separator (L.more k r.written) (L.next k r.written) b.source n (laws.takes_separator k a.source r.written m)
-      ∙ ap (going size (L.next k r.written)) (sym s)
+      ∙ ap (run_on size (L.next k r.written)) (sym s)
 
   pub listed-then : (a b c d : Ahead) (ws us : List W) (w : W) → Listed a b ws → NotEmpty ws → next_is L.separator b.source ≡ true → c.source ≡ behind b.source
-      → ((ns : List ℕ) → laid (0 ∷ ns) b ≡ laid ns c) → c.text ≡ b.text
-      → next_word c.source ≡ Some (L.word w) → d.source ≡ behind c.source → ((ns : List ℕ) → laid (L.nodes ∷ ns) c ≡ laid ns d) → d.text ≡ c.text
+      → ((ns : List ℕ) → lay (0 ∷ ns) b ≡ lay ns c) → c.text ≡ b.text
+      → next_word c.source ≡ Some (L.word w) → d.source ≡ behind c.source → ((ns : List ℕ) → lay (L.nodes ∷ ns) c ≡ lay ns d) → d.text ≡ c.text
       → us ≡ ws ++ w ∷ [] → Listed a d us
   listed-then a b c d ws us w r h n s l t n2 s2 l2 t2 e = record {
     written = r.written ++ w ∷ [];
     viewed = ap (λ xs. xs ++ w ∷ []) r.viewed ∙ sym e;
     goes = λ k size z m. to_next a b c ws r n s k size z m
         ∙ on-name size (L.next k r.written) (L.more k (r.written ++ w ∷ [])) c.source (L.word w) n2 (laws.takes_next k r.written w)
-        ∙ ap (going size (L.more k (r.written ++ w ∷ []))) (sym s2);
-    nodes = λ ns. ap (λ xs. laid xs a) (nodes-then r.written w ns (subst NotEmpty (sym r.viewed) h)) ∙ r.nodes (0 ∷ L.nodes ∷ ns) ∙ l (L.nodes ∷ ns) ∙ l2 ns;
+        ∙ ap (run_on size (L.more k (r.written ++ w ∷ []))) (sym s2);
+    nodes = λ ns. ap (λ xs. lay xs a) (nodes-then r.written w ns (subst NotEmpty (sym r.viewed) h)) ∙ r.nodes (0 ∷ L.nodes ∷ ns) ∙ l (L.nodes ∷ ns) ∙ l2 ns;
     taken = omega (arith, r.taken, behind-count b.source, behind-count c.source, ap token_count s, ap token_count s2);
     text = t2 ∙ t ∙ r.text;
   }

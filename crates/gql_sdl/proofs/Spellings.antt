@@ -6,19 +6,19 @@ use Rattle.gql_ast.specs.declared.document.Kind.TheVariants as K
 use Rattle.gql_ast.specs.declared.location.Location.{Location}
 use Rattle.gql_ast.specs.declared.location.Location.TheVariants as L
 use Rattle.gql_syntax.specs.Words.{kind_word, IsEnumName, true_word, false_word, null_word}
-use Rattle.gql_sdl.specs.Machine.{an_object, an_interface, a_scalar, with_fields, a_union, an_enum, an_input, Word, a_schema, titled, a_directive, spelled, told_by, words, word_of, kinds, kind_of, all_locations, location_of, is_reserved}
+use Rattle.gql_sdl.specs.Machine.{an_object, an_interface, a_scalar, with_fields, a_union, an_enum, an_input, Word, a_schema, titled, a_directive, spelled, find_by, words, word_of, kinds, kind_of, all_locations, location_of, is_reserved}
 use Rattle.gql_sdl.specs.Schemas.{location_word}
 
 pub same_word : (m n : List ℕ) → bytes_eq m n ≡ true → m ≡ n
 same_word m n e = (bytes_eq-Decides m n).0 e
 
 module _ {A : Type 0} (word : A → List ℕ) where
-  on_test : (b : A) (more : List A) (n : List ℕ) (a : A) (t : Bool) → (t ≡ true → n ≡ word b) → (told_by word more n ≡ Some a → n ≡ word a)
-      → cond t (Some b) (told_by word more n) ≡ Some a → n ≡ word a
+  on_test : (b : A) (more : List A) (n : List ℕ) (a : A) (t : Bool) → (t ≡ true → n ≡ word b) → (find_by word more n ≡ Some a → n ≡ word a)
+      → cond t (Some b) (find_by word more n) ≡ Some a → n ≡ word a
   on_test b more n a true same go e = let h : a ≡ b = cc in let k = same refl in cc
   on_test b more n a false same go e = go e
 
-  pub told_by-word : (all : List A) (n : List ℕ) (a : A) → told_by word all n ≡ Some a → n ≡ word a
+  pub told_by-word : (all : List A) (n : List ℕ) (a : A) → find_by word all n ≡ Some a → n ≡ word a
   told_by-word [] n a e = absurd (cc)
   told_by-word (b ∷ more) n a e = on_test b more n a (bytes_eq n (word b)) (same_word n (word b)) (told_by-word more n a) e
 

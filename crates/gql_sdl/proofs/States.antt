@@ -4,12 +4,13 @@ use Rattle.gql_lex.specs.Toks as tok
 use Rattle.gql_lex.specs.Toks.{Tok}
 use Rattle.gql_syntax.proofs.Laws.{Leveled, Machine}
 use Rattle.gql_syntax.proofs.Standing.{leveled, Ground, value_level, value_so_far, lift_value, SeatedValue, directives_level, directives_so_far, lift_directives, SeatedDirectives, type_level, type_so_far, lift_type, SeatedType}
-use Rattle.gql_syntax.specs.Formed.{FormedDirectives}
+use Rattle.gql_syntax.proofs.Shapes.{ShapedDirectives}
 use Rattle.gql_syntax.specs.Spelling.{spell_directives}
 use Rattle.gql_syntax.specs.Words.{kind_word}
 use Rattle.std.specs.List.{AllByRecursion}
 use Rattle.gql_sdl.specs.Machine.{titled_word, fielded_word, Owner, TypedInput, Typed, no_front, State, head, title, entitled, directive_sign, directive_title, directive_arguments, directive_on, listing, listing_led, listing_more, listing_next, roots, root_colon, root_name, fields, field_arguments, field_colon, inputs, input_colon, input_default, enum_values, in_directives, in_type, in_value, advance, finish, listed, separator}
-use Rattle.gql_sdl.specs.Schemas.{Described, NotEmpty, FormedInput, FormedField, FormedEnumValue, spell_description, spell_inputs, spell_argument_defs, spell_fields, spell_enum_values, spell_roots, spell_repeatable}
+use Rattle.gql_sdl.specs.Schemas.{Described, NotEmpty, spell_description, spell_inputs, spell_argument_defs, spell_fields, spell_enum_values, spell_roots, spell_repeatable}
+use Rattle.gql_sdl.proofs.Shapes.{ShapedInput, ShapedField, ShapedEnumValue}
 use Rattle.gql_sdl.proofs.Fronts.{flat, head_front, fields_front, field_front, argued_front, inputs_front, input_front, typed_input_front, values_front, typed_front, owner_front, listing_front, listed_front}
 use Rattle.gql_sdl.proofs.Seats.{FrontSeat, FieldsSeat, FieldSeat, ArguedSeat, InputsSeat, InputSeat, TypedInputSeat, ValuesSeat, TypedSeat, OwnerSeat, ListingSeat, IsEmpty}
 
@@ -79,21 +80,21 @@ Seated limit (entitled f k n) = FrontSeat f
 Seated limit (directive_sign f) = FrontSeat f
 Seated limit (directive_title f) = FrontSeat f
 Seated limit (directive_arguments f n) = FrontSeat f
-Seated limit (directive_on f n ws repeatable) = FrontSeat f × AllByRecursion FormedInput ws
+Seated limit (directive_on f n ws repeatable) = FrontSeat f × AllByRecursion ShapedInput ws
 Seated limit (listing l) = ListingSeat l × IsEmpty (listed l)
 Seated limit (listing_led l) = ListingSeat l × IsEmpty (listed l)
 Seated limit (listing_more leading l) = ListingSeat l × NotEmpty (listed l)
 Seated limit (listing_next leading l) = ListingSeat l × NotEmpty (listed l)
-Seated limit (roots f ds rs) = FrontSeat f × FormedDirectives true ds
-Seated limit (root_colon f ds rs k) = FrontSeat f × FormedDirectives true ds
-Seated limit (root_name f ds rs k) = FrontSeat f × FormedDirectives true ds
-Seated limit (fields f fs d) = FieldsSeat f × AllByRecursion FormedField fs
+Seated limit (roots f ds rs) = FrontSeat f × ShapedDirectives true ds
+Seated limit (root_colon f ds rs k) = FrontSeat f × ShapedDirectives true ds
+Seated limit (root_name f ds rs k) = FrontSeat f × ShapedDirectives true ds
+Seated limit (fields f fs d) = FieldsSeat f × AllByRecursion ShapedField fs
 Seated limit (field_arguments f) = FieldSeat f
 Seated limit (field_colon a) = ArguedSeat a
-Seated limit (inputs i ws d) = InputsSeat i × AllByRecursion FormedInput ws
+Seated limit (inputs i ws d) = InputsSeat i × AllByRecursion ShapedInput ws
 Seated limit (input_colon i) = InputSeat i
 Seated limit (input_default i) = TypedInputSeat i
-Seated limit (enum_values v vs d) = ValuesSeat v × AllByRecursion FormedEnumValue vs
+Seated limit (enum_values v vs d) = ValuesSeat v × AllByRecursion ShapedEnumValue vs
 Seated limit (in_directives d) = SeatedDirectives owner_ground limit d
 Seated limit (in_type y) = SeatedType typed_ground limit y
 Seated limit (in_value r) = SeatedValue default_ground limit r

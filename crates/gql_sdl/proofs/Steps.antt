@@ -4,27 +4,25 @@ use Rattle.std.specs.List.{AllByRecursion}
 use Rattle.gql_lex.specs.Toks as tok
 use Rattle.gql_lex.specs.Toks.{Tok}
 use Rattle.gql_ast.specs.Ty.{Ty}
-use Rattle.gql_ast.specs.TypeView.{ty_of}
-use Rattle.gql_ast.specs.Ty as ty
-use Rattle.gql_ast.specs.Value.{Val, Vals, Members, variable, int, text, truth, null, list, no_vals, val, no_members, member, vals_of, members_of}
-use Rattle.gql_ast.specs.Value as value
-use Rattle.gql_sdl.specs.Given.{type_tree, vals_list, members_list, value_tree}
-use Rattle.gql_ast.specs.ValueView.{value_of}
+use Rattle.gql_ast.specs.Value.{Val}
+use Rattle.gql_syntax.specs.Built.{type_tree}
+use Rattle.gql_syntax.proofs.BuiltTrees.{ty_of-type_tree, value_of-value_tree}
 use Rattle.gql_ast.specs.declared.directive.Directive.{Directive}
 use Rattle.gql_ast.specs.declared.document.Kind.{Kind}
 use Rattle.gql_ast.specs.declared.location.Location.{Location}
 use Rattle.gql_ast.specs.declared.schema.Root.{Root}
 use Rattle.gql_syntax.proofs.Laws.{Leveled}
 use Rattle.gql_syntax.proofs.Standing.{leveled}
-use Rattle.gql_syntax.specs.Formed.{FormedDirectives, FormedType, FormedValue}
+use Rattle.gql_syntax.proofs.Shapes.{ShapedDirectives, ShapedType, ShapedValue}
 use Rattle.gql_syntax.specs.Machine.{at_name, want, outer, want_type, whole}
 use Rattle.gql_syntax.specs.Run.{Halt, unexpected, too_deep}
 use Rattle.gql_syntax.specs.Spelling.{spell_directives, spell_type, spell_value}
 use Rattle.gql_syntax.specs.Words.{on_word, kind_word}
-use Rattle.gql_sdl.specs.Machine.{Fielded, an_object, an_interface, Titled, a_scalar, with_fields, a_union, an_enum, an_input, Word, a_schema, titled, a_directive, spelled, word_of, kind_of, location_of, implements_word, repeatable_word, is_reserved, Front, Heading, Fields, Inputs, of_field, of_directive, of_object, TypedInput, Values, Typed, input_type, field_type, Owner, on_schema, on_scalar, on_fielded, on_union, on_enum, on_object, on_input, on_field, on_value, Listing, implementing, uniting, locating, listed, separator, listing_then, State, head, title, entitled, directive_sign, directive_title, directive_arguments, directive_on, listing, listing_led, listing_more, listing_next, roots, root_colon, root_name, fields, field_arguments, field_colon, inputs, input_colon, input_default, enum_values, in_directives, in_type, in_value, front_then, fielded_written, heading_then, heading_of, field_then, input_then, value_then, directives_of, described, begin_definition, at_head, entitle, closed, at_fields, close_parens, close_braces, at_inputs, at_values, open_root, at_roots, after_directives, at_directives, after_listing, listing_more_of, listing_name, at_repeatable, at_entitled, at_default, typed_state, after_type, valued, advance}
-use Rattle.gql_sdl.specs.Schemas.{location_word, Description, WrittenInput, WrittenField, WrittenValue, Written, schema, scalar, union, enum, input, directive, NotEmpty, FormedInput, FormedField, FormedEnumValue, FormedWritten, spell_description, spell_inputs, spell_fields, spell_enum_values, spell_leading, spell_further, spell_written}
+use Rattle.gql_sdl.specs.Machine.{Fielded, an_object, an_interface, Titled, a_scalar, with_fields, a_union, an_enum, an_input, Word, a_schema, titled, a_directive, spelled, word_of, kind_of, location_of, implements_word, repeatable_word, is_reserved, Front, Heading, Fields, Inputs, of_field, of_directive, of_object, TypedInput, Values, Typed, input_type, field_type, Owner, on_schema, on_scalar, on_fielded, on_union, on_enum, on_object, on_input, on_field, on_value, Listing, implementing, uniting, locating, listed, separator, listing_then, State, head, title, entitled, directive_sign, directive_title, directive_arguments, directive_on, listing, listing_led, listing_more, listing_next, roots, root_colon, root_name, fields, field_arguments, field_colon, inputs, input_colon, input_default, enum_values, in_directives, in_type, in_value, front_then, fielded_written, heading_then, heading_of, field_then, input_then, value_then, directives_of, describe, begin_definition, at_head, entitle, closed, at_fields, close_parens, close_braces, at_inputs, at_values, open_root, at_roots, after_directives, at_directives, after_listing, listing_more_of, listing_name, at_repeatable, at_entitled, at_default, typed_state, after_type, behind_default, advance}
+use Rattle.gql_sdl.specs.Schemas.{location_word, Description, WrittenInput, WrittenField, WrittenValue, Written, schema, scalar, union, enum, input, directive, NotEmpty, spell_description, spell_inputs, spell_fields, spell_enum_values, spell_leading, spell_further, spell_written}
+use Rattle.gql_sdl.proofs.Shapes.{ShapedInput, ShapedField, ShapedEnumValue, ShapedWritten}
 use Rattle.gql_sdl.proofs.Fronts.{flat, definitions_front, head_front, fields_front, argued_front, inputs_front, input_front, typed_input_front, values_front, typed_front, owner_front, listing_front, listed_front, inputs-then, fields-then, values-then, roots-then, further-then, front-then, heading-then}
-use Rattle.gql_sdl.proofs.Seats.{Led, Neat, FormedDescribed, FrontSeat, HeadingSeat, FieldsSeat, InputsSeat, TypedInputSeat, ValuesSeat, TypedSeat, OwnerSeat, ListingSeat, IsEmpty, all-push}
+use Rattle.gql_sdl.proofs.Seats.{Led, Neat, ShapedDescribed, FrontSeat, HeadingSeat, FieldsSeat, InputsSeat, TypedInputSeat, ValuesSeat, TypedSeat, OwnerSeat, ListingSeat, IsEmpty, all-push}
 use Rattle.gql_sdl.proofs.States.{so_far, Seated, Own}
 use Rattle.gql_sdl.proofs.Spellings.{same_word, word_of-word, kind_of-word, location_of-word, is_reserved-enum_name}
 
@@ -63,7 +61,7 @@ module _ (limit : ℕ) where
 
   described-goes : (front : List Leveled → List Leveled) (d : Description) (e : List ℕ) (to : Description → State)
       → ((d : Description) (ts : List Leveled) → so_far (to d) ts ≡ front (spell_description leveled d ts)) → ((d : Description) → Seated limit (to d))
-      → Goes limit (λ ts. front (spell_description leveled d ts)) (tok.text e) 0 (described d e to)
+      → Goes limit (λ ts. front (spell_description leveled d ts)) (tok.text e) 0 (describe d e to)
   described-goes front None e to s h = goes _ _ (to (Some e)) (s (Some e)) (h (Some e))
   described-goes front (Some d) e to s h = tt
 
@@ -85,11 +83,11 @@ module _ (limit : ℕ) where
 
   -- a definition is whole
   whole-goes : (front : List Leveled → List Leveled) (f : Front) (w : Written) (t : Tok)
-      → ((ts : List Leveled) → head_front f (spell_written leveled 0 w ts) ≡ front ts) → FrontSeat f → FormedWritten w → Neat w
+      → ((ts : List Leveled) → head_front f (spell_written leveled 0 w ts) ≡ front ts) → FrontSeat f → ShapedWritten w → Neat w
       → Goes limit front t 0 (at_head (front_then f w) t)
   whole-goes front f w t e h k n =
       goes-moves limit (head_front (front_then f w)) front t 0 (at_head (front_then f w) t) (λ ts. front-then f w ts ∙ e ts)
-      (at_head-goes (front_then f w) t (all-push FormedDescribed f.before (record { description = f.description; written = w }) h (k, n)))
+      (at_head-goes (front_then f w) t (all-push ShapedDescribed f.before (record { description = f.description; written = w }) h (k, n)))
 
   entitle-goes : (f : Front) (k : Titled) (n : List ℕ) → FrontSeat f
       → Goes limit (λ ts. so_far (title f k) ts) (tok.name n) 0 (Ok (entitle f k n))
@@ -102,19 +100,19 @@ module _ (limit : ℕ) where
   -- ---- members
 
   fielded-formed : (k : Fielded) (n : List ℕ) (leading : Bool) (is : List (List ℕ)) (ds : List Directive) (fs : List WrittenField)
-      → Led leading is → FormedDirectives true ds → AllByRecursion FormedField fs
-      → FormedWritten (fielded_written k n leading is ds fs) × Neat (fielded_written k n leading is ds fs)
+      → Led leading is → ShapedDirectives true ds → AllByRecursion ShapedField fs
+      → ShapedWritten (fielded_written k n leading is ds fs) × Neat (fielded_written k n leading is ds fs)
   fielded-formed an_object n leading is ds fs h d f = ((d, f), h)
   fielded-formed an_interface n leading is ds fs h d f = ((d, f), h)
 
-  pub heading-seat : (h : Heading) (ds : List Directive) (fs : List WrittenField) → HeadingSeat h → FormedDirectives true ds → AllByRecursion FormedField fs
+  pub heading-seat : (h : Heading) (ds : List Directive) (fs : List WrittenField) → HeadingSeat h → ShapedDirectives true ds → AllByRecursion ShapedField fs
       → FrontSeat (heading_then h ds fs)
   heading-seat h ds fs s d f =
-      all-push FormedDescribed h.front.before
+      all-push ShapedDescribed h.front.before
       (record { description = h.front.description; written = fielded_written h.kind h.title h.leading h.implements ds fs })
       s.0 (fielded-formed h.kind h.title h.leading h.implements ds fs s.1 d f)
 
-  close_fields-goes : (f : Fields) (fs : List WrittenField) (d : Description) → FieldsSeat f → AllByRecursion FormedField fs
+  close_fields-goes : (f : Fields) (fs : List WrittenField) (d : Description) → FieldsSeat f → AllByRecursion ShapedField fs
       → Goes limit (λ ts. so_far (fields f fs d) ts) tok.close_brace 0 (closed fs d (head (heading_then f.heading f.directives fs)))
   close_fields-goes f [] d h k = tt
   close_fields-goes f (e ∷ fs) None h k =
@@ -122,7 +120,7 @@ module _ (limit : ℕ) where
       (heading-seat f.heading f.directives (e ∷ fs) h.0 h.1 k)
   close_fields-goes f (e ∷ fs) (Some d) h k = tt
 
-  at_fields-goes : (f : Fields) (fs : List WrittenField) (d : Description) (t : Tok) → FieldsSeat f → AllByRecursion FormedField fs
+  at_fields-goes : (f : Fields) (fs : List WrittenField) (d : Description) (t : Tok) → FieldsSeat f → AllByRecursion ShapedField fs
       → Goes limit (λ ts. so_far (fields f fs d) ts) t 0 (at_fields f fs d t)
   at_fields-goes f fs d (tok.text e) h k =
       described-goes (λ ts. fields_front f (spell_fields leveled fs ts)) d e (λ d. fields f fs d) (λ d ts. refl) (λ d. (h, k))
@@ -130,7 +128,7 @@ module _ (limit : ℕ) where
   at_fields-goes f fs d tok.close_brace h k = close_fields-goes f fs d h k
   at_fields-goes f fs d t h k = tt
 
-  close_parens-goes : (i : Inputs) (ws : List WrittenInput) (d : Description) → InputsSeat i → AllByRecursion FormedInput ws
+  close_parens-goes : (i : Inputs) (ws : List WrittenInput) (d : Description) → InputsSeat i → AllByRecursion ShapedInput ws
       → Goes limit (λ ts. so_far (inputs i ws d) ts) tok.close_paren 0 (close_parens i ws d)
   close_parens-goes (of_field f) [] d h k = tt
   close_parens-goes (of_field f) (w ∷ ws) None h k = goes _ _ (field_colon (record { field = f; arguments = w ∷ ws })) (λ ts. refl) (h, k)
@@ -140,17 +138,17 @@ module _ (limit : ℕ) where
   close_parens-goes (of_directive f n) (w ∷ ws) (Some d) h k = tt
   close_parens-goes (of_object f n ds) ws d h k = tt
 
-  close_braces-goes : (i : Inputs) (ws : List WrittenInput) (d : Description) → InputsSeat i → AllByRecursion FormedInput ws
+  close_braces-goes : (i : Inputs) (ws : List WrittenInput) (d : Description) → InputsSeat i → AllByRecursion ShapedInput ws
       → Goes limit (λ ts. so_far (inputs i ws d) ts) tok.close_brace 0 (close_braces i ws d)
   close_braces-goes (of_field f) ws d h k = tt
   close_braces-goes (of_directive f n) ws d h k = tt
   close_braces-goes (of_object f n ds) [] d h k = tt
   close_braces-goes (of_object f n ds) (w ∷ ws) None h k =
       goes _ _ (head (front_then f (input n ds (w ∷ ws)))) (λ ts. front-then f (input n ds (w ∷ ws)) ts)
-      (all-push FormedDescribed f.before (record { description = f.description; written = input n ds (w ∷ ws) }) h.0 ((h.1, k), tt))
+      (all-push ShapedDescribed f.before (record { description = f.description; written = input n ds (w ∷ ws) }) h.0 ((h.1, k), tt))
   close_braces-goes (of_object f n ds) (w ∷ ws) (Some d) h k = tt
 
-  at_inputs-goes : (i : Inputs) (ws : List WrittenInput) (d : Description) (t : Tok) → InputsSeat i → AllByRecursion FormedInput ws
+  at_inputs-goes : (i : Inputs) (ws : List WrittenInput) (d : Description) (t : Tok) → InputsSeat i → AllByRecursion ShapedInput ws
       → Goes limit (λ ts. so_far (inputs i ws d) ts) t 0 (at_inputs i ws d t)
   at_inputs-goes i ws d (tok.text e) h k =
       described-goes (λ ts. inputs_front i (spell_inputs leveled ws ts)) d e (λ d. inputs i ws d) (λ d ts. refl) (λ d. (h, k))
@@ -160,7 +158,7 @@ module _ (limit : ℕ) where
   at_inputs-goes i ws d t h k = tt
 
   open_value-goes : (v : Values) (vs : List WrittenValue) (d : Description) (n : List ℕ) (b : Bool) → is_reserved n ≡ b → ValuesSeat v
-      → AllByRecursion FormedEnumValue vs
+      → AllByRecursion ShapedEnumValue vs
       → Goes limit (λ ts. so_far (enum_values v vs d) ts) (tok.name n) 0
       (cond b (Err unexpected) (Ok (directives_of (on_value (record { values = v; before = vs; description = d; title = n })))))
   open_value-goes v vs d n true e h k = tt
@@ -168,15 +166,15 @@ module _ (limit : ℕ) where
       goes _ _ (directives_of (on_value (record { values = v; before = vs; description = d; title = n }))) (λ ts. refl)
       (refl, tt, (h, k, is_reserved-enum_name n e))
 
-  close_values-goes : (v : Values) (vs : List WrittenValue) (d : Description) → ValuesSeat v → AllByRecursion FormedEnumValue vs
+  close_values-goes : (v : Values) (vs : List WrittenValue) (d : Description) → ValuesSeat v → AllByRecursion ShapedEnumValue vs
       → Goes limit (λ ts. so_far (enum_values v vs d) ts) tok.close_brace 0 (closed vs d (head (front_then v.front (enum v.title v.directives vs))))
   close_values-goes v [] d h k = tt
   close_values-goes v (w ∷ vs) None h k =
       goes _ _ (head (front_then v.front (enum v.title v.directives (w ∷ vs)))) (λ ts. front-then v.front (enum v.title v.directives (w ∷ vs)) ts)
-      (all-push FormedDescribed v.front.before (record { description = v.front.description; written = enum v.title v.directives (w ∷ vs) }) h.0 ((h.1, k), tt))
+      (all-push ShapedDescribed v.front.before (record { description = v.front.description; written = enum v.title v.directives (w ∷ vs) }) h.0 ((h.1, k), tt))
   close_values-goes v (w ∷ vs) (Some d) h k = tt
 
-  at_values-goes : (v : Values) (vs : List WrittenValue) (d : Description) (t : Tok) → ValuesSeat v → AllByRecursion FormedEnumValue vs
+  at_values-goes : (v : Values) (vs : List WrittenValue) (d : Description) (t : Tok) → ValuesSeat v → AllByRecursion ShapedEnumValue vs
       → Goes limit (λ ts. so_far (enum_values v vs d) ts) t 0 (at_values v vs d t)
   at_values-goes v vs d (tok.text e) h k =
       described-goes (λ ts. values_front v (spell_enum_values leveled vs ts)) d e (λ d. enum_values v vs d) (λ d ts. refl) (λ d. (h, k))
@@ -185,19 +183,19 @@ module _ (limit : ℕ) where
   at_values-goes v vs d t h k = tt
 
   open_root-goes : (f : Front) (ds : List Directive) (rs : List Root) (n : List ℕ) (o : Option Kind) → ((k : Kind) → o ≡ Some k → n ≡ kind_word k)
-      → FrontSeat f → FormedDirectives true ds → Goes limit (λ ts. so_far (roots f ds rs) ts) (tok.name n) 0 (open_root f ds rs o)
+      → FrontSeat f → ShapedDirectives true ds → Goes limit (λ ts. so_far (roots f ds rs) ts) (tok.name n) 0 (open_root f ds rs o)
   open_root-goes f ds rs n None same h d = tt
   open_root-goes f ds rs n (Some k) same h d =
       goes _ _ (root_colon f ds rs k) (λ ts. ap (λ m. so_far (roots f ds rs) (flat (tok.name m) ∷ ts)) (sym (same k refl))) (h, d)
 
-  close_roots-goes : (f : Front) (ds : List Directive) (rs : List Root) → FrontSeat f → FormedDirectives true ds
+  close_roots-goes : (f : Front) (ds : List Directive) (rs : List Root) → FrontSeat f → ShapedDirectives true ds
       → Goes limit (λ ts. so_far (roots f ds rs) ts) tok.close_brace 0 (closed rs None (head (front_then f (schema ds rs))))
   close_roots-goes f ds [] h d = tt
   close_roots-goes f ds (r ∷ rs) h d =
       goes _ _ (head (front_then f (schema ds (r ∷ rs)))) (λ ts. front-then f (schema ds (r ∷ rs)) ts)
-      (all-push FormedDescribed f.before (record { description = f.description; written = schema ds (r ∷ rs) }) h ((d, tt), tt))
+      (all-push ShapedDescribed f.before (record { description = f.description; written = schema ds (r ∷ rs) }) h ((d, tt), tt))
 
-  at_roots-goes : (f : Front) (ds : List Directive) (rs : List Root) (t : Tok) → FrontSeat f → FormedDirectives true ds
+  at_roots-goes : (f : Front) (ds : List Directive) (rs : List Root) (t : Tok) → FrontSeat f → ShapedDirectives true ds
       → Goes limit (λ ts. so_far (roots f ds rs) ts) t 0 (at_roots f ds rs t)
   at_roots-goes f ds rs (tok.name n) h d = open_root-goes f ds rs n (kind_of n) (kind_of-word n) h d
   at_roots-goes f ds rs tok.close_brace h d = close_roots-goes f ds rs h d
@@ -205,7 +203,7 @@ module _ (limit : ℕ) where
 
   -- ---- where directives have ended
 
-  pub after-goes : (o : Owner) (ds : List Directive) (t : Tok) → OwnerSeat o → FormedDirectives true ds
+  pub after-goes : (o : Owner) (ds : List Directive) (t : Tok) → OwnerSeat o → ShapedDirectives true ds
       → Goes limit (λ ts. owner_front o (spell_directives leveled ds ts)) t 0 (after_directives o ds t)
   after-goes (on_schema f) ds tok.open_brace h d = goes _ _ (roots f ds []) (λ ts. refl) (h, d)
   after-goes (on_schema f) ds t h d = tt
@@ -224,15 +222,15 @@ module _ (limit : ℕ) where
   after-goes (on_input i v) ds t h d =
       goes-moves limit (λ ts. so_far (inputs i.input.inputs (input_then i v ds) None) ts) _ t 0 (at_inputs i.input.inputs (input_then i v ds) None t)
       (λ ts. ap (inputs_front i.input.inputs) (inputs-then leveled i.input.before _ ts))
-      (at_inputs-goes i.input.inputs (input_then i v ds) None t h.0.0.0 (all-push FormedInput i.input.before _ h.0.0.1 (h.0.1, h.1, d)))
+      (at_inputs-goes i.input.inputs (input_then i v ds) None t h.0.0.0 (all-push ShapedInput i.input.before _ h.0.0.1 (h.0.1, h.1, d)))
   after-goes (on_field a u) ds t h d =
       goes-moves limit (λ ts. so_far (fields a.field.fields (field_then a u ds) None) ts) _ t 0 (at_fields a.field.fields (field_then a u ds) None t)
       (λ ts. ap (fields_front a.field.fields) (fields-then leveled a.field.before _ ts))
-      (at_fields-goes a.field.fields (field_then a u ds) None t h.0.0.0 (all-push FormedField a.field.before _ h.0.0.1 (h.0.1, h.1, d)))
+      (at_fields-goes a.field.fields (field_then a u ds) None t h.0.0.0 (all-push ShapedField a.field.before _ h.0.0.1 (h.0.1, h.1, d)))
   after-goes (on_value v) ds t h d =
       goes-moves limit (λ ts. so_far (enum_values v.values (value_then v ds) None) ts) _ t 0 (at_values v.values (value_then v ds) None t)
       (λ ts. ap (values_front v.values) (values-then leveled v.before _ ts))
-      (at_values-goes v.values (value_then v ds) None t h.0 (all-push FormedEnumValue v.before _ h.1 (h.2, d)))
+      (at_values-goes v.values (value_then v ds) None t h.0 (all-push ShapedEnumValue v.before _ h.1 (h.2, d)))
 
   pub at_directives-goes : (o : Owner) (t : Tok) → OwnerSeat o → Goes limit (owner_front o) t 0 (at_directives limit o t)
   at_directives-goes o tok.at_sign h = goes _ _ (in_directives (at_name true [] o)) (λ ts. refl) (refl, tt, h)
@@ -322,7 +320,7 @@ module _ (limit : ℕ) where
 
   -- ---- words that may follow
 
-  at_repeatable-goes : (f : Front) (n : List ℕ) (ws : List WrittenInput) (r : Bool) (t : Tok) → FrontSeat f → AllByRecursion FormedInput ws
+  at_repeatable-goes : (f : Front) (n : List ℕ) (ws : List WrittenInput) (r : Bool) (t : Tok) → FrontSeat f → AllByRecursion ShapedInput ws
       → Goes limit (λ ts. so_far (directive_on f n ws r) ts) t 0 (at_repeatable f n ws r t)
   at_repeatable-goes f n ws false (tok.name m) h k =
       cond-goes _ _ (bytes_eq m repeatable_word) _ _
@@ -350,57 +348,34 @@ module _ (limit : ℕ) where
   at_default-goes i tok.equals h = goes _ _ (in_value (want true limit (outer i))) (λ ts. refl) (omega arith, refl, h)
   at_default-goes i t h = at_directives-goes (on_input i None) t (h, tt)
 
-  pub type_tree-is : (t : Ty) → ty_of (type_tree t) ≡ t
-  type_tree-is (ty.named n) = refl
-  type_tree-is (ty.list t) = refl
-  type_tree-is (ty.non_null t) = refl
-
-  pub vals_list-is : (vs : Vals) → vals_of (vals_list vs) ≡ vs
-  vals_list-is no_vals = refl
-  vals_list-is (val v vs) = ap (val v) (vals_list-is vs)
-
-  pub members_list-is : (ms : Members) → members_of (members_list ms) ≡ ms
-  members_list-is no_members = refl
-  members_list-is (member n v ms) = ap (member n v) (members_list-is ms)
-
-  pub value_tree-is : (v : Val) → value_of (value_tree v) ≡ v
-  value_tree-is (variable n) = refl
-  value_tree-is (int n) = refl
-  value_tree-is (text t) = refl
-  value_tree-is (truth b) = refl
-  value_tree-is null = refl
-  value_tree-is (value.enum n) = refl
-  value_tree-is (list vs) = ap list (vals_list-is vs)
-  value_tree-is (value.object ms) = ap value.object (members_list-is ms)
-
   -- what stands behind a type
-  pub after_type-goes : (y : Typed) (t : Ty) (x : Tok) → TypedSeat y → FormedType t
+  pub after_type-goes : (y : Typed) (t : Ty) (x : Tok) → TypedSeat y → ShapedType t
       → Goes limit (λ ts. typed_front y (spell_type leveled t 0 0 ts)) x 0 (after_type limit y t x)
   after_type-goes (input_type i) t x h k =
       goes-moves limit (typed_input_front (record { input = i; of = type_tree t })) _ x 0 (at_default limit (record { input = i; of = type_tree t }) x)
-      (λ ts. ap (λ t. input_front i (flat tok.colon ∷ spell_type leveled t 0 0 ts)) (type_tree-is t))
-      (at_default-goes (record { input = i; of = type_tree t }) x (h, subst FormedType (sym (type_tree-is t)) k))
+      (λ ts. ap (λ t. input_front i (flat tok.colon ∷ spell_type leveled t 0 0 ts)) (ty_of-type_tree t))
+      (at_default-goes (record { input = i; of = type_tree t }) x (h, subst ShapedType (sym (ty_of-type_tree t)) k))
   after_type-goes (field_type a) t x h k =
       goes-moves limit (owner_front (on_field a (type_tree t))) _ x 0 (at_directives limit (on_field a (type_tree t)) x)
-      (λ ts. ap (λ t. argued_front a (flat tok.colon ∷ spell_type leveled t 0 0 ts)) (type_tree-is t))
-      (at_directives-goes (on_field a (type_tree t)) x (h, subst FormedType (sym (type_tree-is t)) k))
+      (λ ts. ap (λ t. argued_front a (flat tok.colon ∷ spell_type leveled t 0 0 ts)) (ty_of-type_tree t))
+      (at_directives-goes (on_field a (type_tree t)) x (h, subst ShapedType (sym (ty_of-type_tree t)) k))
 
   -- the state behind a type
   pub typed_state-front : (y : Typed) (t : Ty) (ts : List Leveled) → so_far (typed_state y t) ts ≡ typed_front y (spell_type leveled t 0 0 ts)
-  typed_state-front (input_type i) t ts = ap (λ t. input_front i (flat tok.colon ∷ spell_type leveled t 0 0 ts)) (type_tree-is t)
-  typed_state-front (field_type a) t ts = ap (λ t. argued_front a (flat tok.colon ∷ spell_type leveled t 0 0 ts)) (type_tree-is t)
+  typed_state-front (input_type i) t ts = ap (λ t. input_front i (flat tok.colon ∷ spell_type leveled t 0 0 ts)) (ty_of-type_tree t)
+  typed_state-front (field_type a) t ts = ap (λ t. argued_front a (flat tok.colon ∷ spell_type leveled t 0 0 ts)) (ty_of-type_tree t)
 
-  pub typed_state-seated : (y : Typed) (t : Ty) → TypedSeat y → FormedType t → Seated limit (typed_state y t)
-  typed_state-seated (input_type i) t h k = (h, subst FormedType (sym (type_tree-is t)) k)
-  typed_state-seated (field_type a) t h k = (refl, tt, (h, subst FormedType (sym (type_tree-is t)) k))
+  pub typed_state-seated : (y : Typed) (t : Ty) → TypedSeat y → ShapedType t → Seated limit (typed_state y t)
+  typed_state-seated (input_type i) t h k = (h, subst ShapedType (sym (ty_of-type_tree t)) k)
+  typed_state-seated (field_type a) t h k = (refl, tt, (h, subst ShapedType (sym (ty_of-type_tree t)) k))
 
   -- the state behind a value
   pub valued-front : (i : TypedInput) (v : Val) (ts : List Leveled)
-      → so_far (valued i v) ts ≡ typed_input_front i (flat tok.equals ∷ spell_value leveled v 0 ts)
-  valued-front i v ts = ap (λ v. typed_input_front i (flat tok.equals ∷ spell_value leveled v 0 ts)) (value_tree-is v)
+      → so_far (behind_default i v) ts ≡ typed_input_front i (flat tok.equals ∷ spell_value leveled v 0 ts)
+  valued-front i v ts = ap (λ v. typed_input_front i (flat tok.equals ∷ spell_value leveled v 0 ts)) (value_of-value_tree v)
 
-  pub valued-seated : (i : TypedInput) (v : Val) → TypedInputSeat i → FormedValue true v → Seated limit (valued i v)
-  valued-seated i v h k = (refl, tt, (h, subst (FormedValue true) (sym (value_tree-is v)) k))
+  pub valued-seated : (i : TypedInput) (v : Val) → TypedInputSeat i → ShapedValue true v → Seated limit (behind_default i v)
+  valued-seated i v h k = (refl, tt, (h, subst (ShapedValue true) (sym (value_of-value_tree v)) k))
 
   -- ---- the states that read no value, type or directive
 

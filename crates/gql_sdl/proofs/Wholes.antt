@@ -7,15 +7,16 @@ use Rattle.gql_syntax.specs.Words.{kind_word}
 use Rattle.gql_ast.specs.declared.directive.Directive.{Directive}
 use Rattle.gql_ast.specs.declared.schema.Root.{Root}
 use Rattle.gql_syntax.proofs.Laws.{Leveled}
-use Rattle.gql_syntax.proofs.Marks.{mapped, map-directives, map-type, map-default, directives-then, formed_directives-then}
+use Rattle.gql_syntax.proofs.Marks.{mapped, map-directives, map-type, map-default, directives-then, shaped_directives-then}
 use Rattle.gql_syntax.proofs.Standing.{leveled}
-use Rattle.gql_syntax.specs.Formed.{FormedDirectives}
+use Rattle.gql_syntax.proofs.Shapes.{ShapedDirectives}
 use Rattle.gql_syntax.specs.Machine.{further, applied}
 use Rattle.gql_syntax.specs.Spelling.{Mark, spell_directives}
 use Rattle.gql_sdl.specs.Machine.{Front, Owner, on_schema, on_scalar, on_fielded, on_union, on_enum, on_object, on_input, on_field, on_value, Listing, implementing, uniting, locating, listed, State, head, entitled, listing_more, in_directives, front_then, heading_then, heading_of, front_ends, finish_front, finish_directives, finish_listing, finish}
-use Rattle.gql_sdl.specs.Schemas.{Description, WrittenInput, WrittenField, WrittenValue, Written, schema, scalar, object, interface, union, enum, input, directive, Described, NotEmpty, FormedWritten, spell_description, spell_input, spell_inputs, spell_argument_defs, spell_input_fields, spell_field, spell_fields, spell_fields_part, spell_enum_value, spell_enum_values, spell_enum_values_part, spell_roots, spell_leading, spell_further, spell_separated, spell_implements, spell_members_part, spell_repeatable, spell_written, spell_described, spell_definitions, spell_schema}
+use Rattle.gql_sdl.specs.Schemas.{Description, WrittenInput, WrittenField, WrittenValue, Written, schema, scalar, object, interface, union, enum, input, directive, Described, NotEmpty, spell_description, spell_input, spell_inputs, spell_argument_defs, spell_input_fields, spell_field, spell_fields, spell_fields_part, spell_enum_value, spell_enum_values, spell_enum_values_part, spell_roots, spell_leading, spell_further, spell_separated, spell_implements, spell_members_part, spell_repeatable, spell_written, spell_described, spell_definitions, spell_schema}
+use Rattle.gql_sdl.proofs.Shapes.{ShapedWritten}
 use Rattle.gql_sdl.proofs.Fronts.{definitions_front, head_front, owner_front, listed_front, front-then, heading-then}
-use Rattle.gql_sdl.proofs.Seats.{Neat, FormedDescribed, FrontSeat, OwnerSeat, ListingSeat, all-push}
+use Rattle.gql_sdl.proofs.Seats.{Neat, ShapedDescribed, FrontSeat, OwnerSeat, ListingSeat, all-push}
 use Rattle.gql_sdl.proofs.States.{so_far, Seated}
 use Rattle.gql_sdl.proofs.Steps.{heading-seat}
 
@@ -48,12 +49,12 @@ definitions-spelled above (d ∷ ds) =
 pub record Whole (read : List Leveled) (v : List Described) : Type 0 where
   pub spelled : read ≡ spell_schema leveled v
   pub not_empty : NotEmpty v
-  pub formed : AllByRecursion FormedDescribed v
+  pub formed : AllByRecursion ShapedDescribed v
 
 whole-moves : (read told : List Leveled) (v : List Described) → read ≡ told → Whole read v → Whole told v
 whole-moves read told v e w = record { spelled = sym e ∙ w.spelled; not_empty = w.not_empty; formed = w.formed }
 
-front_ends-whole : (before : List Described) (d : Description) (v : List Described) → AllByRecursion FormedDescribed before → front_ends before d ≡ Some v
+front_ends-whole : (before : List Described) (d : Description) (v : List Described) → AllByRecursion ShapedDescribed before → front_ends before d ≡ Some v
     → Whole (definitions_front before (spell_description leveled d [])) v
 front_ends-whole [] d v h e = absurd (cc)
 front_ends-whole (b ∷ more) (Some d) v h e = absurd (cc)
@@ -67,12 +68,12 @@ front-whole f v h e = front_ends-whole f.before f.description v h e
 
 -- a definition is whole
 definition-whole : (read : List Leveled) (f : Front) (w : Written) (v : List Described) → head_front f (spell_written leveled 0 w []) ≡ read
-    → FrontSeat f → FormedWritten w → Neat w → finish_front (front_then f w) ≡ Some v → Whole read v
+    → FrontSeat f → ShapedWritten w → Neat w → finish_front (front_then f w) ≡ Some v → Whole read v
 definition-whole read f w v e h k n d =
     whole-moves (head_front (front_then f w) []) read v (front-then f w [] ∙ e)
-    (front-whole (front_then f w) v (all-push FormedDescribed f.before (record { description = f.description; written = w }) h (k, n)) d)
+    (front-whole (front_then f w) v (all-push ShapedDescribed f.before (record { description = f.description; written = w }) h (k, n)) d)
 
-directives-whole : (o : Owner) (ds : List Directive) (v : List Described) → OwnerSeat o → FormedDirectives true ds → finish_directives o ds ≡ Some v
+directives-whole : (o : Owner) (ds : List Directive) (v : List Described) → OwnerSeat o → ShapedDirectives true ds → finish_directives o ds ≡ Some v
     → Whole (owner_front o (spell_directives leveled ds [])) v
 directives-whole (on_schema f) ds v h d e = absurd (cc)
 directives-whole (on_scalar f n) ds v h d e = definition-whole _ f (scalar n ds) v refl h d tt e
@@ -101,11 +102,11 @@ pub finish-whole : (limit : ℕ) (s : State) (v : List Described) → Seated lim
 finish-whole limit (head f) v h e = front-whole f v h e
 finish-whole limit (entitled f k n) v h e = directives-whole (on_fielded (heading_of f k n false [])) [] v (h, tt) tt e
 finish-whole limit (listing_more leading l) v h e = listing-whole leading l v h.0 h.1 e
-finish-whole limit (in_directives (further c ds o)) v h e = directives-whole o ds v h.2 (subst (λ c. FormedDirectives c ds) h.0 h.1) e
+finish-whole limit (in_directives (further c ds o)) v h e = directives-whole o ds v h.2 (subst (λ c. ShapedDirectives c ds) h.0 h.1) e
 finish-whole limit (in_directives (applied a)) v h e =
     whole-moves _ _ v (ap (owner_front a.on) (directives-then leveled a.before (record { name = a.name; arguments = [] }) []))
     (directives-whole a.on (a.before ++ record { name = a.name; arguments = [] } ∷ []) v h.2
-    (formed_directives-then true a.before (record { name = a.name; arguments = [] }) (subst (λ c. FormedDirectives c a.before) h.0 h.1) tt) e)
+    (shaped_directives-then true a.before (record { name = a.name; arguments = [] }) (subst (λ c. ShapedDirectives c a.before) h.0 h.1) tt) e)
 finish-whole limit s v h e = absurd (cc)
 
 -- ---- tokens and levels of what is spelled with both
@@ -203,7 +204,3 @@ module _ {X Y : Type 0} (f : X → Y) (mark : Mark X) where
   map-definitions above (d ∷ ds) =
       map-described above d.description d.written (spell_definitions mark 0 ds)
       ∙ ap (spell_described (mapped f mark) above d.description d.written) (map-definitions 0 ds)
-
-pub formed-schema : (v : List Described) → AllByRecursion FormedDescribed v → AllByRecursion (λ d. FormedWritten d.written) v
-formed-schema [] h = tt
-formed-schema (d ∷ ds) h = (h.0.0, formed-schema ds h.1)

@@ -1,5 +1,5 @@
-pub mod Given
 pub mod Machine
 pub mod Reads
 pub mod Schemas
 pub mod Trees
+pub mod Nodes

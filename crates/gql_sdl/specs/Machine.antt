@@ -15,7 +15,7 @@ use Rattle.gql_ast.specs.declared.value.ValueTree.{ValueTree}
 use Rattle.gql_syntax.specs.Machine.{Reading, want, outer, value_step, Directing, further, at_name, applied, arguing, with_arguments, directives_step, next_directive, Typing, want_type, whole, type_step}
 use Rattle.gql_syntax.specs.Run.{Halt, unexpected}
 use Rattle.gql_syntax.specs.Words.{on_word, kind_word, true_word, false_word, null_word}
-use Rattle.gql_sdl.specs.Given.{type_tree, value_tree}
+use Rattle.gql_syntax.specs.Built.{type_tree, value_tree}
 use Rattle.gql_sdl.specs.Schemas.{location_word, Description, WrittenInput, WrittenField, WrittenValue, Written, schema, scalar, object, interface, union, enum, input, directive, Described}
 
 -- ---- words
@@ -56,9 +56,9 @@ spelled (titled k) = titled_word k
 spelled a_directive = codes "directive"
 
 -- what is told by the first of these words that is the name
-abbrev pub told_by : {A : Type 0} → (word : A → List ℕ) → List A → List ℕ → Option A
-told_by word [] n = None
-told_by word (a ∷ more) n = cond (bytes_eq n (word a)) (Some a) (told_by word more n)
+abbrev pub find_by : {A : Type 0} → (word : A → List ℕ) → List A → List ℕ → Option A
+find_by word [] n = None
+find_by word (a ∷ more) n = cond (bytes_eq n (word a)) (Some a) (find_by word more n)
 
 abbrev pub words : List Word
 words =
@@ -66,13 +66,13 @@ words =
     ∷ titled an_input ∷ a_directive ∷ []
 
 abbrev pub word_of : List ℕ → Option Word
-word_of n = told_by spelled words n
+word_of n = find_by spelled words n
 
 abbrev pub kinds : List Kind
 kinds = K.Query ∷ K.Mutation ∷ K.Subscription ∷ []
 
 abbrev pub kind_of : List ℕ → Option Kind
-kind_of n = told_by kind_word kinds n
+kind_of n = find_by kind_word kinds n
 
 abbrev pub executable_locations : List Location
 executable_locations =
@@ -88,7 +88,7 @@ abbrev pub all_locations : List Location
 all_locations = executable_locations ++ type_system_locations
 
 abbrev pub location_of : List ℕ → Option Location
-location_of n = told_by location_word all_locations n
+location_of n = find_by location_word all_locations n
 
 abbrev pub implements_word : List ℕ
 implements_word = codes "implements"
@@ -273,9 +273,9 @@ value_then v ds = v.before ++ record { description = v.description; value = reco
 abbrev pub directives_of : Owner → State
 directives_of o = in_directives (further true [] o)
 
-abbrev pub described : Description → List ℕ → (Description → State) → Result State Halt
-described None d to = Ok (to (Some d))
-described (Some e) d to = Err unexpected
+abbrev pub describe : Description → List ℕ → (Description → State) → Result State Halt
+describe None d to = Ok (to (Some d))
+describe (Some e) d to = Err unexpected
 
 abbrev pub begin_definition : Front → Option Word → Result State Halt
 begin_definition f None = Err unexpected
@@ -284,7 +284,7 @@ begin_definition f (Some (titled k)) = Ok (title f k)
 begin_definition f (Some a_directive) = Ok (directive_sign f)
 
 abbrev pub at_head : Front → Tok → Result State Halt
-at_head f (tok.text d) = described f.description d (λ d. head (record { before = f.before; description = d }))
+at_head f (tok.text d) = describe f.description d (λ d. head (record { before = f.before; description = d }))
 at_head f (tok.name n) = begin_definition f (word_of n)
 at_head f t = Err unexpected
 
@@ -302,7 +302,7 @@ closed (a ∷ more) None to = Ok to
 closed (a ∷ more) (Some d) to = Err unexpected
 
 abbrev pub at_fields : Fields → List WrittenField → Description → Tok → Result State Halt
-at_fields f fs d (tok.text e) = described d e (λ d. fields f fs d)
+at_fields f fs d (tok.text e) = describe d e (λ d. fields f fs d)
 at_fields f fs d (tok.name n) = Ok (field_arguments (record { fields = f; before = fs; description = d; title = n }))
 at_fields f fs d tok.close_brace = closed fs d (head (heading_then f.heading f.directives fs))
 at_fields f fs d t = Err unexpected
@@ -321,7 +321,7 @@ close_braces (of_object f n ds) ws d = closed ws d (after_inputs (of_object f n 
 close_braces i ws d = Err unexpected
 
 abbrev pub at_inputs : Inputs → List WrittenInput → Description → Tok → Result State Halt
-at_inputs i ws d (tok.text e) = described d e (λ d. inputs i ws d)
+at_inputs i ws d (tok.text e) = describe d e (λ d. inputs i ws d)
 at_inputs i ws d (tok.name n) = Ok (input_colon (record { inputs = i; before = ws; description = d; title = n }))
 at_inputs i ws d tok.close_paren = close_parens i ws d
 at_inputs i ws d tok.close_brace = close_braces i ws d
@@ -332,7 +332,7 @@ open_value v vs d n =
     cond (is_reserved n) (Err unexpected) (Ok (directives_of (on_value (record { values = v; before = vs; description = d; title = n }))))
 
 abbrev pub at_values : Values → List WrittenValue → Description → Tok → Result State Halt
-at_values v vs d (tok.text e) = described d e (λ d. enum_values v vs d)
+at_values v vs d (tok.text e) = describe d e (λ d. enum_values v vs d)
 at_values v vs d (tok.name n) = open_value v vs d n
 at_values v vs d tok.close_brace = closed vs d (head (front_then v.front (enum v.title v.directives vs)))
 at_values v vs d t = Err unexpected
@@ -411,8 +411,8 @@ abbrev pub after_type : (limit : ℕ) → Typed → Ty → Tok → Result State 
 after_type limit (input_type i) t x = at_default limit (record { input = i; of = type_tree t }) x
 after_type limit (field_type a) t x = at_directives limit (on_field a (type_tree t)) x
 
-abbrev pub valued : TypedInput → Val → State
-valued i v = directives_of (on_input i (Some (value_tree v)))
+abbrev pub behind_default : TypedInput → Val → State
+behind_default i v = directives_of (on_input i (Some (value_tree v)))
 
 abbrev pub advance : (limit : ℕ) → State → Tok → Result State Halt
 advance limit (head f) t = at_head f t
@@ -448,7 +448,7 @@ advance limit (input_default i) t = at_default limit i t
 advance limit (enum_values v vs d) t = at_values v vs d t
 advance limit (in_directives d) t = directives_step limit in_directives after_directives d t
 advance limit (in_type y) t = type_step in_type typed_state (after_type limit) y t
-advance limit (in_value r) t = value_step in_value valued r t
+advance limit (in_value r) t = value_step in_value behind_default r t
 
 -- ---- the end
 

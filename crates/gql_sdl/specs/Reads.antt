@@ -7,7 +7,7 @@ use Rattle.gql_ast.specs.declared.schema.Root.{Root}
 use Rattle.gql_syntax.specs.Answers.{node_count}
 use Rattle.gql_syntax.specs.Machine.{further}
 use Rattle.gql_syntax.specs.Nexts.{next_is, next_is_text, next_word, token_count}
-use Rattle.gql_syntax.specs.Places.{Ahead, laid}
+use Rattle.gql_syntax.specs.Places.{Ahead, lay}
 use Rattle.gql_syntax.specs.Run.{Stopped, run}
 use Rattle.gql_syntax.specs.Texts.{nesting_limit}
 use Rattle.gql_syntax.specs.declared.fault.Fault.{Fault}
@@ -20,22 +20,22 @@ use Rattle.gql_sdl.specs.declared.definitions.TypeWithFields.{TypeWithFields}
 use Rattle.std.specs.Prelude.{map}
 use Rattle.gql_lex.specs.Toks as tok
 
-abbrev pub going : (size : ℕ) → State → Source → Result (List Described) Stopped
-going size s ahead = run (advance nesting_limit) finish size s ahead
+abbrev pub run_on : (size : ℕ) → State → Source → Result (List Described) Stopped
+run_on size s ahead = run (advance nesting_limit) finish size s ahead
 
 -- what has been read is written so: it stands for this; from each place K where it may stand the machine goes on behind it; and
 -- the places of its nodes are told
 pub record Read {K W T : Type 0} (May : K → Source → Type 0) (from : K → State) (to : K → W → State) (spell : W → List ℕ → List ℕ) (view : W → T) (old new : Ahead) (t : T) : Type 0 where
   pub written : W
   pub viewed : view written ≡ t
-  pub goes : (k : K) (size : ℕ) → size ≡ length old.text → May k old.source → going size (from k) old.source ≡ going size (to k written) new.source
-  pub nodes : (ns : List ℕ) → laid (spell written ns) old ≡ laid ns new
+  pub goes : (k : K) (size : ℕ) → size ≡ length old.text → May k old.source → run_on size (from k) old.source ≡ run_on size (to k written) new.source
+  pub nodes : (ns : List ℕ) → lay (spell written ns) old ≡ lay ns new
   pub taken : token_count new.source ≤ token_count old.source
   pub text : new.text ≡ old.text
 
 -- the machine stops with this fault
 abbrev pub Fails : {K : Type 0} → (May : K → Source → Type 0) → (from : K → State) → Ahead → Fault → Type 0
-Fails {K = K} May from old (Wrong code at) = (k : K) (size : ℕ) → size ≡ length old.text → May k old.source → going size (from k) old.source ≡ Err (code, at)
+Fails {K = K} May from old (Wrong code at) = (k : K) (size : ℕ) → size ≡ length old.text → May k old.source → run_on size (from k) old.source ≡ Err (code, at)
 Fails May from old NoMemory = Unit {0}
 
 abbrev pub Reads : {K W T : Type 0} → (May : K → Source → Type 0) → (from : K → State) → (to : K → W → State) → (spell : W → List ℕ → List ℕ) → (view : W → T) → (old new : Ahead) → Result T Fault → Type 0
@@ -135,11 +135,11 @@ fields_at k = fields k.fields k.before None
 abbrev pub field_at : FieldsAt → WrittenField → State
 field_at k f = fields k.fields (k.before ++ f ∷ []) None
 
-abbrev pub unopened_fields : Fields → State
-unopened_fields f = in_directives (further true f.directives (on_fielded f.heading))
+abbrev pub before_fields : Fields → State
+before_fields f = in_directives (further true f.directives (on_fielded f.heading))
 
-abbrev pub closed_fields : Fields → List WrittenField → State
-closed_fields f fs = head (heading_then f.heading f.directives fs)
+abbrev pub behind_fields : Fields → List WrittenField → State
+behind_fields f fs = head (heading_then f.heading f.directives fs)
 
 -- values behind those before
 pub record ValuesAt : Type 0 where
@@ -152,15 +152,15 @@ values_at k = enum_values k.values k.before None
 abbrev pub value_at : ValuesAt → WrittenValue → State
 value_at k w = enum_values k.values (k.before ++ w ∷ []) None
 
-abbrev pub value_named : ValuesAt → Named → State
-value_named k w =
+abbrev pub behind_value_name : ValuesAt → Named → State
+behind_value_name k w =
     directives_of (on_value (record { values = k.values; before = k.before; description = w.description; title = w.title }))
 
-abbrev pub unopened_values : Values → State
-unopened_values v = in_directives (further true v.directives (on_enum v.front v.title))
+abbrev pub before_values : Values → State
+before_values v = in_directives (further true v.directives (on_enum v.front v.title))
 
-abbrev pub closed_values : Values → List WrittenValue → State
-closed_values v vs = head (front_then v.front (enum v.title v.directives vs))
+abbrev pub behind_values : Values → List WrittenValue → State
+behind_values v vs = head (front_then v.front (enum v.title v.directives vs))
 
 -- the roots of a schema
 pub record RootsOf : Type 0 where
@@ -210,13 +210,13 @@ names_separator (for_union f n ds) = 124
 abbrev pub MayList : (separator : ℕ) → Names → Source → Type 0
 MayList separator k ahead = names_separator k ≡ separator
 
-abbrev pub unnamed : Names → State
-unnamed k = listing (names_listing k [])
+abbrev pub before_names : Names → State
+before_names k = listing (names_listing k [])
 
 -- the names are listed
-abbrev pub names_listed : Names → Led (List ℕ) → State
-names_listed (for_type f k n) w = directives_of (on_fielded (heading_of f k n w.leading w.all))
-names_listed (for_union f n ds) w = head (front_then f (union n ds w.leading w.all))
+abbrev pub behind_names : Names → Led (List ℕ) → State
+behind_names (for_type f k n) w = directives_of (on_fielded (heading_of f k n w.leading w.all))
+behind_names (for_union f n ds) w = head (front_then f (union n ds w.leading w.all))
 
 abbrev pub spell_names : Led (List ℕ) → List ℕ → List ℕ
 spell_names w ns = spell_separated node_count tok.bar 1 w.leading w.all ns
@@ -240,8 +240,8 @@ MayNames separator k ahead = (names_separator k.names ≡ separator) × MayLead 
 abbrev pub led_names : NamesAt → State
 led_names k = led k.leading (names_listing k.names [])
 
-abbrev pub led_named : NamesAt → List (List ℕ) → State
-led_named k ns = names_listed k.names (record { leading = k.leading; all = ns })
+abbrev pub behind_led_names : NamesAt → List (List ℕ) → State
+behind_led_names k ns = behind_names k.names (record { leading = k.leading; all = ns })
 
 -- a type that has its name
 pub record Entitled : Type 0 where
@@ -249,11 +249,11 @@ pub record Entitled : Type 0 where
   pub kind : Fielded
   pub title : List ℕ
 
-abbrev pub untold : Entitled → State
-untold k = entitled k.front k.kind k.title
+abbrev pub before_implements : Entitled → State
+before_implements k = entitled k.front k.kind k.title
 
-abbrev pub implemented : Entitled → Led (List ℕ) → State
-implemented k w = directives_of (on_fielded (heading_of k.front k.kind k.title w.leading w.all))
+abbrev pub behind_implements : Entitled → Led (List ℕ) → State
+behind_implements k w = directives_of (on_fielded (heading_of k.front k.kind k.title w.leading w.all))
 
 -- a union that has its directives
 pub record Uniting : Type 0 where
@@ -261,11 +261,11 @@ pub record Uniting : Type 0 where
   pub title : List ℕ
   pub directives : List Directive
 
-abbrev pub ununited : Uniting → State
-ununited k = in_directives (further true k.directives (on_union k.front k.title))
+abbrev pub before_union_members : Uniting → State
+before_union_members k = in_directives (further true k.directives (on_union k.front k.title))
 
-abbrev pub united : Uniting → Led (List ℕ) → State
-united k w = head (front_then k.front (union k.title k.directives w.leading w.all))
+abbrev pub behind_union_members : Uniting → Led (List ℕ) → State
+behind_union_members k w = head (front_then k.front (union k.title k.directives w.leading w.all))
 
 -- a directive that has its arguments
 pub record Locating : Type 0 where
@@ -273,8 +273,8 @@ pub record Locating : Type 0 where
   pub title : List ℕ
   pub arguments : List WrittenInput
 
-abbrev pub unlocated : Locating → State
-unlocated k = directive_on k.front k.title k.arguments false
+abbrev pub before_repeatable : Locating → State
+before_repeatable k = directive_on k.front k.title k.arguments false
 
 abbrev pub repeated : Locating → Bool → State
 repeated k repeatable = listing (locating k.front k.title k.arguments repeatable [])
@@ -284,11 +284,11 @@ pub record LocatingOn : Type 0 where
   pub directive : Locating
   pub repeatable : Bool
 
-abbrev pub unlisted : LocatingOn → State
-unlisted k = listing (locating k.directive.front k.directive.title k.directive.arguments k.repeatable [])
+abbrev pub before_locations : LocatingOn → State
+before_locations k = listing (locating k.directive.front k.directive.title k.directive.arguments k.repeatable [])
 
-abbrev pub located : LocatingOn → Led Location → State
-located k w = head (front_then k.directive.front (directive k.directive.title k.directive.arguments k.repeatable w.leading w.all))
+abbrev pub behind_locations : LocatingOn → Led Location → State
+behind_locations k w = head (front_then k.directive.front (directive k.directive.title k.directive.arguments k.repeatable w.leading w.all))
 
 -- behind the separator in front, or where none stands
 pub record LocatingAt : Type 0 where
@@ -301,8 +301,8 @@ MayLocate k ahead = MayLead 124 k.leading ahead
 abbrev pub led_locating : LocatingAt → State
 led_locating k = led k.leading (locating k.on.directive.front k.on.directive.title k.on.directive.arguments k.on.repeatable [])
 
-abbrev pub led_located : LocatingAt → List Location → State
-led_located k ls = located k.on (record { leading = k.leading; all = ls })
+abbrev pub behind_led_locations : LocatingAt → List Location → State
+behind_led_locations k ls = behind_locations k.on (record { leading = k.leading; all = ls })
 
 abbrev pub spell_locations : Led Location → List ℕ → List ℕ
 spell_locations w ns = spell_separated node_count tok.bar 0 w.leading (map location_word w.all) ns
@@ -324,8 +324,8 @@ MayDescribe f ahead = f.description ≡ None → (next_is_text ahead ≡ false) 
 abbrev pub behind_all : List Described → State
 behind_all ds = head (record { before = ds; description = None })
 
-abbrev pub defined : List Described → Described → State
-defined ds d = head (record { before = ds ++ d ∷ []; description = None })
+abbrev pub behind_definition : List Described → Described → State
+behind_definition ds d = head (record { before = ds ++ d ∷ []; description = None })
 
 -- a type with fields, behind what stands before it
 pub record FieldedAt : Type 0 where
@@ -377,8 +377,8 @@ start u = head no_front
 pub record ReadSchema (old new : Ahead) (definitions : List SchemaDef) : Type 0 where
   pub written : List Described
   pub viewed : map definition_of written ≡ definitions
-  pub read : (size : ℕ) → size ≡ length old.text → going size (head no_front) old.source ≡ Ok written
-  pub nodes : laid (nodes_of written) old ≡ new.places
+  pub read : (size : ℕ) → size ≡ length old.text → run_on size (head no_front) old.source ≡ Ok written
+  pub nodes : lay (nodes_of written) old ≡ new.places
 
 abbrev pub ReadsSchema : (old new : Ahead) → Result (List SchemaDef) Fault → Type 0
 ReadsSchema old new (Ok ds) = ReadSchema old new ds

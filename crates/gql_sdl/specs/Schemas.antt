@@ -18,7 +18,7 @@ use Rattle.gql_ast.specs.declared.type_tree.TypeTree.{TypeTree}
 use Rattle.gql_syntax.specs.FirstFault.{Grammar}
 use Rattle.gql_syntax.specs.Formed.{FormedDirectives, FormedDefault, FormedType}
 use Rattle.gql_syntax.specs.Spelling.{Mark, plain, spell_directives, spell_type, spell_default}
-use Rattle.gql_syntax.specs.Words.{on_word, kind_word, IsEnumName}
+use Rattle.gql_syntax.specs.Words.{on_word, kind_word, IsName, IsEnumName}
 
 abbrev pub location_word : Location → List ℕ
 location_word L.Query = codes "QUERY"
@@ -232,30 +232,36 @@ spell_definitions mark above (d ∷ ds) = spell_described mark above d.descripti
 abbrev pub spell_schema : {X : Type 0} → Mark X → List Described → List X
 spell_schema mark ds = spell_definitions mark 1 ds
 
--- ---- which trees are schemas
+-- ---- which trees are schemas: all names are Names
 
 abbrev pub NotEmpty : {A : Type 0} → List A → Type 0
 NotEmpty [] = ⊥
 NotEmpty (a ∷ more) = Unit {0}
 
 abbrev pub FormedInput : WrittenInput → Type 0
-FormedInput w = FormedType (ty_of w.input.of) × FormedDefault w.input.default × FormedDirectives true w.input.directives
+FormedInput w = IsName w.input.name × FormedType (ty_of w.input.of) × FormedDefault w.input.default × FormedDirectives true w.input.directives
 
 abbrev pub FormedField : WrittenField → Type 0
-FormedField f = AllByRecursion FormedInput f.arguments × FormedType (ty_of f.of) × FormedDirectives true f.directives
+FormedField f = IsName f.name × AllByRecursion FormedInput f.arguments × FormedType (ty_of f.of) × FormedDirectives true f.directives
 
 abbrev pub FormedEnumValue : WrittenValue → Type 0
-FormedEnumValue w = IsEnumName w.value.name × FormedDirectives true w.value.directives
+FormedEnumValue w = IsName w.value.name × IsEnumName w.value.name × FormedDirectives true w.value.directives
+
+abbrev pub FormedRoot : Root → Type 0
+FormedRoot r = IsName r.name
+
+abbrev pub FormedNames : List (List ℕ) → Type 0
+FormedNames ns = AllByRecursion IsName ns
 
 abbrev pub FormedWritten : Written → Type 0
-FormedWritten (schema ds rs) = FormedDirectives true ds × NotEmpty rs
-FormedWritten (scalar n ds) = FormedDirectives true ds
-FormedWritten (object n leading is ds fs) = FormedDirectives true ds × AllByRecursion FormedField fs
-FormedWritten (interface n leading is ds fs) = FormedDirectives true ds × AllByRecursion FormedField fs
-FormedWritten (union n ds leading ms) = FormedDirectives true ds
-FormedWritten (enum n ds vs) = FormedDirectives true ds × AllByRecursion FormedEnumValue vs
-FormedWritten (input n ds ws) = FormedDirectives true ds × AllByRecursion FormedInput ws
-FormedWritten (directive n ws repeatable leading ls) = AllByRecursion FormedInput ws × NotEmpty ls
+FormedWritten (schema ds rs) = FormedDirectives true ds × NotEmpty rs × AllByRecursion FormedRoot rs
+FormedWritten (scalar n ds) = IsName n × FormedDirectives true ds
+FormedWritten (object n leading is ds fs) = IsName n × FormedNames is × FormedDirectives true ds × AllByRecursion FormedField fs
+FormedWritten (interface n leading is ds fs) = IsName n × FormedNames is × FormedDirectives true ds × AllByRecursion FormedField fs
+FormedWritten (union n ds leading ms) = IsName n × FormedDirectives true ds × FormedNames ms
+FormedWritten (enum n ds vs) = IsName n × FormedDirectives true ds × AllByRecursion FormedEnumValue vs
+FormedWritten (input n ds ws) = IsName n × FormedDirectives true ds × AllByRecursion FormedInput ws
+FormedWritten (directive n ws repeatable leading ls) = IsName n × AllByRecursion FormedInput ws × NotEmpty ls
 
 abbrev pub FormedSchema : List Described → Type 0
 FormedSchema ds = NotEmpty ds × AllByRecursion (λ d. FormedWritten d.written) ds

@@ -1,7 +1,7 @@
 //! The definitions of a schema (GraphQL, October 2021, sections 3.3 to 3.13).
 ghost use Rattle.std.specs.Prelude.{◌≡◌, ◌<◌, ◌∷◌, ℕ, List, Some, OnOk, codes};
 ghost use Rattle.gql_sdl.specs.Machine.{head};
-ghost use Rattle.gql_sdl.specs.Reads.{Begins, behind_all, defined, fielded_end, fielded_head, fielded_of, MayDefine, MayDescribe, MayFielded, Reads, ReadsSchema, spell_definition, spell_fielded, whole};
+ghost use Rattle.gql_sdl.specs.Reads.{Begins, behind_all, behind_definition, fielded_end, fielded_head, fielded_of, MayDefine, MayDescribe, MayFielded, Reads, ReadsSchema, spell_definition, spell_fielded, whole};
 ghost use Rattle.gql_sdl.specs.Schemas.{definition_of, spell_written, written_of};
 ghost use Rattle.gql_syntax.specs.Answers.{node_count};
 ghost use Rattle.gql_syntax.specs.Nexts.{next_word, token_count};
@@ -31,7 +31,7 @@ pub(crate) fn read_definitions(alloc: Global, cursor: &mut Cursor<'_>) -> Result
 /// Reads a definition with the description that may stand before it. So many nodes begin at its
 /// first token.
 fn read_definition(alloc: Global, nodes: usize, cursor: &mut Cursor<'_>) -> Result<SchemaDef, Fault>
-    ensures reads { Reads MayDefine behind_all defined (spell_definition nodes) definition_of cursor.old cursor.new result }
+    ensures reads { Reads MayDefine behind_all behind_definition (spell_definition nodes) definition_of cursor.old cursor.new result }
     ensures taken { OnOk result (token_count cursor.new.source < token_count cursor.old.source) }
 {
     if cursor.next_is_text() {

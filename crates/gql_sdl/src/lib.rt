@@ -3,26 +3,23 @@
 
 mod definitions;
 mod inputs;
+pub mod laws;
 mod lists;
 mod members;
 mod words;
 
-ghost use Rattle.std.specs.Prelude.{◌≡◌, ◌⊎◌, ◌<◌, ◌-◌, ◌^◌, ℕ, List, length, Err, Ok, IfErr, IfOk};
+ghost use Rattle.std.specs.Prelude.{◌≡◌, ◌⊎◌, ◌<◌, ◌-◌, ◌^◌, length, Err, Ok, IfErr, IfOk};
 ghost use Rattle.gql_ast.specs.declared.fault.ParseFault.TheVariants.{NoMemory};
 ghost use Rattle.gql_ast.specs.declared.place.Placed.{Placed};
 ghost use Rattle.gql_ast.specs.declared.schema.SchemaTree.{SchemaTree};
 ghost use Rattle.gql_sdl.specs.Schemas.{schemas};
 ghost use Rattle.gql_sdl.specs.Trees.{IsSchema};
-ghost use Rattle.gql_syntax.specs.Texts.{IsParseFault};
+ghost use Rattle.gql_syntax.specs.Texts.{IsParseFault, TellsText};
 
 use definitions::read_definitions;
-use gql_ast::{ParseFault, Placed, SchemaTree, SyntaxFault};
-use gql_syntax::Cursor;
+use gql_ast::{ParseFault, Placed, SchemaTree};
+use gql_syntax::{Cursor, text_of};
 use std::alloc::Global;
-use std::str;
-
-/// The code of bytes that are no text.
-const NOT_UTF8: u8 = 7;
 
 /// Reads a schema: its one tree, with the places of its nodes in text order (GraphQL, October 2021,
 /// section 3; descriptions are passed over).
@@ -39,15 +36,9 @@ pub fn parse_schema(
     ensures found { IfOk result (IsSchema file bytes.now) }
     ensures only { (p : Placed SchemaTree) → IsSchema file bytes.now p → (result ≡ Err NoMemory) ⊎ (result ≡ Ok p) }
     ensures fault { IfErr result (IsParseFault schemas file bytes.now) }
+    ensures text { TellsText bytes.now result }
 {
-    let Ok(text) = str::from_utf8(bytes) else {
-        return Err(ParseFault::Syntax(SyntaxFault {
-            file,
-            line: 1,
-            column: 1,
-            code: NOT_UTF8,
-        }));
-    };
+    let text = text_of(file, bytes)?;
     let mut cursor = Cursor::new(alloc, file, text);
     match read_definitions(alloc, &mut cursor) {
         Ok(definitions) => Ok(Placed {
@@ -57,8 +48,3 @@ pub fn parse_schema(
         Err(fault) => Err(fault.in_text(file, text)),
     }
 }
-
-/// A text has at most one tree, with one list of places.
-pub fn one_tree()
-    ensures { (file : ℕ) (text : List ℕ) (p q : Placed SchemaTree) → IsSchema file text p → IsSchema file text q → p ≡ q }
-{}

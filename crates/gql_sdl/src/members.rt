@@ -2,12 +2,12 @@
 //! 3.6 and 3.9).
 ghost use Rattle.std.specs.Prelude.{◌≡◌, ◌∷◌, ◌<◌, ℕ, List, length, map, Some, true, false, OnOk, IfOk, IfErr};
 ghost use Rattle.gql_sdl.specs.Machine.{is_reserved};
-ghost use Rattle.gql_sdl.specs.Reads.{closed_fields, closed_roots, closed_values, field_at, fields_at, MayField, Named, NoDirective, Reads, root_at, roots_at, spell_named, unopened_fields, unopened_roots, unopened_values, value_at, value_named, values_at};
+ghost use Rattle.gql_sdl.specs.Reads.{behind_fields, closed_roots, behind_values, field_at, fields_at, MayField, Named, NoDirective, Reads, root_at, roots_at, spell_named, before_fields, unopened_roots, before_values, value_at, behind_value_name, values_at};
 ghost use Rattle.gql_sdl.specs.Schemas.{field_of, spell_enum_value, spell_enum_values_part, spell_field, spell_fields_part, spell_roots, values_of, WrittenValue};
 ghost use Rattle.gql_ast.specs.declared.schema.Root.{Root};
 ghost use Rattle.gql_syntax.specs.Answers.{Misses, node_count};
 ghost use Rattle.gql_syntax.specs.Nexts.{behind, next_word, stopped_at, token_count};
-ghost use Rattle.gql_syntax.specs.Places.{laid};
+ghost use Rattle.gql_syntax.specs.Places.{lay};
 
 use crate::inputs::{read_inputs, read_member_name};
 use crate::words::is_reserved_word;
@@ -36,7 +36,7 @@ fn read_field(alloc: Global, cursor: &mut Cursor<'_>) -> Result<FieldTree, Fault
 
 /// Reads the fields of an object or an interface in braces, where `{` stands.
 pub(crate) fn read_fields(alloc: Global, cursor: &mut Cursor<'_>) -> Result<FieldTrees, Fault>
-    ensures reads { Reads NoDirective unopened_fields closed_fields (spell_fields_part node_count) (map field_of) cursor.old cursor.new result }
+    ensures reads { Reads NoDirective before_fields behind_fields (spell_fields_part node_count) (map field_of) cursor.old cursor.new result }
 {
     let mut fields = FieldTrees::new(alloc);
     if !cursor.next_is(b'{') {
@@ -61,7 +61,7 @@ fn read_enum_name(alloc: Global, cursor: &mut Cursor<'_>) -> Result<Name, Fault>
     ensures name { IfOk result (λ n. next_word cursor.old.source ≡ Some n) }
     ensures free { IfOk result (λ n. is_reserved n ≡ false) }
     ensures source { OnOk result (cursor.new.source ≡ behind cursor.old.source) }
-    ensures places { OnOk result ((ns : List ℕ) → laid (2 ∷ ns) cursor.old ≡ laid ns cursor.new) }
+    ensures places { OnOk result ((ns : List ℕ) → lay (2 ∷ ns) cursor.old ≡ lay ns cursor.new) }
     ensures same { OnOk result (cursor.new.text ≡ cursor.old.text) }
     ensures fault { IfErr result (λ f. Misses f ((n : List ℕ) → next_word cursor.old.source ≡ Some n → is_reserved n ≡ true) (stopped_at (length cursor.old.text) cursor.old.source)) }
 {
@@ -76,7 +76,7 @@ fn read_enum_name(alloc: Global, cursor: &mut Cursor<'_>) -> Result<Name, Fault>
 
 /// Reads the name of a value of an enum, with the description that may stand before it.
 fn read_value_name(alloc: Global, cursor: &mut Cursor<'_>) -> Result<Name, Fault>
-    ensures reads { Reads MayField values_at value_named spell_named (λ (w : Named). w.title) cursor.old cursor.new result }
+    ensures reads { Reads MayField values_at behind_value_name spell_named (λ (w : Named). w.title) cursor.old cursor.new result }
     ensures taken { OnOk result (token_count cursor.new.source < token_count cursor.old.source) }
 {
     if !cursor.next_is_text() {
@@ -98,7 +98,7 @@ fn read_enum_value(alloc: Global, cursor: &mut Cursor<'_>) -> Result<EnumValue, 
 
 /// Reads the values of an enum in braces, where `{` stands.
 pub(crate) fn read_enum_values(alloc: Global, cursor: &mut Cursor<'_>) -> Result<EnumValues, Fault>
-    ensures reads { Reads NoDirective unopened_values closed_values (spell_enum_values_part node_count) values_of cursor.old cursor.new result }
+    ensures reads { Reads NoDirective before_values behind_values (spell_enum_values_part node_count) values_of cursor.old cursor.new result }
 {
     let mut values = EnumValues::new(alloc);
     if !cursor.next_is(b'{') {

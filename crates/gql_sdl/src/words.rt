@@ -1,6 +1,6 @@
 //! The words of schemas.
 ghost use Rattle.std.specs.Prelude.{◌≡◌};
-ghost use Rattle.gql_sdl.specs.Machine.{executable_locations, is_reserved, location_of as location_named, told_by, type_system_locations};
+ghost use Rattle.gql_sdl.specs.Machine.{executable_locations, is_reserved, location_of as location_named, find_by, type_system_locations};
 ghost use Rattle.gql_sdl.specs.Schemas.{location_word};
 
 use gql_ast::Location;
@@ -17,7 +17,7 @@ pub(crate) fn location_of(word: &str) -> Option<Location>
 
 /// The location in a document that a word names.
 fn executable_location_of(word: &str) -> Option<Location>
-    ensures { result ≡ told_by location_word executable_locations word.now }
+    ensures { result ≡ find_by location_word executable_locations word.now }
 {
     if word == "QUERY" {
         return Some(Location::Query);
@@ -48,7 +48,7 @@ fn executable_location_of(word: &str) -> Option<Location>
 
 /// The location in a schema that a word names.
 fn type_system_location_of(word: &str) -> Option<Location>
-    ensures { result ≡ told_by location_word type_system_locations word.now }
+    ensures { result ≡ find_by location_word type_system_locations word.now }
 {
     if word == "SCHEMA" {
         return Some(Location::Schema);

@@ -6,15 +6,16 @@ use Rattle.gql_lex.specs.Toks as tok
 use Rattle.gql_lex.specs.Toks.{Tok}
 use Rattle.gql_ast.specs.Value.{Val, val_depth, members_depth, members_of}
 use Rattle.gql_syntax.specs.FirstFault.{Shallow}
-use Rattle.gql_syntax.specs.Formed.{FormedValue, FormedArguments}
+use Rattle.gql_syntax.proofs.Shapes.{ShapedValue, ShapedArguments}
 use Rattle.gql_syntax.specs.Machine.{want, outer, Given, Arguing, first, called, inside, more, given, arguments_step}
 use Rattle.gql_syntax.specs.Run.{Halt, unexpected, too_deep}
 use Rattle.gql_syntax.specs.Spelling.{spell_value, spell_members, spell_arguments}
+use Rattle.gql_syntax.proofs.Forms.{AreToks, zero_fits, toks-append}
 use Rattle.gql_syntax.proofs.Laws.{Leveled, reach_from, reach}
-use Rattle.gql_syntax.proofs.Marks.{members-then, members_of-then, formed_arguments-then}
+use Rattle.gql_syntax.proofs.Marks.{members-then, members_of-then, shaped_arguments-then}
 use Rattle.gql_syntax.proofs.Reading.{reach-append}
 use Rattle.gql_syntax.proofs.Standing.{leveled, token_mark, level_mark, Ground, GroundLaws, SomeGiven, value_on, given_ground, arguments_on, arguments_level, arguments_so_far, lift_arguments, SeatedArguments, Lifts, Opens, IfTooDeep}
-use Rattle.gql_syntax.proofs.ValueLaws.{from_ok, from_too_deep, from_lifts, from_lifts_unexpected, from_opens, value_sounds, value_shallows, value_deeps, value_seats, value_lifts, value_opens, lift_value_level, lift_value_so_far, lift_value_seated, lift_value_on, seated_value_on, value_complete, value_end, value_ends, members_depth_from, members_depth_to}
+use Rattle.gql_syntax.proofs.ValueLaws.{from_ok, from_too_deep, from_lifts, from_lifts_unexpected, from_opens, value_sounds, value_shallows, value_deeps, value_seats, value_lifts, value_opens, lift_value_level, lift_value_so_far, lift_value_seated, lift_value_on, seated_value_on, value_complete, value_end, value_end-form, value_ends, members_depth_from, members_depth_to}
 
 some-push : (xs : List (List ℕ × Val)) (x : List ℕ × Val) → SomeGiven (xs ++ x ∷ [])
 some-push [] x = tt
@@ -78,10 +79,10 @@ module _ {S A : Type 0} (G : Ground A) (limit : ℕ) (into : Arguing A → S) (h
 
   module _ (Seated : S → Type 0)
       (at_into : (r : Arguing A) → SeatedArguments G limit r → Seated (into r))
-      (at_hand : (a : A) (xs : List (List ℕ × Val)) → G.Seated limit a → SomeGiven xs → FormedArguments (G.constant a) xs → Seated (hand a xs)) where
-    given_seated : (g : Given A) (v : Val) → (given_ground G).Seated limit g → FormedValue g.constant v → Seated (given limit into hand g v)
+      (at_hand : (a : A) (xs : List (List ℕ × Val)) → G.Seated limit a → SomeGiven xs → ShapedArguments (G.constant a) xs → Seated (hand a xs)) where
+    given_seated : (g : Given A) (v : Val) → (given_ground G).Seated limit g → ShapedValue g.constant v → Seated (given limit into hand g v)
     given_seated g v h f =
-        at_into (more g.constant (g.before ++ (g.name, v) ∷ []) g.on) (h.0, some-push g.before (g.name, v), formed_arguments-then g.constant g.before g.name v h.1 f, h.2)
+        at_into (more g.constant (g.before ++ (g.name, v) ∷ []) g.on) (h.0, some-push g.before (g.name, v), shaped_arguments-then g.constant g.before g.name v h.1 f, h.2)
 
     pub arguments_seats : (r : Arguing A) (t : Tok) → SeatedArguments G limit r → IfOk (arguments_step limit into hand r t) Seated
     arguments_seats (first c a) (tok.name n) h = at_into (called (record { constant = c; before = []; name = n; on = a })) (h.0, tt, h.1)
@@ -90,7 +91,7 @@ module _ {S A : Type 0} (G : Ground A) (limit : ℕ) (into : Arguing A → S) (h
     arguments_seats (called g) _ h = tt
     arguments_seats (inside r) t h = value_seats (given_ground G) (λ r. into (inside r)) (given limit into hand) limit Seated (λ r h. at_into (inside r) h) given_seated r t h
     arguments_seats (more c xs a) (tok.name n) h = at_into (called (record { constant = c; before = xs; name = n; on = a })) (h.0, h.2, h.3)
-    arguments_seats (more c xs a) tok.close_paren h = at_hand a xs h.3 h.1 (subst (λ c. FormedArguments c xs) h.0 h.2)
+    arguments_seats (more c xs a) tok.close_paren h = at_hand a xs h.3 h.1 (subst (λ c. ShapedArguments c xs) h.0 h.2)
     arguments_seats (more c xs a) _ h = tt
 
     pub arguments_seated : (r : Arguing A) (t : Tok) (next : S) → SeatedArguments G limit r → arguments_step limit into hand r t ≡ Ok next → Seated next
@@ -183,18 +184,24 @@ arguments_end (called g) = tok.colon ∷ tok.int (pos 0) ∷ tok.close_paren ∷
 arguments_end (inside r) = value_end r ++ tok.close_paren ∷ []
 arguments_end (more c xs a) = tok.close_paren ∷ []
 
+pub arguments_end-form : {A : Type 0} (r : Arguing A) → AreToks (arguments_end r)
+arguments_end-form (first c a) = (refl, (tt, (zero_fits, (tt, tt))))
+arguments_end-form (called g) = (tt, (zero_fits, (tt, tt)))
+arguments_end-form (inside r) = toks-append (value_end r) (tok.close_paren ∷ []) (value_end-form r) (tt, tt)
+arguments_end-form (more c xs a) = (tt, tt)
+
 module _ {S A : Type 0} (limit : ℕ) (into : Arguing A → S) (hand : A → List (List ℕ × Val) → S) (step : S → Tok → Result S Halt)
     (agrees : (r : Arguing A) (t : Tok) → step (into r) t ≡ arguments_step limit into hand r t) where
   pub arguments_on_token : (r : Arguing A) (t : Tok) (ts : List Tok) → reach step (into r) (t ∷ ts) ≡ reach_from step (arguments_step limit into hand r t) ts
   arguments_on_token r t ts = ap (λ x. reach_from step x ts) (agrees r t)
 
-  reads_given : (g : Given A) (v : Val) (ts : List Tok) → FormedValue g.constant v → val_depth v ≤ limit
+  reads_given : (g : Given A) (v : Val) (ts : List Tok) → ShapedValue g.constant v → val_depth v ≤ limit
       → reach step (into (called g)) (tok.colon ∷ spell_value token_mark v 0 ts) ≡ reach step (into (more g.constant (g.before ++ (g.name, v) ∷ []) g.on)) ts
   reads_given g v ts f d =
       arguments_on_token (called g) tok.colon (spell_value token_mark v 0 ts)
       ∙ value_complete (λ r. into (inside r)) (given limit into hand) step (λ r t. agrees (inside r) t) g.constant limit (outer g) v 0 ts f d
 
-  reads_more : (xs there : List (List ℕ × Val)) (c : Bool) (a : A) (ts : List Tok) → FormedArguments c xs → members_depth (members_of xs) ≤ limit
+  reads_more : (xs there : List (List ℕ × Val)) (c : Bool) (a : A) (ts : List Tok) → ShapedArguments c xs → members_depth (members_of xs) ≤ limit
       → reach step (into (more c there a)) (spell_members token_mark (members_of xs) 0 (tok.close_paren ∷ ts)) ≡ reach step (hand a (there ++ xs)) ts
   reads_more [] there c a ts f d = arguments_on_token (more c there a) tok.close_paren ts ∙ ap (λ xs. reach step (hand a xs) ts) (sym (append-nil there))
   reads_more (x ∷ xs) there c a ts f d =
@@ -205,7 +212,7 @@ module _ {S A : Type 0} (limit : ℕ) (into : Arguing A → S) (hand : A → Lis
       ∙ ap (λ xs. reach step (hand a xs) ts) (append_assoc there (x ∷ []) xs)
 
   -- behind their `(`
-  pub arguments_complete : (c : Bool) (a : A) (xs : List (List ℕ × Val)) (ts : List Tok) → SomeGiven xs → FormedArguments c xs → members_depth (members_of xs) ≤ limit
+  pub arguments_complete : (c : Bool) (a : A) (xs : List (List ℕ × Val)) (ts : List Tok) → SomeGiven xs → ShapedArguments c xs → members_depth (members_of xs) ≤ limit
       → reach step (into (first c a)) (spell_members token_mark (members_of xs) 0 (tok.close_paren ∷ ts)) ≡ reach step (hand a xs) ts
   arguments_complete c a [] ts s f d = absurd s
   arguments_complete c a (x ∷ xs) ts s f d =

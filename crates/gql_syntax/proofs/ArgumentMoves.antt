@@ -7,7 +7,7 @@ use Rattle.gql_ast.specs.Value.{Val}
 use Rattle.gql_syntax.specs.Machine.{outer, want, Given, Arguing, first, called, inside, more}
 use Rattle.gql_syntax.specs.Nexts.{behind, stopped_at, is_at, word_of, next_is, next_word}
 use Rattle.gql_syntax.specs.Parts.{goes, done, One, never, arguments_alone, part_from, value_read}
-use Rattle.gql_syntax.specs.Run.{unexpected, stamped}
+use Rattle.gql_syntax.specs.Run.{unexpected, stamp}
 use Rattle.gql_syntax.specs.Steps.{arguments_on, argument_named, argument_next}
 use Rattle.gql_syntax.specs.Texts.{nesting_limit}
 use Rattle.gql_syntax.specs.declared.fault.Fault.{Fault}
@@ -22,26 +22,26 @@ module _ (size : ℕ) (c : Bool) where
   names : (s : Arguing One) (xs : List (List ℕ × Val)) (p : Piece) (rest : Source) (t : Tok)
       → ((n : List ℕ) → arguments_alone nesting_limit s (tok.name n) ≡ Ok (goes (called (record { constant = c; before = xs; name = n; on = tt }))))
       → (word_of t ≡ None → arguments_alone nesting_limit s t ≡ Err unexpected)
-      → part_from (arguments_alone nesting_limit) never size (stamped p.start (arguments_alone nesting_limit s t)) (token p rest) rest ≡ argument_named size c xs (word_of t) p.start rest
+      → part_from (arguments_alone nesting_limit) never size (stamp p.start (arguments_alone nesting_limit s t)) (token p rest) rest ≡ argument_named size c xs (word_of t) p.start rest
   names s xs p rest (tok.name n) h u =
-      ap (λ r. part_from (arguments_alone nesting_limit) never size (stamped p.start r) (token p rest) rest) (h n)
+      ap (λ r. part_from (arguments_alone nesting_limit) never size (stamp p.start r) (token p rest) rest) (h n)
       ∙ from_here (arguments_alone nesting_limit) never size (goes (called (record { constant = c; before = xs; name = n; on = tt }))) (token p rest) rest tt
-  names s xs p rest tok.bang h u = ap (λ r. part_from (arguments_alone nesting_limit) never size (stamped p.start r) (token p rest) rest) (u refl)
-  names s xs p rest tok.dollar h u = ap (λ r. part_from (arguments_alone nesting_limit) never size (stamped p.start r) (token p rest) rest) (u refl)
-  names s xs p rest tok.ampersand h u = ap (λ r. part_from (arguments_alone nesting_limit) never size (stamped p.start r) (token p rest) rest) (u refl)
-  names s xs p rest tok.open_paren h u = ap (λ r. part_from (arguments_alone nesting_limit) never size (stamped p.start r) (token p rest) rest) (u refl)
-  names s xs p rest tok.close_paren h u = ap (λ r. part_from (arguments_alone nesting_limit) never size (stamped p.start r) (token p rest) rest) (u refl)
-  names s xs p rest tok.spread h u = ap (λ r. part_from (arguments_alone nesting_limit) never size (stamped p.start r) (token p rest) rest) (u refl)
-  names s xs p rest tok.colon h u = ap (λ r. part_from (arguments_alone nesting_limit) never size (stamped p.start r) (token p rest) rest) (u refl)
-  names s xs p rest tok.equals h u = ap (λ r. part_from (arguments_alone nesting_limit) never size (stamped p.start r) (token p rest) rest) (u refl)
-  names s xs p rest tok.at_sign h u = ap (λ r. part_from (arguments_alone nesting_limit) never size (stamped p.start r) (token p rest) rest) (u refl)
-  names s xs p rest tok.open_bracket h u = ap (λ r. part_from (arguments_alone nesting_limit) never size (stamped p.start r) (token p rest) rest) (u refl)
-  names s xs p rest tok.close_bracket h u = ap (λ r. part_from (arguments_alone nesting_limit) never size (stamped p.start r) (token p rest) rest) (u refl)
-  names s xs p rest tok.open_brace h u = ap (λ r. part_from (arguments_alone nesting_limit) never size (stamped p.start r) (token p rest) rest) (u refl)
-  names s xs p rest tok.bar h u = ap (λ r. part_from (arguments_alone nesting_limit) never size (stamped p.start r) (token p rest) rest) (u refl)
-  names s xs p rest tok.close_brace h u = ap (λ r. part_from (arguments_alone nesting_limit) never size (stamped p.start r) (token p rest) rest) (u refl)
-  names s xs p rest (tok.int n) h u = ap (λ r. part_from (arguments_alone nesting_limit) never size (stamped p.start r) (token p rest) rest) (u refl)
-  names s xs p rest (tok.text n) h u = ap (λ r. part_from (arguments_alone nesting_limit) never size (stamped p.start r) (token p rest) rest) (u refl)
+  names s xs p rest tok.bang h u = ap (λ r. part_from (arguments_alone nesting_limit) never size (stamp p.start r) (token p rest) rest) (u refl)
+  names s xs p rest tok.dollar h u = ap (λ r. part_from (arguments_alone nesting_limit) never size (stamp p.start r) (token p rest) rest) (u refl)
+  names s xs p rest tok.ampersand h u = ap (λ r. part_from (arguments_alone nesting_limit) never size (stamp p.start r) (token p rest) rest) (u refl)
+  names s xs p rest tok.open_paren h u = ap (λ r. part_from (arguments_alone nesting_limit) never size (stamp p.start r) (token p rest) rest) (u refl)
+  names s xs p rest tok.close_paren h u = ap (λ r. part_from (arguments_alone nesting_limit) never size (stamp p.start r) (token p rest) rest) (u refl)
+  names s xs p rest tok.spread h u = ap (λ r. part_from (arguments_alone nesting_limit) never size (stamp p.start r) (token p rest) rest) (u refl)
+  names s xs p rest tok.colon h u = ap (λ r. part_from (arguments_alone nesting_limit) never size (stamp p.start r) (token p rest) rest) (u refl)
+  names s xs p rest tok.equals h u = ap (λ r. part_from (arguments_alone nesting_limit) never size (stamp p.start r) (token p rest) rest) (u refl)
+  names s xs p rest tok.at_sign h u = ap (λ r. part_from (arguments_alone nesting_limit) never size (stamp p.start r) (token p rest) rest) (u refl)
+  names s xs p rest tok.open_bracket h u = ap (λ r. part_from (arguments_alone nesting_limit) never size (stamp p.start r) (token p rest) rest) (u refl)
+  names s xs p rest tok.close_bracket h u = ap (λ r. part_from (arguments_alone nesting_limit) never size (stamp p.start r) (token p rest) rest) (u refl)
+  names s xs p rest tok.open_brace h u = ap (λ r. part_from (arguments_alone nesting_limit) never size (stamp p.start r) (token p rest) rest) (u refl)
+  names s xs p rest tok.bar h u = ap (λ r. part_from (arguments_alone nesting_limit) never size (stamp p.start r) (token p rest) rest) (u refl)
+  names s xs p rest tok.close_brace h u = ap (λ r. part_from (arguments_alone nesting_limit) never size (stamp p.start r) (token p rest) rest) (u refl)
+  names s xs p rest (tok.int n) h u = ap (λ r. part_from (arguments_alone nesting_limit) never size (stamp p.start r) (token p rest) rest) (u refl)
+  names s xs p rest (tok.text n) h u = ap (λ r. part_from (arguments_alone nesting_limit) never size (stamp p.start r) (token p rest) rest) (u refl)
 
   pub first_wants : (src : Source) → arguments_on size (goes (first c tt)) src ≡ argument_next size c [] src
   first_wants ended = refl

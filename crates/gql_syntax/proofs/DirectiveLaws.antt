@@ -7,18 +7,19 @@ use Rattle.gql_lex.specs.Toks.{Tok}
 use Rattle.gql_ast.specs.Value.{Val, members_depth, members_of}
 use Rattle.gql_ast.specs.declared.directive.Directive.{Directive}
 use Rattle.gql_syntax.specs.FirstFault.{Shallow}
-use Rattle.gql_syntax.specs.Formed.{FormedArguments, FormedDirectives}
+use Rattle.gql_syntax.proofs.Shapes.{ShapedArguments, ShapedDirectives}
 use Rattle.gql_syntax.specs.Machine.{first, Applied, Directing, further, at_name, applied, arguing, with_arguments, next_directive, directives_step}
 use Rattle.gql_syntax.specs.Parts.{directives_there}
 use Rattle.gql_syntax.specs.Run.{Halt, unexpected, too_deep}
 use Rattle.gql_syntax.specs.Spelling.{spell_members, spell_arguments, spell_directives}
+use Rattle.gql_syntax.proofs.Forms.{AreToks}
 use Rattle.gql_syntax.proofs.Laws.{Leveled, reach_from, reach}
-use Rattle.gql_syntax.proofs.Marks.{directives-then, formed_directives-then}
+use Rattle.gql_syntax.proofs.Marks.{directives-then, shaped_directives-then}
 use Rattle.gql_syntax.proofs.Outcomes.{outcome, ended_at, outcome-reach}
 use Rattle.gql_syntax.proofs.Reading.{reach-append}
 use Rattle.gql_syntax.proofs.Standing.{leveled, token_mark, level_mark, Ground, GroundLaws, arguments_on, applied_ground, next_level, directives_level, directives_on, directives_so_far, lift_directives, SeatedDirectives, Lifts, Opens, IfTooDeep}
 use Rattle.gql_syntax.proofs.ValueLaws.{from_ok, from_too_deep, from_lifts, from_lifts_unexpected, from_opens}
-use Rattle.gql_syntax.proofs.ArgumentLaws.{arguments_sounds, arguments_shallows, arguments_deeps, arguments_seats, arguments_lifts, arguments_opens, lift_arguments_level, lift_arguments_so_far, lift_arguments_seated, lift_arguments_on, seated_arguments_on, arguments_complete, arguments_end, arguments_ends, arguments_depth_from, arguments_depth_to}
+use Rattle.gql_syntax.proofs.ArgumentLaws.{arguments_sounds, arguments_shallows, arguments_deeps, arguments_seats, arguments_lifts, arguments_opens, lift_arguments_level, lift_arguments_so_far, lift_arguments_seated, lift_arguments_on, seated_arguments_on, arguments_complete, arguments_end, arguments_end-form, arguments_ends, arguments_depth_from, arguments_depth_to}
 
 -- where a directive's arguments are handed over
 abbrev pub directive_done : {S D : Type 0} → (Directing D → S) → Applied D → List (List ℕ × Val) → S
@@ -27,7 +28,7 @@ directive_done into a xs = into (further a.constant (with_arguments a xs) a.on)
 module _ {S D : Type 0} (G : Ground D) (passed : D → Tok → ℕ) (limit : ℕ) (into : Directing D → S) (pass : D → List Directive → Tok → Result S Halt) where
   module _ (so_far : S → List Leveled → List Leveled)
       (at_into : (r : Directing D) (ts : List Leveled) → so_far (into r) ts ≡ directives_so_far G r ts)
-      (at_pass : (d : D) (ds : List Directive) (t : Tok) → G.Seated limit d → FormedDirectives (G.constant d) ds
+      (at_pass : (d : D) (ds : List Directive) (t : Tok) → G.Seated limit d → ShapedDirectives (G.constant d) ds
       → IfOk (pass d ds t) (λ next. (ts : List Leveled) → so_far next ts ≡ G.front d (spell_directives leveled ds ((t, passed d t) ∷ ts)))) where
     done_front : (a : Applied D) (xs : List (List ℕ × Val)) (ts : List Leveled)
         → so_far (directive_done into a xs) ts ≡ (applied_ground G).front a (spell_arguments leveled xs ts)
@@ -35,20 +36,20 @@ module _ {S D : Type 0} (G : Ground D) (passed : D → Tok → ℕ) (limit : ℕ
         at_into (further a.constant (with_arguments a xs) a.on) ts
         ∙ ap (λ w. G.front a.on w) (directives-then leveled a.before (record { name = a.name; arguments = xs }) ts)
 
-    next_sounds : (c : Bool) (ds : List Directive) (d : D) (t : Tok) → G.Seated limit d → FormedDirectives (G.constant d) ds
+    next_sounds : (c : Bool) (ds : List Directive) (d : D) (t : Tok) → G.Seated limit d → ShapedDirectives (G.constant d) ds
         → IfOk (next_directive limit into pass c ds d t) (λ next. (ts : List Leveled) → so_far next ts ≡ G.front d (spell_directives leveled ds ((t, next_level passed d t) ∷ ts)))
     next_sounds c ds d tok.at_sign h f = λ ts. at_into (at_name c ds d) ts
     next_sounds c ds d t h f = at_pass d ds t h f
 
     pub directives_sounds : (r : Directing D) (t : Tok) → SeatedDirectives G limit r
         → IfOk (directives_step limit into pass r t) (λ next. (ts : List Leveled) → so_far next ts ≡ directives_so_far G r ((t, directives_level passed r t) ∷ ts))
-    directives_sounds (further c ds d) t h = next_sounds c ds d t h.2 (subst (λ c. FormedDirectives c ds) h.0 h.1)
+    directives_sounds (further c ds d) t h = next_sounds c ds d t h.2 (subst (λ c. ShapedDirectives c ds) h.0 h.1)
     directives_sounds (at_name c ds d) (tok.name n) h = λ ts. at_into (applied (record { constant = c; before = ds; name = n; on = d })) ts
     directives_sounds (at_name c ds d) _ h = tt
     directives_sounds (applied a) tok.open_paren h = λ ts. at_into (arguing (first a.constant a)) ts
     directives_sounds (applied a) t h =
         from_next (next_directive limit into pass a.constant (with_arguments a []) a.on t)
-        (next_sounds a.constant (with_arguments a []) a.on t h.2 (subst (λ c. FormedDirectives c (with_arguments a [])) h.0 (formed_directives-then a.constant a.before (record { name = a.name; arguments = [] }) h.1 tt)))
+        (next_sounds a.constant (with_arguments a []) a.on t h.2 (subst (λ c. ShapedDirectives c (with_arguments a [])) h.0 (shaped_directives-then a.constant a.before (record { name = a.name; arguments = [] }) h.1 tt)))
       where
         from_next : (x : Result S Halt)
             → IfOk x (λ next. (ts : List Leveled) → so_far next ts ≡ G.front a.on (spell_directives leveled (with_arguments a []) ((t, next_level passed a.on t) ∷ ts)))
@@ -97,14 +98,14 @@ module _ {S D : Type 0} (G : Ground D) (passed : D → Tok → ℕ) (limit : ℕ
 
   module _ (Seated : S → Type 0)
       (at_into : (r : Directing D) → SeatedDirectives G limit r → Seated (into r))
-      (at_pass : (d : D) (ds : List Directive) (t : Tok) → G.Seated limit d → FormedDirectives (G.constant d) ds → IfOk (pass d ds t) Seated) where
-    done_seated : (a : Applied D) (xs : List (List ℕ × Val)) → (applied_ground G).Seated limit a → FormedArguments a.constant xs → Seated (directive_done into a xs)
+      (at_pass : (d : D) (ds : List Directive) (t : Tok) → G.Seated limit d → ShapedDirectives (G.constant d) ds → IfOk (pass d ds t) Seated) where
+    done_seated : (a : Applied D) (xs : List (List ℕ × Val)) → (applied_ground G).Seated limit a → ShapedArguments a.constant xs → Seated (directive_done into a xs)
     done_seated a xs h f =
-        at_into (further a.constant (with_arguments a xs) a.on) (h.0, formed_directives-then a.constant a.before (record { name = a.name; arguments = xs }) h.1 f, h.2)
+        at_into (further a.constant (with_arguments a xs) a.on) (h.0, shaped_directives-then a.constant a.before (record { name = a.name; arguments = xs }) h.1 f, h.2)
 
-    next_seats : (c : Bool) (ds : List Directive) (d : D) (t : Tok) → c ≡ G.constant d → FormedDirectives c ds → G.Seated limit d → IfOk (next_directive limit into pass c ds d t) Seated
+    next_seats : (c : Bool) (ds : List Directive) (d : D) (t : Tok) → c ≡ G.constant d → ShapedDirectives c ds → G.Seated limit d → IfOk (next_directive limit into pass c ds d t) Seated
     next_seats c ds d tok.at_sign e f h = at_into (at_name c ds d) (e, f, h)
-    next_seats c ds d t e f h = at_pass d ds t h (subst (λ c. FormedDirectives c ds) e f)
+    next_seats c ds d t e f h = at_pass d ds t h (subst (λ c. ShapedDirectives c ds) e f)
 
     pub directives_seats : (r : Directing D) (t : Tok) → SeatedDirectives G limit r → IfOk (directives_step limit into pass r t) Seated
     directives_seats (further c ds d) t h = next_seats c ds d t h.0 h.1 h.2
@@ -112,7 +113,7 @@ module _ {S D : Type 0} (G : Ground D) (passed : D → Tok → ℕ) (limit : ℕ
     directives_seats (at_name c ds d) _ h = tt
     directives_seats (applied a) tok.open_paren h = at_into (arguing (first a.constant a)) (refl, h)
     directives_seats (applied a) t h =
-        next_seats a.constant (with_arguments a []) a.on t h.0 (formed_directives-then a.constant a.before (record { name = a.name; arguments = [] }) h.1 tt) h.2
+        next_seats a.constant (with_arguments a []) a.on t h.0 (shaped_directives-then a.constant a.before (record { name = a.name; arguments = [] }) h.1 tt) h.2
     directives_seats (arguing r) t h =
         arguments_seats (applied_ground G) limit (λ r. into (arguing r)) (directive_done into) Seated (λ r h. at_into (arguing r) h) (λ a xs h s f. done_seated a xs h f) r t h
 
@@ -215,16 +216,16 @@ module _ {D : Type 0} (G : Ground D) (laws : GroundLaws G) where
 
 -- what stands in the state where the text may end, and is formed
 pub seated_directives_there : {D : Type 0} (G : Ground D) (limit : ℕ) (r : Directing D) (ds : List Directive) → SeatedDirectives G limit r → directives_there r ≡ Some ds
-    → ((ts : List Leveled) → directives_so_far G r ts ≡ G.front (directives_on r) (spell_directives leveled ds ts)) × FormedDirectives (G.constant (directives_on r)) ds
+    → ((ts : List Leveled) → directives_so_far G r ts ≡ G.front (directives_on r) (spell_directives leveled ds ts)) × ShapedDirectives (G.constant (directives_on r)) ds
 seated_directives_there G limit (further c es d) ds h e =
     let same : es ≡ ds = cc in
-    (λ ts. ap (λ ds. G.front d (spell_directives leveled ds ts)) same, subst (λ ds. FormedDirectives (G.constant d) ds) same (subst (λ c. FormedDirectives c es) h.0 h.1))
+    (λ ts. ap (λ ds. G.front d (spell_directives leveled ds ts)) same, subst (λ ds. ShapedDirectives (G.constant d) ds) same (subst (λ c. ShapedDirectives c es) h.0 h.1))
 seated_directives_there G limit (at_name c es d) ds h e = cc
 seated_directives_there G limit (applied a) ds h e =
     let same : with_arguments a [] ≡ ds = cc in (
       λ ts. sym (ap (λ w. G.front a.on w) (directives-then leveled a.before (record { name = a.name; arguments = [] }) ts)) ∙ ap (λ ds. G.front a.on (spell_directives leveled ds ts)) same,
-      subst (λ ds. FormedDirectives (G.constant a.on) ds) same
-          (subst (λ c. FormedDirectives c (with_arguments a [])) h.0 (formed_directives-then a.constant a.before (record { name = a.name; arguments = [] }) h.1 tt)),
+      subst (λ ds. ShapedDirectives (G.constant a.on) ds) same
+          (subst (λ c. ShapedDirectives c (with_arguments a [])) h.0 (shaped_directives-then a.constant a.before (record { name = a.name; arguments = [] }) h.1 tt)),
     )
 seated_directives_there G limit (arguing r) ds h e = cc
 
@@ -260,6 +261,12 @@ directives_end (at_name c ds d) = tok.name (codes "a") ∷ []
 directives_end (applied a) = []
 directives_end (arguing r) = arguments_end r
 
+pub directives_end-form : {D : Type 0} (r : Directing D) → AreToks (directives_end r)
+directives_end-form (further c ds d) = tt
+directives_end-form (at_name c ds d) = (refl, tt)
+directives_end-form (applied a) = tt
+directives_end-form (arguing r) = arguments_end-form r
+
 module _ {S D : Type 0} (limit : ℕ) (into : Directing D → S) (pass : D → List Directive → Tok → Result S Halt) (step : S → Tok → Result S Halt)
     (agrees : (r : Directing D) (t : Tok) → step (into r) t ≡ directives_step limit into pass r t) where
   pub directives_on_token : (r : Directing D) (t : Tok) (ts : List Tok) → reach step (into r) (t ∷ ts) ≡ reach_from step (directives_step limit into pass r t) ts
@@ -282,7 +289,7 @@ module _ {S D : Type 0} (limit : ℕ) (into : Directing D → S) (pass : D → L
     behind_each (d ∷ ds) a =
         ap (λ x. seen (reach_from step x (tok.name d.name ∷ spell_arguments token_mark d.arguments (spell_directives token_mark ds ts)))) (after_applied a tok.at_sign tt)
 
-    reads_arguments : (a : Applied D) (xs : List (List ℕ × Val)) (ds : List Directive) → FormedArguments a.constant xs → members_depth (members_of xs) ≤ limit
+    reads_arguments : (a : Applied D) (xs : List (List ℕ × Val)) (ds : List Directive) → ShapedArguments a.constant xs → members_depth (members_of xs) ≤ limit
         → seen (reach step (into (applied a)) (spell_arguments token_mark xs (spell_directives token_mark ds ts)))
         ≡ seen (reach step (into (further a.constant (with_arguments a xs) a.on)) (spell_directives token_mark ds ts))
     reads_arguments a [] ds f d = behind_each ds a
@@ -290,7 +297,7 @@ module _ {S D : Type 0} (limit : ℕ) (into : Directing D → S) (pass : D → L
         (directives_on_token (applied a) tok.open_paren (spell_members token_mark (members_of (x ∷ xs)) 0 (tok.close_paren ∷ spell_directives token_mark ds ts))
         ∙ arguments_complete limit (λ r. into (arguing r)) (directive_done into) step (λ r t. agrees (arguing r) t) a.constant a (x ∷ xs) (spell_directives token_mark ds ts) tt f d)
 
-    reads_directives : (ds there : List Directive) (c : Bool) (d : D) → FormedDirectives c ds → DirectivesWithin limit ds
+    reads_directives : (ds there : List Directive) (c : Bool) (d : D) → ShapedDirectives c ds → DirectivesWithin limit ds
         → seen (reach step (into (further c there d)) (spell_directives token_mark ds ts)) ≡ seen (reach step (into (further c (there ++ ds) d)) ts)
     reads_directives [] there c d f w = ap (λ ds. seen (reach step (into (further c ds d)) ts)) (sym (append-nil there))
     reads_directives (e ∷ ds) there c d f w =
@@ -301,14 +308,14 @@ module _ {S D : Type 0} (limit : ℕ) (into : Directing D → S) (pass : D → L
         ∙ reads_directives ds (there ++ e ∷ []) c d f.1 w.1
         ∙ ap (λ ds. seen (reach step (into (further c ds d)) ts)) (append_assoc there (e ∷ []) ds)
 
-  pub directives_complete : (ds there : List Directive) (c : Bool) (d : D) (ts : List Tok) → NoParen ts → FormedDirectives c ds → DirectivesWithin limit ds
+  pub directives_complete : (ds there : List Directive) (c : Bool) (d : D) (ts : List Tok) → NoParen ts → ShapedDirectives c ds → DirectivesWithin limit ds
       → reach step (into (further c there d)) (spell_directives token_mark ds ts) ≡ reach step (into (further c (there ++ ds) d)) ts
   directives_complete ds there c d [] n f w = absurd n
   directives_complete ds there c d (t ∷ ts) n f w = reads_directives (λ r. r) (t ∷ ts) (λ a. ap (λ x. reach_from step x ts) (after_applied a t n)) ds there c d f w
 
   -- the same where the text may end there
   pub directives_outcome : {V : Type 0} (finish : S → Option V) → ((a : Applied D) → finish (into (applied a)) ≡ finish (into (further a.constant (with_arguments a []) a.on)))
-      → (ds there : List Directive) (c : Bool) (d : D) (ts : List Tok) → NoParenAhead ts → FormedDirectives c ds → DirectivesWithin limit ds
+      → (ds there : List Directive) (c : Bool) (d : D) (ts : List Tok) → NoParenAhead ts → ShapedDirectives c ds → DirectivesWithin limit ds
       → outcome step finish (into (further c there d)) (spell_directives token_mark ds ts) ≡ outcome step finish (into (further c (there ++ ds) d)) ts
   directives_outcome finish e ds there c d ts n f w =
       outcome-reach step finish (Ok (into (further c there d))) (spell_directives token_mark ds ts)

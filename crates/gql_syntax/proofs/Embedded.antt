@@ -5,7 +5,7 @@ use Rattle.gql_lex.specs.Toks.{Tok, tok_of_piece}
 use Rattle.gql_ast.specs.Value.{Val}
 use Rattle.gql_syntax.specs.Machine.{want, outer, Given, Arguing, first, inside, more, given, Applied, Directing, further, arguing, with_arguments}
 use Rattle.gql_syntax.specs.Parts.{Part, goes, done, done_before, One, never, part_from, stops, value_alone, value_read, arguments_alone, arguments_read, directives_alone, directives_there}
-use Rattle.gql_syntax.specs.Run.{Halt, unexpected, Stopped, stamped, code_of}
+use Rattle.gql_syntax.specs.Run.{Halt, unexpected, Stopped, stamp, code_of}
 use Rattle.gql_syntax.specs.Steps.{resume, arguments_on, directives_on}
 use Rattle.gql_syntax.specs.Texts.{nesting_limit}
 use Rattle.gql_syntax.proofs.Moves.{from_here}
@@ -32,11 +32,11 @@ module _ {S V T W : Type 0} (inner : S → Tok → Result (Part S V) Halt) (step
     where
       on_step : (r : Result (Part S V) Halt) → Within into hand r (step (into s) (tok_of_piece q))
           → ((next : S) → resume step ends size (goes (into next)) behind ≡ goes_on step ends size hand (part_from inner never size (Ok (goes next)) (token q behind) behind))
-          → resume step ends size (goes (into s)) (token q behind) ≡ goes_on step ends size hand (part_from inner never size (stamped q.start r) (token q behind) behind)
-      on_step (Ok (goes next)) f h = ap (λ r. part_from step ends size (stamped q.start r) (token q behind) behind) f ∙ from_here step ends size (goes (into next)) (token q behind) behind tt ∙ h next
-      on_step (Ok (done v)) f h = ap (λ r. part_from step ends size (stamped q.start r) (token q behind) behind) f ∙ from_here step ends size (goes (hand v)) (token q behind) behind tt
+          → resume step ends size (goes (into s)) (token q behind) ≡ goes_on step ends size hand (part_from inner never size (stamp q.start r) (token q behind) behind)
+      on_step (Ok (goes next)) f h = ap (λ r. part_from step ends size (stamp q.start r) (token q behind) behind) f ∙ from_here step ends size (goes (into next)) (token q behind) behind tt ∙ h next
+      on_step (Ok (done v)) f h = ap (λ r. part_from step ends size (stamp q.start r) (token q behind) behind) f ∙ from_here step ends size (goes (hand v)) (token q behind) behind tt
       on_step (Ok (done_before v)) f h = absurd f
-      on_step (Err x) f h = ap (λ r. part_from step ends size (stamped q.start r) (token q behind) behind) f
+      on_step (Err x) f h = ap (λ r. part_from step ends size (stamp q.start r) (token q behind) behind) f
 
 -- a value within an argument
 abbrev pub behind_value : (g : Given One) → Val → Arguing One

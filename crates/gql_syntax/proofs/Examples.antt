@@ -9,7 +9,7 @@ use Rattle.gql_ast.specs.Value.{variable, int, truth, null, enum, list, object, 
 use Rattle.gql_ast.specs.Ty as ty
 use Rattle.gql_ast.specs.Ty.{Ty}
 use Rattle.gql_syntax.specs.Parts.{value_read, arguments_read, directives_read, type_read}
-use Rattle.gql_syntax.specs.Places.{placed}
+use Rattle.gql_syntax.specs.Places.{place_nodes}
 use Rattle.gql_syntax.specs.Spelling.{Mark, spell_value, spell_arguments, spell_directives, spell_type}
 use Rattle.std.specs.Str.{chars}
 
@@ -96,7 +96,7 @@ one_list_type_too_many : type_read 1 4 (lexed 0 (codes "[[A]]")) ≡ Err (8, 1)
 unfolding read head
 one_list_type_too_many = refl
 
-places_of_nodes : placed 7 (36 ∷ 97 ∷ 10 ∷ 69 ∷ []) [] (1 ∷ 0 ∷ 2 ∷ []) (lexed 0 (36 ∷ 97 ∷ 10 ∷ 69 ∷ []))
+places_of_nodes : place_nodes 7 (36 ∷ 97 ∷ 10 ∷ 69 ∷ []) [] (1 ∷ 0 ∷ 2 ∷ []) (lexed 0 (36 ∷ 97 ∷ 10 ∷ 69 ∷ []))
     ≡ record { file = 7; line = 1; column = 1 } ∷ record { file = 7; line = 2; column = 1 } ∷ record { file = 7; line = 2; column = 1 } ∷ []
 unfolding read head ended_lines line_start chars
 places_of_nodes = refl

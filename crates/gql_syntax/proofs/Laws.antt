@@ -4,6 +4,7 @@ use Rattle.std.proofs.Common.{◌≡◌, ◌≤◌, ◌<◌, ℕ, ◌+◌, List,
 use Rattle.gql_lex.specs.Toks.{Tok}
 use Rattle.gql_syntax.specs.Run.{Halt, unexpected, too_deep}
 use Rattle.gql_syntax.specs.FirstFault.{Grammar, Shallow}
+use Rattle.gql_syntax.proofs.Forms.{AreToks}
 
 -- what a token is, and the number of what it opens
 abbrev pub Leveled : Type 0
@@ -38,9 +39,10 @@ pub record Finishes {S V : Type 0} (m : Machine S V) (limit : ℕ) (s : S) (ts :
   pub reached : reach (m.step limit) s ts ≡ Ok last
   pub finished : m.finish last ≡ Some v
 
--- some tokens take the machine to an end
+-- some tokens, such as texts have, take the machine to an end
 pub record CanEnd {S V : Type 0} (m : Machine S V) (limit : ℕ) (s : S) : Type 0 where
   pub behind : List Tok
+  pub forms : AreToks behind
   pub tree : V
   pub finishes : Finishes m limit s behind tree
 
@@ -48,11 +50,11 @@ pub record Stepped {S V : Type 0} (m : Machine S V) (limit : ℕ) (s : S) (t : T
   pub next : S
   pub stepped : m.step limit s t ≡ Ok next
 
--- what was read to an end is written so
+-- what was read to an end is written so, and is formed where its tokens are such as texts have
 pub record Written {S V : Type 0} (g : Grammar V) (m : Machine S V) (s : S) (v : V) : Type 0 where
   pub tokens : map (λ (p : Leveled). p.0) (m.so_far s []) ≡ g.tokens v
   pub levels : map (λ (p : Leveled). p.1) (m.so_far s []) ≡ g.levels v
-  pub formed : g.Formed v
+  pub formed : AreToks (g.tokens v) → g.Formed v
 
 pub record Laws {S V : Type 0} (g : Grammar V) (m : Machine S V) : Type 0 where
   -- the start

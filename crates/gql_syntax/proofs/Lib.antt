@@ -1,9 +1,10 @@
+pub mod Shapes
+pub mod Forms
 pub mod Laws
 pub mod Tokens
 pub mod Moves
 pub mod ValueMoves
 pub mod Sources
-pub mod Counting
 pub mod Puncts
 pub mod Laying
 pub mod Spelled
@@ -23,3 +24,8 @@ pub mod DirectiveMoves
 pub mod TypeMoves
 pub mod Lying
 pub mod OneFault
+pub mod BuiltTrees
+pub mod LexFaults
+pub mod Judging
+pub mod TypeAlone
+pub mod NodeCounts

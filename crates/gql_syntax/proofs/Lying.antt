@@ -7,7 +7,7 @@ use Rattle.gql_lex.specs.Toks.{Tok, tok_of_piece}
 use Rattle.gql_lex.proofs.Gaps.{describes}
 use Rattle.gql_syntax.specs.Answers.{LiesIn, Tells}
 use Rattle.gql_syntax.specs.Nexts.{InOrder}
-use Rattle.gql_syntax.specs.Run.{Halt, Stopped, at_end, stamped, run_from, run}
+use Rattle.gql_syntax.specs.Run.{Halt, Stopped, at_end, stamp, run_from, run}
 use Rattle.gql_syntax.specs.declared.fault.Fault.{Fault}
 use Rattle.gql_syntax.specs.declared.fault.Fault.TheVariants.{Wrong, NoMemory}
 use Rattle.gql_syntax.proofs.Sources.{in_order}
@@ -21,14 +21,14 @@ module _ {S A : Type 0} (step : S → Tok → Result S Halt) (done : S → Optio
   end_lies (Some a) = tt
   end_lies None = IsCharBoundary-end text
 
-  stamp_lies : (at : ℕ) (r : Result S Halt) → IsCharBoundary text at → Lies text (stamped at r)
+  stamp_lies : (at : ℕ) (r : Result S Halt) → IsCharBoundary text at → Lies text (stamp at r)
   stamp_lies at (Ok s) b = tt
   stamp_lies at (Err h) b = b
 
   pub lies : (s : Source) (r : Result S Stopped) (low : ℕ) → InOrder text low s → Lies text r → Lies text (run_from step done (length text) r s)
   lies ended (Ok s) low o h = end_lies (done s)
   lies (faulty code at) (Ok s) low o h = o.1
-  lies (token p rest) (Ok s) low o h = lies rest (stamped p.start (step s (tok_of_piece p))) p.start o.3 (stamp_lies p.start (step s (tok_of_piece p)) o.1)
+  lies (token p rest) (Ok s) low o h = lies rest (stamp p.start (step s (tok_of_piece p))) p.start o.3 (stamp_lies p.start (step s (tok_of_piece p)) o.1)
   lies ended (Err f) low o h = h
   lies (faulty code at) (Err f) low o h = h
   lies (token p rest) (Err f) low o h = h

@@ -8,7 +8,7 @@ use Rattle.gql_ast.specs.Ty as ty
 use Rattle.gql_ast.specs.Ty.{Ty}
 use Rattle.gql_ast.specs.declared.directive.Directive.{Directive}
 use Rattle.gql_ast.specs.declared.value.ValueTree.{ValueTree}
-use Rattle.gql_syntax.specs.Formed.{FormedValue, FormedValues, FormedMembers, FormedArguments, FormedDirective, FormedDirectives}
+use Rattle.gql_syntax.proofs.Shapes.{ShapedValue, ShapedValues, ShapedMembers, ShapedArguments, ShapedDirective, ShapedDirectives}
 use Rattle.gql_syntax.specs.Machine.{vals_then, members_then}
 use Rattle.gql_syntax.specs.Spelling.{Mark, plain, spell_value, spell_values, spell_members, spell_arguments, spell_directives, spell_type, spell_default}
 
@@ -137,18 +137,18 @@ members_of-then (x ∷ xs) n v = ap (λ ms. member x.0 x.1 ms) (members_of-then 
 
 -- ---- the same of what is formed
 
-pub formed_values-then : (c : Bool) (vs : Vals) (v : Val) → FormedValues c vs → FormedValue c v → FormedValues c (vals_then vs v)
-formed_values-then c no_vals v f g = (g, tt)
-formed_values-then c (val w vs) v f g = (f.0, formed_values-then c vs v f.1 g)
+pub shaped_values-then : (c : Bool) (vs : Vals) (v : Val) → ShapedValues c vs → ShapedValue c v → ShapedValues c (vals_then vs v)
+shaped_values-then c no_vals v f g = (g, tt)
+shaped_values-then c (val w vs) v f g = (f.0, shaped_values-then c vs v f.1 g)
 
-pub formed_members-then : (c : Bool) (ms : Members) (n : List ℕ) (v : Val) → FormedMembers c ms → FormedValue c v → FormedMembers c (members_then ms n v)
-formed_members-then c no_members n v f g = (g, tt)
-formed_members-then c (member m w ms) n v f g = (f.0, formed_members-then c ms n v f.1 g)
+pub shaped_members-then : (c : Bool) (ms : Members) (n : List ℕ) (v : Val) → ShapedMembers c ms → ShapedValue c v → ShapedMembers c (members_then ms n v)
+shaped_members-then c no_members n v f g = (g, tt)
+shaped_members-then c (member m w ms) n v f g = (f.0, shaped_members-then c ms n v f.1 g)
 
-pub formed_arguments-then : (c : Bool) (xs : List (List ℕ × Val)) (n : List ℕ) (v : Val) → FormedArguments c xs → FormedValue c v → FormedArguments c (xs ++ (n, v) ∷ [])
-formed_arguments-then c [] n v f g = (g, tt)
-formed_arguments-then c (x ∷ xs) n v f g = (f.0, formed_arguments-then c xs n v f.1 g)
+pub shaped_arguments-then : (c : Bool) (xs : List (List ℕ × Val)) (n : List ℕ) (v : Val) → ShapedArguments c xs → ShapedValue c v → ShapedArguments c (xs ++ (n, v) ∷ [])
+shaped_arguments-then c [] n v f g = (g, tt)
+shaped_arguments-then c (x ∷ xs) n v f g = (f.0, shaped_arguments-then c xs n v f.1 g)
 
-pub formed_directives-then : (c : Bool) (ds : List Directive) (d : Directive) → FormedDirectives c ds → FormedDirective c d → FormedDirectives c (ds ++ d ∷ [])
-formed_directives-then c [] d f g = (g, tt)
-formed_directives-then c (e ∷ ds) d f g = (f.0, formed_directives-then c ds d f.1 g)
+pub shaped_directives-then : (c : Bool) (ds : List Directive) (d : Directive) → ShapedDirectives c ds → ShapedDirective c d → ShapedDirectives c (ds ++ d ∷ [])
+shaped_directives-then c [] d f g = (g, tt)
+shaped_directives-then c (e ∷ ds) d f g = (f.0, shaped_directives-then c ds d f.1 g)

@@ -4,7 +4,7 @@ use Rattle.gql_lex.specs.Sources.{Piece, Source, ended, faulty, token}
 use Rattle.gql_lex.specs.Toks.{Tok, tok_of_piece}
 use Rattle.gql_syntax.specs.Nexts.{behind, stopped_at, too_deep_at, Comes}
 use Rattle.gql_syntax.specs.Parts.{Part, goes, done, done_before, part_from}
-use Rattle.gql_syntax.specs.Run.{Halt, unexpected, too_deep, Stopped, stamped}
+use Rattle.gql_syntax.specs.Run.{Halt, unexpected, too_deep, Stopped, stamp}
 use Rattle.gql_syntax.specs.Steps.{resume}
 
 -- the part has not looked ahead
@@ -23,7 +23,7 @@ module _ {S V : Type 0} (step : S → Tok → Result (Part S V) Halt) (ends : S 
 
   -- behind a token that the step has taken
   abbrev taken : Piece → Source → Result (Part S V) Halt → Result (V × Source) Stopped
-  taken p rest r = part_from step ends size (stamped p.start r) (token p rest) rest
+  taken p rest r = part_from step ends size (stamp p.start r) (token p rest) rest
 
   pub moves : (s : S) (x : Part S V) (t : Tok) (src : Source) → Comes src t → step s t ≡ Ok x → Onward x → resume step ends size (goes s) src ≡ resume step ends size x (behind src)
   moves s x t ended c e o = absurd c

@@ -1,13 +1,13 @@
 -- A text has at most one first fault, and none where it has a tree.
-use Rattle.std.proofs.Common.{◌≡◌, ◌≤◌, ◌<◌, ◌⊎◌, ℕ, zero, suc, ◌+◌, List, [], ◌∷◌, ◌++◌, length, take, get_or, Option, Some, None, refl, sym, ap, subst, inl, inr, ◌∙◌, arith, append_assoc, append-nil}
-use Rattle.std.specs.Prelude.{slice_index, IsUtf8}
+use Rattle.std.proofs.Common.{◌≡◌, ◌≤◌, ◌<◌, ◌⊎◌, ℕ, zero, suc, List, [], ◌∷◌, ◌++◌, length, take, Option, Some, None, refl, sym, ap, subst, inl, inr, ◌∙◌, arith, append_assoc, append-nil}
+use Rattle.std.specs.Prelude.{slice_index}
 use Rattle.gql_lex.specs.Lines.{place_at}
 use Rattle.gql_lex.specs.Sources.{Source, Piece, ended, faulty, token, lexed}
 use Rattle.gql_lex.specs.Toks.{Tok, tok_of_piece, toks_of}
 use Rattle.gql_ast.specs.declared.fault.ParseFault.TheVariants.{Syntax}
 use Rattle.gql_ast.specs.declared.fault.SyntaxFault.{SyntaxFault}
 use Rattle.gql_ast.specs.declared.place.FilePlace.{FilePlace}
-use Rattle.gql_syntax.specs.FirstFault.{Grammar, Leads, Spells, Shallow, Begins, Unexpected, TooDeep, FaultAhead, IsFirstFault}
+use Rattle.gql_syntax.specs.FirstFault.{Grammar, Leads, Spells, Shallow, Begins, FaultAhead, IsFirstFault}
 use Rattle.gql_syntax.specs.Run.{code_of, unexpected, too_deep}
 use Rattle.gql_syntax.specs.Texts.{IsTree, NoText, FaultAtOffset, IsParseFault, nesting_limit}
 

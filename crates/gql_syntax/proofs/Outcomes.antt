@@ -2,6 +2,7 @@
 use Rattle.std.proofs.Common.{◌≡◌, ℕ, List, [], ◌∷◌, ◌++◌, Option, Some, None, Result, Ok, Err, refl, sym, ap, ◌∙◌}
 use Rattle.gql_lex.specs.Toks.{Tok}
 use Rattle.gql_syntax.specs.Run.{Halt}
+use Rattle.gql_syntax.proofs.Forms.{AreToks, toks-append}
 use Rattle.gql_syntax.proofs.Laws.{Machine, reach_from, reach, Finishes, CanEnd}
 use Rattle.gql_syntax.proofs.Reading.{reach-append}
 
@@ -44,9 +45,10 @@ finishes {S = S} m limit s ts v e = at_last (reach (m.step limit) s ts) refl (sy
     at_last (Err h) d e = cc
 
 -- what can be ended behind tokens can be ended before them
-pub can_end_before : {S V : Type 0} (m : Machine S V) (limit : ℕ) (s next : S) (ts : List Tok) → reach (m.step limit) s ts ≡ Ok next → CanEnd m limit next → CanEnd m limit s
-can_end_before m limit s next ts e c = record {
+pub can_end_before : {S V : Type 0} (m : Machine S V) (limit : ℕ) (s next : S) (ts : List Tok) → AreToks ts → reach (m.step limit) s ts ≡ Ok next → CanEnd m limit next → CanEnd m limit s
+can_end_before m limit s next ts f e c = record {
   behind = ts ++ c.behind;
+  forms = toks-append ts c.behind f c.forms;
   tree = c.tree;
   finishes = record {
     last = c.finishes.last;

@@ -9,7 +9,7 @@ use Rattle.gql_ast.specs.Ty.{Ty}
 use Rattle.gql_ast.specs.declared.directive.Directive.{Directive}
 use Rattle.gql_syntax.specs.Machine.{Place, outer, item, of_member, Reading, want, dollar, items, members, named, vals_then, members_then, word_value, put, begin, value_step, Given, Arguing, first, called, inside, more, given, arguments_step, Applied, Directing, further, at_name, applied, arguing, with_arguments, next_directive, directives_step, Holder, whole, listed, Typing, want_type, typed, closing, put_type, type_step}
 use Rattle.gql_syntax.specs.Parts.{Part, goes, done, done_before, stops, part_from, part, One, never, value_alone, value_read, arguments_alone, arguments_read, directives_alone, directives_there, directives_read, type_alone, type_there, type_read}
-use Rattle.gql_syntax.specs.Run.{Halt, unexpected, too_deep, Stopped, code_of, stamped, at_end, run_from, run}
+use Rattle.gql_syntax.specs.Run.{Halt, unexpected, too_deep, Stopped, code_of, stamp, at_end, run_from, run}
 use Rattle.gql_syntax.proofs.Standing.{directives_on, type_on}
 use Rattle.gql_syntax.proofs.TypeLaws.{NotBang}
 
@@ -57,17 +57,17 @@ module _ {P V S A : Type 0} (part_step : P → Tok → Result (Part P V) Halt) (
   part_ok_from size (token q behind) here p v rest e =
       on_step (part_step p (tok_of_piece q)) refl e (follows p (tok_of_piece q)) (λ next e. part_ok_from size behind (token q behind) next v rest e)
     where
-      on_step : (r : Result (Part P V) Halt) → part_step p (tok_of_piece q) ≡ r → part_from part_step ends size (stamped q.start r) (token q behind) behind ≡ Ok (v, rest)
+      on_step : (r : Result (Part P V) Halt) → part_step p (tok_of_piece q) ≡ r → part_from part_step ends size (stamp q.start r) (token q behind) behind ≡ Ok (v, rest)
           → Follows into there step (tok_of_piece q) r (step (into p) (tok_of_piece q))
           → ((next : P) → part_from part_step ends size (Ok (goes next)) (token q behind) behind ≡ Ok (v, rest) → run step finish size (into next) behind ≡ run step finish size (there v) rest)
           → run step finish size (into p) (token q behind) ≡ run step finish size (there v) rest
-      on_step (Ok (goes next)) d e f h = ap (λ r. run_from step finish size (stamped q.start r) behind) f ∙ h next e
+      on_step (Ok (goes next)) d e f h = ap (λ r. run_from step finish size (stamp q.start r) behind) f ∙ h next e
       on_step (Ok (done w)) d e f h =
           let same : (w, behind) ≡ (v, rest) = cc e in
-          ap (λ r. run_from step finish size (stamped q.start r) behind) f ∙ ap (λ (x : V × Source). run step finish size (there x.0) x.1) same
+          ap (λ r. run_from step finish size (stamp q.start r) behind) f ∙ ap (λ (x : V × Source). run step finish size (there x.0) x.1) same
       on_step (Ok (done_before w)) d e f h =
           let same : (w, token q behind) ≡ (v, rest) = cc e in
-          ap (λ r. run_from step finish size (stamped q.start r) behind) f ∙ ap (λ (x : V × Source). run step finish size (there x.0) x.1) same
+          ap (λ r. run_from step finish size (stamp q.start r) behind) f ∙ ap (λ (x : V × Source). run step finish size (there x.0) x.1) same
       on_step (Err x) d e f h = cc
 
   part_err_from : (size : ℕ) (source here : Source) (p : P) (f : Stopped) → part_from part_step ends size (Ok (goes p)) here source ≡ Err f
@@ -88,16 +88,16 @@ module _ {P V S A : Type 0} (part_step : P → Tok → Result (Part P V) Halt) (
       part_failed : (x : Stopped) → part_from part_step ends size (Err x) (token q behind) behind ≡ Err x
       part_failed x = refl
 
-      on_step : (r : Result (Part P V) Halt) → part_step p (tok_of_piece q) ≡ r → part_from part_step ends size (stamped q.start r) (token q behind) behind ≡ Err f
+      on_step : (r : Result (Part P V) Halt) → part_step p (tok_of_piece q) ≡ r → part_from part_step ends size (stamp q.start r) (token q behind) behind ≡ Err f
           → Follows into there step (tok_of_piece q) r (step (into p) (tok_of_piece q))
           → ((next : P) → part_from part_step ends size (Ok (goes next)) (token q behind) behind ≡ Err f → run step finish size (into next) behind ≡ Err f)
           → run step finish size (into p) (token q behind) ≡ Err f
-      on_step (Ok (goes next)) d e g h = ap (λ r. run_from step finish size (stamped q.start r) behind) g ∙ h next e
+      on_step (Ok (goes next)) d e g h = ap (λ r. run_from step finish size (stamp q.start r) behind) g ∙ h next e
       on_step (Ok (done w)) d e g h = cc
       on_step (Ok (done_before w)) d e g h = cc
       on_step (Err x) d e g h =
           let same : (code_of x, q.start) ≡ f = cc (e, part_failed (code_of x, q.start)) in
-          ap (λ r. run_from step finish size (stamped q.start r) behind) g ∙ ap (λ x. Err x) same
+          ap (λ r. run_from step finish size (stamp q.start r) behind) g ∙ ap (λ x. Err x) same
 
   pub part_ok : (size : ℕ) (source : Source) (p : P) (v : V) (rest : Source) → part part_step ends size p source ≡ Ok (v, rest)
       → run step finish size (into p) source ≡ run step finish size (there v) rest
@@ -129,7 +129,7 @@ module _ {P V : Type 0} (part_step : P → Tok → Result (Part P V) Halt) (ends
   ahead_from size (token q behind) here p v rest e =
       on_step (part_step p (tok_of_piece q)) e (before_only p (tok_of_piece q)) (λ next e. ahead_from size behind (token q behind) next v rest e)
     where
-      on_step : (r : Result (Part P V) Halt) → part_from part_step ends size (stamped q.start r) (token q behind) behind ≡ Ok (v, rest) → BeforeOnly Q (tok_of_piece q) r
+      on_step : (r : Result (Part P V) Halt) → part_from part_step ends size (stamp q.start r) (token q behind) behind ≡ Ok (v, rest) → BeforeOnly Q (tok_of_piece q) r
           → ((next : P) → part_from part_step ends size (Ok (goes next)) (token q behind) behind ≡ Ok (v, rest) → Ahead Q rest) → Ahead Q rest
       on_step (Ok (goes next)) e b h = h next e
       on_step (Ok (done w)) e b h = absurd b

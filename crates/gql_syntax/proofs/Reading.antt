@@ -8,9 +8,10 @@ use Rattle.gql_ast.specs.declared.fault.ParseFault.TheVariants.{Syntax}
 use Rattle.gql_ast.specs.declared.fault.SyntaxFault.{SyntaxFault}
 use Rattle.gql_ast.specs.declared.place.FilePlace.{FilePlace}
 use Rattle.gql_syntax.specs.FirstFault.{Grammar, Leads, Spells, Shallow, Begins, Unexpected, TooDeep, IsFirstFault}
-use Rattle.gql_syntax.specs.Places.{placed}
-use Rattle.gql_syntax.specs.Run.{Halt, unexpected, too_deep, code_of, Stopped, stamped, at_end, run_from, run}
+use Rattle.gql_syntax.specs.Places.{place_nodes}
+use Rattle.gql_syntax.specs.Run.{Halt, unexpected, too_deep, code_of, Stopped, stamp, at_end, run_from, run}
 use Rattle.gql_syntax.specs.Texts.{nesting_limit, IsTree, FaultAtOffset, not_utf8, IsParseFault}
+use Rattle.gql_syntax.proofs.Forms.{AreToks, AreAhead, toks-append, toks_form, read_form, forms}
 use Rattle.gql_syntax.proofs.Laws.{Leveled, Machine, Laws, reach_from, reach, Finishes, CanEnd, Stepped}
 
 abbrev pub toks : List Leveled → List Tok
@@ -141,34 +142,35 @@ module _ {S V : Type 0} (g : Grammar V) (m : Machine S V) (laws : Laws g m) wher
 
   -- what was read to the end is written so
   written_whole : (limit : ℕ) (read : List Leveled) (s : S) (v : V) → Came m limit read s → m.finish s ≡ Some v
-      → (g.tokens v ≡ toks read) × (g.levels v ≡ levels_read read) × g.Formed v × Shallow limit (g.levels v)
+      → (g.tokens v ≡ toks read) × (g.levels v ≡ levels_read read) × (AreToks (toks read) → g.Formed v) × Shallow limit (g.levels v)
   written_whole limit read s v c e =
       let w = laws.written limit s v c.seated e in
       let same : m.so_far s [] ≡ read = c.front [] ∙ append-nil read in
       let ls : g.levels v ≡ levels_read read = sym w.levels ∙ ap levels_read same in
-      (sym w.tokens ∙ ap toks same, ls, w.formed, subst (λ ls. Shallow limit ls) (sym ls) c.shallow)
+      let ts : g.tokens v ≡ toks read = sym w.tokens ∙ ap toks same in
+      (ts, ls, (λ f. w.formed (subst AreToks (sym ts) f)), subst (λ ls. Shallow limit ls) (sym ls) c.shallow)
 
   -- ---- a text that is read to its end
 
   pub found_from : (limit size : ℕ) (source : Source) (read : List Leveled) (s : S) (v : V) → Came m limit read s
       → run (m.step limit) m.finish size s source ≡ Ok v
-      → (option_map (λ ts. toks read ++ ts) (toks_of source) ≡ Some (g.tokens v)) × g.Formed v × Shallow limit (g.levels v)
+      → (option_map (λ ts. toks read ++ ts) (toks_of source) ≡ Some (g.tokens v)) × (AreToks (g.tokens v) → g.Formed v) × Shallow limit (g.levels v)
   found_from limit size ended read s v c e = on_end (m.finish s) refl e
     where
-      on_end : (r : Option V) → m.finish s ≡ r → at_end size r ≡ Ok v → (Some (toks read ++ []) ≡ Some (g.tokens v)) × g.Formed v × Shallow limit (g.levels v)
+      on_end : (r : Option V) → m.finish s ≡ r → at_end size r ≡ Ok v → (Some (toks read ++ []) ≡ Some (g.tokens v)) × (AreToks (g.tokens v) → g.Formed v) × Shallow limit (g.levels v)
       on_end (Some w) d e =
           let same : w ≡ v = cc in
           let whole = written_whole limit read s v c (d ∙ ap (λ x. Some x) same) in
-          (ap (λ x. Some x) (append-nil (toks read) ∙ sym whole.0), whole.2, whole.3)
+          (ap (λ x. Some x) (append-nil (toks read) ∙ sym whole.0), (λ f. whole.2 (subst AreToks whole.0 f)), whole.3)
       on_end None d e = cc
   found_from limit size (faulty code at) read s v c e = cc
   found_from limit size (token p rest) read s v c e =
       on_step (m.step limit s (tok_of_piece p)) refl e (λ next c e. found_from limit size rest (read ++ (tok_of_piece p, m.level_at s (tok_of_piece p)) ∷ []) next v c e)
     where
-      on_step : (r : Result S Halt) → m.step limit s (tok_of_piece p) ≡ r → run_from (m.step limit) m.finish size (stamped p.start r) rest ≡ Ok v
+      on_step : (r : Result S Halt) → m.step limit s (tok_of_piece p) ≡ r → run_from (m.step limit) m.finish size (stamp p.start r) rest ≡ Ok v
           → ((next : S) → Came m limit (read ++ (tok_of_piece p, m.level_at s (tok_of_piece p)) ∷ []) next → run (m.step limit) m.finish size next rest ≡ Ok v
-          → (option_map (λ ts. toks (read ++ (tok_of_piece p, m.level_at s (tok_of_piece p)) ∷ []) ++ ts) (toks_of rest) ≡ Some (g.tokens v)) × g.Formed v × Shallow limit (g.levels v))
-          → (option_map (λ ts. toks read ++ ts) (toks_of (token p rest)) ≡ Some (g.tokens v)) × g.Formed v × Shallow limit (g.levels v)
+          → (option_map (λ ts. toks (read ++ (tok_of_piece p, m.level_at s (tok_of_piece p)) ∷ []) ++ ts) (toks_of rest) ≡ Some (g.tokens v)) × (AreToks (g.tokens v) → g.Formed v) × Shallow limit (g.levels v))
+          → (option_map (λ ts. toks read ++ ts) (toks_of (token p rest)) ≡ Some (g.tokens v)) × (AreToks (g.tokens v) → g.Formed v) × Shallow limit (g.levels v)
       on_step (Ok next) d e h =
           let more = h next (came_step limit read s (tok_of_piece p) next c d) e in
           (one_more (toks_of rest) ∙ more.0, more.1, more.2)
@@ -182,11 +184,12 @@ module _ {S V : Type 0} (g : Grammar V) (m : Machine S V) (laws : Laws g m) wher
               ∙ ap (λ w. w ++ ts) (sym (map-append (λ (p : Leveled). p.0) read ((tok_of_piece p, m.level_at s (tok_of_piece p)) ∷ []))))
       on_step (Err f) d e h = cc
 
-  pub found : (limit size : ℕ) (source : Source) (v : V) → run (m.step limit) m.finish size (m.start limit) source ≡ Ok v
+  pub found : (limit size : ℕ) (source : Source) (v : V) → AreAhead source → run (m.step limit) m.finish size (m.start limit) source ≡ Ok v
       → (toks_of source ≡ Some (g.tokens v)) × g.Formed v × Shallow limit (g.levels v)
-  found limit size source v e =
+  found limit size source v a e =
       let whole = found_from limit size source [] (m.start limit) v (came_start limit) e in
-      (same (toks_of source) ∙ whole.0, whole.1, whole.2)
+      let tokens : toks_of source ≡ Some (g.tokens v) = same (toks_of source) ∙ whole.0 in
+      (tokens, whole.1 (toks_form source (g.tokens v) a tokens), whole.2)
     where
       same : (o : Option (List Tok)) → o ≡ option_map (λ ts. [] ++ ts) o
       same None = refl
@@ -207,7 +210,7 @@ module _ {S V : Type 0} (g : Grammar V) (m : Machine S V) (laws : Laws g m) wher
     where
       on_step : (us : List Tok) → toks_of rest ≡ Some us → (r : Result S Halt) → m.step limit s (tok_of_piece p) ≡ r → reach_from (m.step limit) r us ≡ Ok f.last
           → ((us : List Tok) (next : S) → toks_of rest ≡ Some us → reach (m.step limit) next us ≡ Ok f.last → run (m.step limit) m.finish size next rest ≡ Ok v) → run (m.step limit) m.finish size s (token p rest) ≡ Ok v
-      on_step us b (Ok next) d e h = ap (λ r. run_from (m.step limit) m.finish size (stamped p.start r) rest) d ∙ h us next b e
+      on_step us b (Ok next) d e h = ap (λ r. run_from (m.step limit) m.finish size (stamp p.start r) rest) d ∙ h us next b e
       on_step us b (Err x) d e h = cc
 
       on_rest : (o : Option (List Tok)) → toks_of rest ≡ o → option_map (λ ts. tok_of_piece p ∷ ts) o ≡ Some ts → ((us : List Tok) (next : S) → toks_of rest ≡ Some us → reach (m.step limit) next us ≡ Ok f.last → run (m.step limit) m.finish size next rest ≡ Ok v) → run (m.step limit) m.finish size s (token p rest) ≡ Ok v
@@ -272,26 +275,27 @@ module _ {S V : Type 0} (g : Grammar V) (m : Machine S V) (laws : Laws g m) wher
     more : List ℕ
     levels : g.levels tree ≡ levels_read read ++ more
 
-  text_from : (limit : ℕ) (read : List Leveled) (s : S) → Came m limit read s → Text limit read
-  text_from limit read s c = of_end (laws.ends limit s c.seated)
+  text_from : (limit : ℕ) (read : List Leveled) (s : S) → Came m limit read s → AreToks (toks read) → Text limit read
+  text_from limit read s c f = of_end (laws.ends limit s c.seated)
     where
       of_end : CanEnd m (1 + limit) (m.lift 1 s) → Text limit read
       of_end e =
           let more : GoesOn m (1 + limit) read e.finishes.last e.behind = goes_on (1 + limit) read (m.lift 1 s) e.behind e.finishes.last (came_lift 1 limit read s c) e.finishes.reached in
           let whole = written_whole (1 + limit) (read ++ more.more) e.finishes.last e.tree more.came e.finishes.finished in
+          let split : toks (read ++ more.more) ≡ toks read ++ e.behind = map-append (λ (p : Leveled). p.0) read more.more ∙ ap (λ w. toks read ++ w) more.tokens in
           record {
             behind = e.behind;
             tree = e.tree;
             spells = record {
-              spelled = whole.0 ∙ map-append (λ (p : Leveled). p.0) read more.more ∙ ap (λ w. toks read ++ w) more.tokens;
-              formed = whole.2;
+              spelled = whole.0 ∙ split;
+              formed = whole.2 (subst AreToks (sym split) (toks-append (toks read) e.behind f e.forms));
             };
             more = levels_read more.more;
             levels = whole.1 ∙ map-append (λ (p : Leveled). p.1) read more.more;
           }
 
-  pub begins_from : (limit : ℕ) (read : List Leveled) (s : S) → Came m limit read s → Begins g limit (toks read)
-  begins_from limit read s c = of_text (text_from limit read s c)
+  pub begins_from : (limit : ℕ) (read : List Leveled) (s : S) → Came m limit read s → AreToks (toks read) → Begins g limit (toks read)
+  begins_from limit read s c f = of_text (text_from limit read s c f)
     where
       of_text : Text limit read → Begins g limit (toks read)
       of_text x = record {
@@ -304,8 +308,9 @@ module _ {S V : Type 0} (g : Grammar V) (m : Machine S V) (laws : Laws g m) wher
             c.shallow;
       }
 
-  stops_too_deep : (limit : ℕ) (read : List Leveled) (s : S) (t : Tok) → Came m limit read s → m.step limit s t ≡ Err too_deep → TooDeep g limit (toks read) t
-  stops_too_deep limit read s t c d = of_step (laws.lift_too_deep limit s t d)
+  stops_too_deep : (limit : ℕ) (read : List Leveled) (s : S) (t : Tok) → Came m limit read s → AreToks (toks read ++ t ∷ []) → m.step limit s t ≡ Err too_deep
+      → TooDeep g limit (toks read) t
+  stops_too_deep limit read s t c f d = of_step (laws.lift_too_deep limit s t d)
     where
       opened : (more : List Tok) (v : V) → (k : ℕ) × Reads limit k s (t ∷ more) v → slice_index (g.levels v) (length (toks read)) ≡ m.level_at s t
       opened more v r = on_step (m.step (r.0 + limit) (m.lift r.0 s) t) refl r.1.reached
@@ -327,7 +332,8 @@ module _ {S V : Type 0} (g : Grammar V) (m : Machine S V) (laws : Laws g m) wher
 
       of_step : Stepped m (1 + limit) (m.lift 1 s) t → TooDeep g limit (toks read) t
       of_step n =
-          let x = text_from (1 + limit) (read ++ (t, m.level_at (m.lift 1 s) t) ∷ []) n.next (came_step (1 + limit) read (m.lift 1 s) t n.next (came_lift 1 limit read s c) n.stepped) in
+          let x = text_from (1 + limit) (read ++ (t, m.level_at (m.lift 1 s) t) ∷ []) n.next (came_step (1 + limit) read (m.lift 1 s) t n.next (came_lift 1 limit read s c) n.stepped)
+          (subst AreToks (sym (map-append (λ (p : Leveled). p.0) read ((t, m.level_at (m.lift 1 s) t) ∷ []))) f) in
           record {
             behind = x.behind;
             tree = x.tree;
@@ -337,9 +343,9 @@ module _ {S V : Type 0} (g : Grammar V) (m : Machine S V) (laws : Laws g m) wher
             deep = λ more v h. subst (λ l. limit < l) (sym (opened more v (reads limit read s (t ∷ more) v c h))) (laws.deep limit s t c.seated d);
           }
 
-  pub fault_from : (limit size : ℕ) (whole source : Source) (read : List Leveled) (s : S) (code at : ℕ) → Came m limit read s → Leads (toks read) whole source
+  pub fault_from : (limit size : ℕ) (whole source : Source) (read : List Leveled) (s : S) (code at : ℕ) → AreAhead whole → Came m limit read s → Leads (toks read) whole source
       → run (m.step limit) m.finish size s source ≡ Err (code, at) → IsFirstFault g limit size whole code at
-  fault_from limit size whole ended read s code at c l e = on_end (m.finish s) refl e
+  fault_from limit size whole ended read s code at a c l e = on_end (m.finish s) refl e
     where
       on_end : (r : Option V) → m.finish s ≡ r → at_end size r ≡ Err (code, at) → IsFirstFault g limit size whole code at
       on_end (Some w) d e = cc
@@ -347,23 +353,23 @@ module _ {S V : Type 0} (g : Grammar V) (m : Machine S V) (laws : Laws g m) wher
         read = toks read;
         rest = ended;
         leads = l;
-        begins = begins_from limit read s c;
+        begins = begins_from limit read s c (read_form (toks read) whole ended a l);
         fault = (ap (λ (p : Stopped). p.0) same, ap (λ (p : Stopped). p.1) same, ends_none limit read s c d);
       }
-  fault_from limit size whole (faulty a b) read s code at c l e = let same : (code, at) ≡ (a, b) = cc e in record {
+  fault_from limit size whole (faulty d b) read s code at a c l e = let same : (code, at) ≡ (d, b) = cc e in record {
     read = toks read;
-    rest = faulty a b;
+    rest = faulty d b;
     leads = l;
-    begins = begins_from limit read s c;
+    begins = begins_from limit read s c (read_form (toks read) whole (faulty d b) a l);
     fault = (ap (λ (p : Stopped). p.0) same, ap (λ (p : Stopped). p.1) same);
   }
-  fault_from limit size whole (token p rest) read s code at c l e = on_step (m.step limit s (tok_of_piece p)) refl e
-      (λ next c l e. fault_from limit size whole rest (read ++ (tok_of_piece p, m.level_at s (tok_of_piece p)) ∷ []) next code at c l e)
+  fault_from limit size whole (token p rest) read s code at a c l e = on_step (m.step limit s (tok_of_piece p)) refl e
+      (λ next c l e. fault_from limit size whole rest (read ++ (tok_of_piece p, m.level_at s (tok_of_piece p)) ∷ []) next code at a c l e)
     where
       run_failed : (a b : ℕ) → run_from (m.step limit) m.finish size (Err (a, b)) rest ≡ Err (a, b)
       run_failed a b = refl
 
-      on_step : (r : Result S Halt) → m.step limit s (tok_of_piece p) ≡ r → run_from (m.step limit) m.finish size (stamped p.start r) rest ≡ Err (code, at)
+      on_step : (r : Result S Halt) → m.step limit s (tok_of_piece p) ≡ r → run_from (m.step limit) m.finish size (stamp p.start r) rest ≡ Err (code, at)
           → ((next : S) → Came m limit (read ++ (tok_of_piece p, m.level_at s (tok_of_piece p)) ∷ []) next → Leads (toks (read ++ (tok_of_piece p, m.level_at s (tok_of_piece p)) ∷ [])) whole rest
           → run (m.step limit) m.finish size next rest ≡ Err (code, at) → IsFirstFault g limit size whole code at)
           → IsFirstFault g limit size whole code at
@@ -375,20 +381,27 @@ module _ {S V : Type 0} (g : Grammar V) (m : Machine S V) (laws : Laws g m) wher
         read = toks read;
         rest = token p rest;
         leads = l;
-        begins = begins_from limit read s c;
+        begins = begins_from limit read s c (read_form (toks read) whole (token p rest) a l);
         fault = (ap (λ (p : Stopped). p.1) same, inl (ap (λ (p : Stopped). p.0) same, stops_unexpected limit read s (tok_of_piece p) c d));
       }
       on_step (Err too_deep) d e h = let same : (code, at) ≡ (code_of too_deep, p.start) = cc (e, run_failed (code_of too_deep) p.start) in record {
         read = toks read;
         rest = token p rest;
         leads = l;
-        begins = begins_from limit read s c;
-        fault = (ap (λ (p : Stopped). p.1) same, inr (ap (λ (p : Stopped). p.0) same, stops_too_deep limit read s (tok_of_piece p) c d));
+        begins = begins_from limit read s c (read_form (toks read) whole (token p rest) a l);
+        fault = (
+          ap (λ (p : Stopped). p.1) same,
+          inr (
+            ap (λ (p : Stopped). p.0) same,
+            stops_too_deep limit read s (tok_of_piece p) c
+                (read_form (toks read ++ tok_of_piece p ∷ []) whole rest a (leads-push (toks read) (tok_of_piece p) whole (token p rest) rest l (refl, refl))) d,
+          ),
+        );
       }
 
-  pub fault : (limit size : ℕ) (source : Source) (code at : ℕ) → run (m.step limit) m.finish size (m.start limit) source ≡ Err (code, at)
+  pub fault : (limit size : ℕ) (source : Source) (code at : ℕ) → AreAhead source → run (m.step limit) m.finish size (m.start limit) source ≡ Err (code, at)
       → IsFirstFault g limit size source code at
-  fault limit size source code at e = fault_from limit size source source [] (m.start limit) code at (came_start limit) refl e
+  fault limit size source code at a e = fault_from limit size source source [] (m.start limit) code at a (came_start limit) refl e
 
   -- ---- the text of a file
 
@@ -396,9 +409,9 @@ module _ {S V : Type 0} (g : Grammar V) (m : Machine S V) (laws : Laws g m) wher
   read_text text = run (m.step nesting_limit) m.finish (length text) (m.start nesting_limit) (lexed 0 text)
 
   pub tree_found : (nodes : V → List ℕ) (file : ℕ) (text : List ℕ) (v : V) (places : List FilePlace) → IsUtf8 text → read_text text ≡ Ok v
-      → places ≡ placed file text [] (nodes v) (lexed 0 text) → IsTree g nodes file text v places
+      → places ≡ place_nodes file text [] (nodes v) (lexed 0 text) → IsTree g nodes file text v places
   tree_found nodes file text v places u e p =
-      let f = found nesting_limit (length text) (lexed 0 text) v e in
+      let f = found nesting_limit (length text) (lexed 0 text) v (forms text u) e in
       record { utf8 = u; tokens = f.0; formed = f.1; shallow = f.2; places = p }
 
   pub tree_only : (nodes : V → List ℕ) (file : ℕ) (text : List ℕ) (v : V) (places : List FilePlace) → IsTree g nodes file text v places → read_text text ≡ Ok v
@@ -406,7 +419,7 @@ module _ {S V : Type 0} (g : Grammar V) (m : Machine S V) (laws : Laws g m) wher
 
   pub fault_found : (text : List ℕ) (f : SyntaxFault) (at : ℕ) → IsUtf8 text → read_text text ≡ Err (f.code, at) → f.line ≡ (place_at text at).line → f.column ≡ (place_at text at).column
       → FaultAtOffset g text f
-  fault_found text f at u e l c = record { at = at; utf8 = u; first = fault nesting_limit (length text) (lexed 0 text) f.code at e; line = l; column = c }
+  fault_found text f at u e l c = record { at = at; utf8 = u; first = fault nesting_limit (length text) (lexed 0 text) f.code at (forms text u) e; line = l; column = c }
 
   -- a text has at most one tree
   pub one_tree : (nodes : V → List ℕ) (file : ℕ) (text : List ℕ) (v w : V) (places others : List FilePlace)

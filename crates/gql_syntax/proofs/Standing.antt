@@ -4,7 +4,8 @@ use Rattle.std.proofs.Common.{◌≡◌, ℕ, ◌+◌, Bool, false, List, [], �
 use Rattle.gql_lex.specs.Toks as tok
 use Rattle.gql_lex.specs.Toks.{Tok}
 use Rattle.gql_ast.specs.Value.{Val, members_of}
-use Rattle.gql_syntax.specs.Formed.{FormedValues, FormedMembers, FormedArguments, FormedDirectives, MayBeNull, FormedType}
+use Rattle.gql_syntax.proofs.Shapes.{ShapedValues, ShapedMembers, ShapedArguments, ShapedDirectives, ShapedType}
+use Rattle.gql_syntax.specs.Formed.{MayBeNull}
 use Rattle.gql_syntax.specs.Machine.{Place, outer, item, of_member, Reading, want, dollar, items, members, named, Given, Arguing, first, called, inside, more, Applied, Directing, further, at_name, applied, arguing, Holder, whole, listed, Typing, want_type, typed, closing}
 use Rattle.gql_syntax.specs.Run.{Halt, unexpected, too_deep}
 use Rattle.gql_syntax.specs.Spelling.{Mark, spell_values, spell_members, spell_directives, spell_type}
@@ -100,8 +101,8 @@ module _ {K : Type 0} (G : Ground K) where
   -- the room and what is open make up the limit, and what was read is formed
   abbrev pub SeatedPlace : (limit : ℕ) → Place K → Type 0
   SeatedPlace limit (outer k) = G.Seated limit k
-  SeatedPlace limit (item c room vs p) = (room + (place_level p + 1) ≡ limit) × (c ≡ place_constant p) × FormedValues c vs × SeatedPlace limit p
-  SeatedPlace limit (of_member c room ms n p) = (room + (place_level p + 1) ≡ limit) × (c ≡ place_constant p) × FormedMembers c ms × SeatedPlace limit p
+  SeatedPlace limit (item c room vs p) = (room + (place_level p + 1) ≡ limit) × (c ≡ place_constant p) × ShapedValues c vs × SeatedPlace limit p
+  SeatedPlace limit (of_member c room ms n p) = (room + (place_level p + 1) ≡ limit) × (c ≡ place_constant p) × ShapedMembers c ms × SeatedPlace limit p
 
   abbrev pub SeatedValue : (limit : ℕ) → Reading K → Type 0
   SeatedValue limit (want c room p) = (room + place_level p ≡ limit) × (c ≡ place_constant p) × SeatedPlace limit p
@@ -134,7 +135,7 @@ module _ {A : Type 0} (G : Ground A) where
     front = λ g ts. G.front g.on ((tok.open_paren, 0) ∷ spell_members leveled (members_of g.before) 0 ((tok.name g.name, 0) ∷ (tok.colon, 0) ∷ ts));
     constant = λ g. g.constant;
     lift = λ k g. record { constant = g.constant; before = g.before; name = g.name; on = G.lift k g.on };
-    Seated = λ limit g. (g.constant ≡ G.constant g.on) × FormedArguments g.constant g.before × G.Seated limit g.on;
+    Seated = λ limit g. (g.constant ≡ G.constant g.on) × ShapedArguments g.constant g.before × G.Seated limit g.on;
   }
 
   abbrev pub arguments_so_far : Arguing A → List Leveled → List Leveled
@@ -153,7 +154,7 @@ module _ {A : Type 0} (G : Ground A) where
   SeatedArguments limit (first c a) = (c ≡ G.constant a) × G.Seated limit a
   SeatedArguments limit (called g) = given_ground.Seated limit g
   SeatedArguments limit (inside r) = SeatedValue given_ground limit r
-  SeatedArguments limit (more c xs a) = (c ≡ G.constant a) × SomeGiven xs × FormedArguments c xs × G.Seated limit a
+  SeatedArguments limit (more c xs a) = (c ≡ G.constant a) × SomeGiven xs × ShapedArguments c xs × G.Seated limit a
 
 -- ---- directives; `passed` is the number of what a token opens that is passed on
 
@@ -181,7 +182,7 @@ module _ {D : Type 0} (G : Ground D) where
     front = λ a ts. G.front a.on (spell_directives leveled a.before ((tok.at_sign, 0) ∷ (tok.name a.name, 0) ∷ ts));
     constant = λ a. a.constant;
     lift = λ k a. record { constant = a.constant; before = a.before; name = a.name; on = G.lift k a.on };
-    Seated = λ limit a. (a.constant ≡ G.constant a.on) × FormedDirectives a.constant a.before × G.Seated limit a.on;
+    Seated = λ limit a. (a.constant ≡ G.constant a.on) × ShapedDirectives a.constant a.before × G.Seated limit a.on;
   }
 
   abbrev pub directives_so_far : Directing D → List Leveled → List Leveled
@@ -197,8 +198,8 @@ module _ {D : Type 0} (G : Ground D) where
   lift_directives k (arguing r) = arguing (lift_arguments applied_ground k r)
 
   abbrev pub SeatedDirectives : (limit : ℕ) → Directing D → Type 0
-  SeatedDirectives limit (further c ds d) = (c ≡ G.constant d) × FormedDirectives c ds × G.Seated limit d
-  SeatedDirectives limit (at_name c ds d) = (c ≡ G.constant d) × FormedDirectives c ds × G.Seated limit d
+  SeatedDirectives limit (further c ds d) = (c ≡ G.constant d) × ShapedDirectives c ds × G.Seated limit d
+  SeatedDirectives limit (at_name c ds d) = (c ≡ G.constant d) × ShapedDirectives c ds × G.Seated limit d
   SeatedDirectives limit (applied a) = applied_ground.Seated limit a
   SeatedDirectives limit (arguing r) = SeatedArguments applied_ground limit r
 
@@ -257,8 +258,8 @@ module _ {K : Type 0} (G : Ground K) where
 
   abbrev pub SeatedType : (limit : ℕ) → Typing K → Type 0
   SeatedType limit (want_type room h) = (room + holder_level h ≡ limit) × SeatedHolder limit h
-  SeatedType limit (typed t h) = MayBeNull t × FormedType t × SeatedHolder limit h
-  SeatedType limit (closing t h) = FormedType t × SeatedHolder limit h
+  SeatedType limit (typed t h) = MayBeNull t × ShapedType t × SeatedHolder limit h
+  SeatedType limit (closing t h) = ShapedType t × SeatedHolder limit h
 
 -- ---- steps
 

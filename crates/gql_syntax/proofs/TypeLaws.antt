@@ -5,10 +5,12 @@ use Rattle.gql_lex.specs.Toks as tok
 use Rattle.gql_lex.specs.Toks.{Tok}
 use Rattle.gql_ast.specs.Ty.{Ty, named, list, non_null}
 use Rattle.gql_syntax.specs.FirstFault.{Shallow}
-use Rattle.gql_syntax.specs.Formed.{MayBeNull, FormedType}
+use Rattle.gql_syntax.proofs.Shapes.{ShapedType}
+use Rattle.gql_syntax.specs.Formed.{MayBeNull}
 use Rattle.gql_syntax.specs.Machine.{Holder, whole, listed, Typing, want_type, typed, closing, open_type, put_type, type_step}
 use Rattle.gql_syntax.specs.Run.{Halt, unexpected, too_deep}
 use Rattle.gql_syntax.specs.Spelling.{spell_type}
+use Rattle.gql_syntax.proofs.Forms.{AreToks}
 use Rattle.gql_syntax.proofs.Laws.{Leveled, reach_from, reach}
 use Rattle.gql_syntax.proofs.Marks.{above_any}
 use Rattle.gql_syntax.proofs.Reading.{reach-append}
@@ -19,7 +21,7 @@ module _ {S K : Type 0} (G : Ground K) (passed : K → Tok → ℕ) (into : Typi
   module _ (limit : ℕ) (so_far : S → List Leveled → List Leveled)
       (at_into : (r : Typing K) (ts : List Leveled) → so_far (into r) ts ≡ type_so_far G r ts)
       (at_hand : (k : K) (t : Ty) (ts : List Leveled) → so_far (hand k t) ts ≡ G.front k (spell_type leveled t 0 0 ts))
-      (at_pass : (k : K) (t : Ty) (x : Tok) → G.Seated limit k → FormedType t
+      (at_pass : (k : K) (t : Ty) (x : Tok) → G.Seated limit k → ShapedType t
       → IfOk (pass k t x) (λ next. (ts : List Leveled) → so_far next ts ≡ G.front k (spell_type leveled t 0 0 ((x, passed k x) ∷ ts)))) where
     banged : (t : Ty) (around : ℕ) (ts : List Leveled) → spell_type leveled (non_null t) around 0 ts ≡ spell_type leveled t around 0 ((tok.bang, 0) ∷ ts)
     banged t around ts = above_any leveled (λ t level n k. refl) t around 1 0 ((tok.bang, 0) ∷ ts)
@@ -79,9 +81,9 @@ module _ {S K : Type 0} (G : Ground K) (passed : K → Tok → ℕ) (into : Typi
 
   module _ (limit : ℕ) (Seated : S → Type 0)
       (at_into : (r : Typing K) → SeatedType G limit r → Seated (into r))
-      (at_hand : (k : K) (t : Ty) → G.Seated limit k → FormedType t → Seated (hand k t))
-      (at_pass : (k : K) (t : Ty) (x : Tok) → G.Seated limit k → FormedType t → IfOk (pass k t x) Seated) where
-    put_type_seated : (t : Ty) (h : Holder K) → SeatedHolder G limit h → FormedType t → Seated (put_type into hand pass t h)
+      (at_hand : (k : K) (t : Ty) → G.Seated limit k → ShapedType t → Seated (hand k t))
+      (at_pass : (k : K) (t : Ty) (x : Tok) → G.Seated limit k → ShapedType t → IfOk (pass k t x) Seated) where
+    put_type_seated : (t : Ty) (h : Holder K) → SeatedHolder G limit h → ShapedType t → Seated (put_type into hand pass t h)
     put_type_seated t (whole k) s f = at_hand k t s f
     put_type_seated t (listed h) s f = at_into (closing t h) (f, s)
 
@@ -225,6 +227,15 @@ type_end (want_type room h) = tok.name (codes "a") ∷ close_holders h
 type_end (typed t h) = close_holders h
 type_end (closing t h) = tok.close_bracket ∷ close_holders h
 
+close_holders-form : {K : Type 0} (h : Holder K) → AreToks (close_holders h)
+close_holders-form (whole k) = tt
+close_holders-form (listed h) = (tt, close_holders-form h)
+
+pub type_end-form : {K : Type 0} (r : Typing K) → AreToks (type_end r)
+type_end-form (want_type room h) = (refl, close_holders-form h)
+type_end-form (typed t h) = close_holders-form h
+type_end-form (closing t h) = (tt, close_holders-form h)
+
 module _ {S K : Type 0} (into : Typing K → S) (hand : K → Ty → S) (pass : K → Ty → Tok → Result S Halt) (step : S → Tok → Result S Halt)
     (agrees : (r : Typing K) (x : Tok) → step (into r) x ≡ type_step into hand pass r x) where
   pub type_on_token : (r : Typing K) (x : Tok) (ts : List Tok) → reach step (into r) (x ∷ ts) ≡ reach_from step (type_step into hand pass r x) ts
@@ -246,7 +257,7 @@ module _ {S K : Type 0} (into : Typing K → S) (hand : K → Ty → S) (pass : 
   on_bang (list t) h ts m = type_on_token (typed (list t) h) tok.bang ts
   on_bang (non_null t) h ts m = absurd m
 
-  pub reads_type : (t : Ty) (room : ℕ) (h : Holder K) (around above : ℕ) (ts : List Tok) → FormedType t → list_depth t ≤ room
+  pub reads_type : (t : Ty) (room : ℕ) (h : Holder K) (around above : ℕ) (ts : List Tok) → ShapedType t → list_depth t ≤ room
       → reach step (into (want_type room h)) (spell_type token_mark t around above ts) ≡ reach step (typed_at t h) ts
   reads_type (named n) room h around above ts f d = type_on_token (want_type room h) (tok.name n) ts
   reads_type (list t) zero h around above ts f d = absurd (omega arith)
@@ -258,7 +269,7 @@ module _ {S K : Type 0} (into : Typing K → S) (hand : K → Ty → S) (pass : 
 
   -- a type before another token than `!`, where that token is taken as behind `hand`
   pub type_complete : ((k : K) (t : Ty) (x : Tok) → pass k t x ≡ step (hand k t) x)
-      → (t : Ty) (room : ℕ) (k : K) (around above : ℕ) (ts : List Tok) → NoBang ts → FormedType t → list_depth t ≤ room
+      → (t : Ty) (room : ℕ) (k : K) (around above : ℕ) (ts : List Tok) → NoBang ts → ShapedType t → list_depth t ≤ room
       → reach step (into (want_type room (whole k))) (spell_type token_mark t around above ts) ≡ reach step (hand k t) ts
   type_complete passes t room k around above [] n f d = absurd n
   type_complete passes t room k around above (x ∷ xs) n f d = reads_type t room (whole k) around above (x ∷ xs) f d ∙ behind t x n

@@ -7,13 +7,14 @@ use Rattle.gql_lex.specs.Toks as tok
 use Rattle.gql_lex.specs.Toks.{Tok}
 use Rattle.gql_ast.specs.Value.{Val, Vals, Members, variable, int, text, truth, null, enum, list, object, no_vals, val, no_members, member, val_depth, vals_depth, members_depth}
 use Rattle.gql_syntax.specs.FirstFault.{Shallow}
-use Rattle.gql_syntax.specs.Formed.{FormedValue, FormedValues, FormedMembers}
+use Rattle.gql_syntax.proofs.Shapes.{ShapedValue, ShapedValues, ShapedMembers}
 use Rattle.gql_syntax.specs.Machine.{Place, outer, item, of_member, Reading, want, dollar, items, members, named, vals_then, members_then, word_value, put, open_list, open_object, begin, value_step}
 use Rattle.gql_syntax.specs.Run.{Halt, unexpected, too_deep}
 use Rattle.gql_syntax.specs.Spelling.{spell_value, spell_values, spell_members}
 use Rattle.gql_syntax.specs.Words.{IsEnumName, true_word, false_word, null_word, truth_word}
+use Rattle.gql_syntax.proofs.Forms.{AreToks, zero_fits}
 use Rattle.gql_syntax.proofs.Laws.{Leveled, reach_from, reach}
-use Rattle.gql_syntax.proofs.Marks.{values-then, members-then, formed_values-then, formed_members-then}
+use Rattle.gql_syntax.proofs.Marks.{values-then, members-then, shaped_values-then, shaped_members-then}
 use Rattle.gql_syntax.proofs.Standing.{leveled, token_mark, level_mark, Ground, GroundLaws, place_level, begin_level, value_level, place_on, value_on, before, value_so_far, place_constant, lift_place, lift_value, SeatedPlace, SeatedValue, Lifts, Opens, IfTooDeep}
 
 -- ---- what is said of a step, of the state that it gives
@@ -69,18 +70,18 @@ spell_word n around ts = on_true (bytes_eq n true_word) refl
     on_true true e = ap (λ w. (tok.name w, 0) ∷ ts) (sym (spelled_true n e))
     on_true false e = on_false (bytes_eq n false_word) refl
 
-pub formed_word : (c : Bool) (n : List ℕ) → FormedValue c (word_value n)
-formed_word c n = on_true (bytes_eq n true_word) refl
+pub shaped_word : (c : Bool) (n : List ℕ) → ShapedValue c (word_value n)
+shaped_word c n = on_true (bytes_eq n true_word) refl
   where
-    on_null : bytes_eq n true_word ≡ false → bytes_eq n false_word ≡ false → (b : Bool) → bytes_eq n null_word ≡ b → FormedValue c (cond b null (enum n))
+    on_null : bytes_eq n true_word ≡ false → bytes_eq n false_word ≡ false → (b : Bool) → bytes_eq n null_word ≡ b → ShapedValue c (cond b null (enum n))
     on_null t f true e = tt
     on_null t f false e = record { no_true = t; no_false = f; no_null = e }
 
-    on_false : bytes_eq n true_word ≡ false → (b : Bool) → bytes_eq n false_word ≡ b → FormedValue c (cond b (truth false) (cond (bytes_eq n null_word) null (enum n)))
+    on_false : bytes_eq n true_word ≡ false → (b : Bool) → bytes_eq n false_word ≡ b → ShapedValue c (cond b (truth false) (cond (bytes_eq n null_word) null (enum n)))
     on_false t true e = tt
     on_false t false e = on_null t e (bytes_eq n null_word) refl
 
-    on_true : (b : Bool) → bytes_eq n true_word ≡ b → FormedValue c (cond b (truth true) (cond (bytes_eq n false_word) (truth false) (cond (bytes_eq n null_word) null (enum n))))
+    on_true : (b : Bool) → bytes_eq n true_word ≡ b → ShapedValue c (cond b (truth true) (cond (bytes_eq n false_word) (truth false) (cond (bytes_eq n null_word) null (enum n))))
     on_true true e = tt
     on_true false e = on_false e (bytes_eq n false_word) refl
 
@@ -187,11 +188,11 @@ module _ {S K : Type 0} (G : Ground K) (into : Reading K → S) (hand : K → Va
   -- what holds of the states of the whole
   module _ (limit : ℕ) (Seated : S → Type 0)
       (at_into : (r : Reading K) → SeatedValue G limit r → Seated (into r))
-      (at_hand : (k : K) (v : Val) → G.Seated limit k → FormedValue (G.constant k) v → Seated (hand k v)) where
-    put_seated : (v : Val) (p : Place K) → SeatedPlace G limit p → FormedValue (place_constant G p) v → Seated (put into hand v p)
+      (at_hand : (k : K) (v : Val) → G.Seated limit k → ShapedValue (G.constant k) v → Seated (hand k v)) where
+    put_seated : (v : Val) (p : Place K) → SeatedPlace G limit p → ShapedValue (place_constant G p) v → Seated (put into hand v p)
     put_seated v (outer k) h f = at_hand k v h f
-    put_seated v (item c room vs p) h f = at_into (items c room (vals_then vs v) p) (h.0, h.1, formed_values-then c vs v h.2 f, h.3)
-    put_seated v (of_member c room ms n p) h f = at_into (members c room (members_then ms n v) p) (h.0, h.1, formed_members-then c ms n v h.2 f, h.3)
+    put_seated v (item c room vs p) h f = at_into (items c room (vals_then vs v) p) (h.0, h.1, shaped_values-then c vs v h.2 f, h.3)
+    put_seated v (of_member c room ms n p) h f = at_into (members c room (members_then ms n v) p) (h.0, h.1, shaped_members-then c ms n v h.2 f, h.3)
 
     begin_seated : (c : Bool) (room : ℕ) (p : Place K) (t : Tok) → room + place_level p ≡ limit → c ≡ place_constant G p → SeatedPlace G limit p
         → IfOk (begin into hand c room p t) Seated
@@ -199,7 +200,7 @@ module _ {S K : Type 0} (G : Ground K) (into : Reading K → S) (hand : K → Va
     begin_seated true room p tok.dollar e d h = tt
     begin_seated c room p (tok.int n) e d h = put_seated (int n) p h tt
     begin_seated c room p (tok.text t) e d h = put_seated (text t) p h tt
-    begin_seated c room p (tok.name n) e d h = put_seated (word_value n) p h (formed_word (place_constant G p) n)
+    begin_seated c room p (tok.name n) e d h = put_seated (word_value n) p h (shaped_word (place_constant G p) n)
     begin_seated c zero p tok.open_bracket e d h = tt
     begin_seated c (suc room) p tok.open_bracket e d h = at_into (items c room no_vals p) (omega arith, d, tt, h)
     begin_seated c zero p tok.open_brace e d h = tt
@@ -210,10 +211,10 @@ module _ {S K : Type 0} (G : Ground K) (into : Reading K → S) (hand : K → Va
     value_seats (want c room p) t h = begin_seated c room p t h.0 h.1 h.2
     value_seats (dollar p) (tok.name n) h = put_seated (variable n) p h.1 h.0
     value_seats (dollar p) _ h = tt
-    value_seats (items c room vs p) tok.close_bracket h = put_seated (list vs) p h.3 (subst (λ c. FormedValues c vs) h.1 h.2)
+    value_seats (items c room vs p) tok.close_bracket h = put_seated (list vs) p h.3 (subst (λ c. ShapedValues c vs) h.1 h.2)
     value_seats (items c room vs p) t h = begin_seated c room (item c room vs p) t h.0 refl h
     value_seats (members c room ms p) (tok.name n) h = at_into (named c room ms n p) h
-    value_seats (members c room ms p) tok.close_brace h = put_seated (object ms) p h.3 (subst (λ c. FormedMembers c ms) h.1 h.2)
+    value_seats (members c room ms p) tok.close_brace h = put_seated (object ms) p h.3 (subst (λ c. ShapedMembers c ms) h.1 h.2)
     value_seats (members c room ms p) _ h = tt
     value_seats (named c room ms n p) tok.colon h = at_into (want c room (of_member c room ms n p)) (h.0, refl, h)
     value_seats (named c room ms n p) _ h = tt
@@ -387,6 +388,18 @@ value_end (items c room vs p) = tok.close_bracket ∷ close_places p
 value_end (members c room ms p) = tok.close_brace ∷ close_places p
 value_end (named c room ms n p) = tok.colon ∷ tok.int (pos 0) ∷ tok.close_brace ∷ close_places p
 
+close_places-form : {K : Type 0} (p : Place K) → AreToks (close_places p)
+close_places-form (outer k) = tt
+close_places-form (item c room vs p) = (tt, close_places-form p)
+close_places-form (of_member c room ms n p) = (tt, close_places-form p)
+
+pub value_end-form : {K : Type 0} (r : Reading K) → AreToks (value_end r)
+value_end-form (want c room p) = (zero_fits, close_places-form p)
+value_end-form (dollar p) = (refl, close_places-form p)
+value_end-form (items c room vs p) = (tt, close_places-form p)
+value_end-form (members c room ms p) = (tt, close_places-form p)
+value_end-form (named c room ms n p) = (tt, (zero_fits, (tt, close_places-form p)))
+
 abbrev NotClosing : Tok → Type 0
 NotClosing tok.close_bracket = ⊥
 NotClosing t = Unit {0}
@@ -409,7 +422,7 @@ module _ {S K : Type 0} (into : Reading K → S) (hand : K → Val → S) (step 
     -- a state in which a value may begin
     reads_value : (v : Val) (room : ℕ) (r : Reading K) (c : Bool) (p : Place K)
         → ((t : Tok) → NotClosing t → value_step into hand r t ≡ begin into hand c room p t)
-        → (around : ℕ) (ts : List Tok) → FormedValue c v → val_depth v ≤ room
+        → (around : ℕ) (ts : List Tok) → ShapedValue c v → val_depth v ≤ room
         → reach step (into r) (spell_value token_mark v around ts) ≡ reach step (put into hand v p) ts
     reads_value (variable n) room r c p b around ts f d =
         value_on_token r tok.dollar (tok.name n ∷ ts) ∙ ap (λ x. reach_from step x (tok.name n ∷ ts)) (b tok.dollar tt)
@@ -436,7 +449,7 @@ module _ {S K : Type 0} (into : Reading K → S) (hand : K → Val → S) (step 
         ∙ reads_members ms room no_members c p (around + 1) (tok.close_brace ∷ ts) f (omega arith)
         ∙ value_on_token (members c room ms p) tok.close_brace ts
 
-    reads_values : (vs : Vals) (room : ℕ) (there : Vals) (c : Bool) (p : Place K) (around : ℕ) (ts : List Tok) → FormedValues c vs → vals_depth vs ≤ room
+    reads_values : (vs : Vals) (room : ℕ) (there : Vals) (c : Bool) (p : Place K) (around : ℕ) (ts : List Tok) → ShapedValues c vs → vals_depth vs ≤ room
         → reach step (into (items c room there p)) (spell_values token_mark vs around ts) ≡ reach step (into (items c room (vals_joined there vs) p)) ts
     reads_values no_vals room there c p around ts f d = ap (λ vs. reach step (into (items c room vs p)) ts) (sym (vals-joined_none there))
     reads_values (val v vs) room there c p around ts f d =
@@ -444,7 +457,7 @@ module _ {S K : Type 0} (into : Reading K → S) (hand : K → Val → S) (step 
         ∙ reads_values vs room (vals_then there v) c p around ts f.1 (le_trans (le-max_right (val_depth v) (vals_depth vs)) d)
         ∙ ap (λ vs. reach step (into (items c room vs p)) ts) (vals-joined_then there v vs)
 
-    reads_members : (ms : Members) (room : ℕ) (there : Members) (c : Bool) (p : Place K) (around : ℕ) (ts : List Tok) → FormedMembers c ms → members_depth ms ≤ room
+    reads_members : (ms : Members) (room : ℕ) (there : Members) (c : Bool) (p : Place K) (around : ℕ) (ts : List Tok) → ShapedMembers c ms → members_depth ms ≤ room
         → reach step (into (members c room there p)) (spell_members token_mark ms around ts) ≡ reach step (into (members c room (members_joined there ms) p)) ts
     reads_members no_members room there c p around ts f d = ap (λ ms. reach step (into (members c room ms p)) ts) (sym (members-joined_none there))
     reads_members (member n v ms) room there c p around ts f d =
@@ -454,7 +467,7 @@ module _ {S K : Type 0} (into : Reading K → S) (hand : K → Val → S) (step 
         ∙ reads_members ms room (members_then there n v) c p around ts f.1 (le_trans (le-max_right (val_depth v) (members_depth ms)) d)
         ∙ ap (λ ms. reach step (into (members c room ms p)) ts) (members-joined_then there n v ms)
 
-  pub value_complete : (c : Bool) (room : ℕ) (p : Place K) (v : Val) (around : ℕ) (ts : List Tok) → FormedValue c v → val_depth v ≤ room
+  pub value_complete : (c : Bool) (room : ℕ) (p : Place K) (v : Val) (around : ℕ) (ts : List Tok) → ShapedValue c v → val_depth v ≤ room
       → reach step (into (want c room p)) (spell_value token_mark v around ts) ≡ reach step (put into hand v p) ts
   value_complete c room p v around ts f d = reads_value v room (want c room p) c p (λ t h. refl) around ts f d
 

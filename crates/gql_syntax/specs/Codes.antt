@@ -15,11 +15,3 @@ coded_ahead =
     code_by Stored (coded× (coded× coded_ℕ (coded_list coded_ℕ)) (coded× coded_source (coded_list place.the_row.coded)))
     (λ a. ((a.file, a.text), (a.source, a.places)))
     (λ q. record { file = q.0.0; text = q.0.1; source = q.1.0; places = q.1.1 }) (λ _. refl)
-
--- the offset in a text up to which it has been read
-pub record Located : Type 0 where
-  pub text : List ℕ
-  pub at : ℕ
-
-abbrev pub coded_located : Coded Located
-coded_located = code_by (List ℕ × ℕ) (coded× (coded_list coded_ℕ) coded_ℕ) (λ l. (l.text, l.at)) (λ q. record { text = q.0; at = q.1 }) (λ _. refl)

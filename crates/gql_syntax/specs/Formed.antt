@@ -7,17 +7,18 @@ use Rattle.gql_ast.specs.Ty.{Ty, named, non_null}
 use Rattle.gql_ast.specs.Ty as ty
 use Rattle.gql_ast.specs.declared.directive.Directive.{Directive}
 use Rattle.gql_ast.specs.declared.value.ValueTree.{ValueTree}
-use Rattle.gql_syntax.specs.Words.{IsEnumName}
+use Rattle.gql_syntax.specs.Words.{IsName, IsInt, IsEnumName}
 
--- no variable stands in a constant, and the name of an enum value is none of three words
+-- names are Names, an Int lies within 64 bits, no variable stands in a constant, and the name of an enum value is none of
+-- three words
 abbrev mutual
   pub FormedValue : (constant : Bool) → Val → Type 0
-  FormedValue c (variable n) = c ≡ false
-  FormedValue c (int n) = Unit {0}
+  FormedValue c (variable n) = (c ≡ false) × IsName n
+  FormedValue c (int n) = IsInt n
   FormedValue c (text t) = Unit {0}
   FormedValue c (truth b) = Unit {0}
   FormedValue c null = Unit {0}
-  FormedValue c (enum n) = IsEnumName n
+  FormedValue c (enum n) = IsName n × IsEnumName n
   FormedValue c (list vs) = FormedValues c vs
   FormedValue c (object ms) = FormedMembers c ms
 
@@ -27,13 +28,13 @@ abbrev mutual
 
   pub FormedMembers : (constant : Bool) → Members → Type 0
   FormedMembers c no_members = Unit {0}
-  FormedMembers c (member n v ms) = FormedValue c v × FormedMembers c ms
+  FormedMembers c (member n v ms) = IsName n × FormedValue c v × FormedMembers c ms
 
 abbrev pub FormedArguments : (constant : Bool) → List (List ℕ × Val) → Type 0
 FormedArguments c given = FormedMembers c (members_of given)
 
 abbrev pub FormedDirective : (constant : Bool) → Directive → Type 0
-FormedDirective c d = FormedArguments c d.arguments
+FormedDirective c d = IsName d.name × FormedArguments c d.arguments
 
 abbrev pub FormedDirectives : (constant : Bool) → List Directive → Type 0
 FormedDirectives c ds = AllByRecursion (FormedDirective c) ds
@@ -49,6 +50,6 @@ MayBeNull (ty.list t) = Unit {0}
 MayBeNull (non_null t) = ⊥
 
 abbrev pub FormedType : Ty → Type 0
-FormedType (named n) = Unit {0}
+FormedType (named n) = IsName n
 FormedType (ty.list t) = FormedType t
 FormedType (non_null t) = MayBeNull t × FormedType t

@@ -120,7 +120,7 @@ InOrder text from (faulty code at) = (from ≤ at) × IsCharBoundary text at
 InOrder text from (token p rest) = (from ≤ p.start) × IsCharBoundary text p.start × IsToken p.kind p.text × InOrder text p.start rest
 
 -- the place with this number stands there once more
-abbrev pub repeated : {A : Type 0} → (number : ℕ) → List A → List A
-repeated number [] = []
-repeated zero (x ∷ xs) = x ∷ x ∷ xs
-repeated (suc number) (x ∷ xs) = x ∷ repeated number xs
+abbrev pub repeat : {A : Type 0} → (number : ℕ) → List A → List A
+repeat number [] = []
+repeat zero (x ∷ xs) = x ∷ x ∷ xs
+repeat (suc number) (x ∷ xs) = x ∷ repeat number xs

@@ -6,7 +6,7 @@ use Rattle.gql_lex.specs.Toks.{Tok, tok_of_piece}
 use Rattle.gql_ast.specs.Value.{Val}
 use Rattle.gql_ast.specs.Ty.{Ty}
 use Rattle.gql_ast.specs.declared.directive.Directive.{Directive}
-use Rattle.gql_syntax.specs.Run.{Halt, unexpected, code_of, Stopped, stamped}
+use Rattle.gql_syntax.specs.Run.{Halt, unexpected, code_of, Stopped, stamp}
 use Rattle.gql_syntax.specs.Machine.{Reading, want, outer, value_step, Arguing, first, arguments_step, Directing, further, at_name, applied, arguing, with_arguments, directives_step, Typing, want_type, typed, whole, type_step}
 
 -- it goes on from a state; it is done behind the token; or it was done before the token
@@ -28,7 +28,7 @@ part_from step ends size (Ok (done_before v)) here ahead = Ok (v, here)
 part_from step ends size (Ok (goes s)) here ended = stops (ends s) ended (code_of unexpected, size)
 part_from step ends size (Ok (goes s)) here (faulty code at) = stops (ends s) (faulty code at) (code, at)
 part_from step ends size (Ok (goes s)) here (token p rest) =
-    part_from step ends size (stamped p.start (step s (tok_of_piece p))) (token p rest) rest
+    part_from step ends size (stamp p.start (step s (tok_of_piece p))) (token p rest) rest
 
 abbrev pub part : {S V : Type 0} → (step : S → Tok → Result (Part S V) Halt) → (ends : S → Option V) → (size : ℕ) → S → Source → Result (V × Source) Stopped
 part step ends size s ahead = part_from step ends size (Ok (goes s)) ahead ahead

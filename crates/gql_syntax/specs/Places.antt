@@ -9,11 +9,11 @@ abbrev pub file_place : (file : ℕ) → List ℕ → (at : ℕ) → FilePlace
 file_place file text at = record { file = file; line = (place_at text at).line; column = (place_at text at).column }
 
 -- behind the places that are there: of each token ahead its place, as many times as nodes begin at it
-abbrev pub placed : (file : ℕ) → List ℕ → List FilePlace → (nodes : List ℕ) → Source → List FilePlace
-placed file text there [] ahead = there
-placed file text there (n ∷ ns) ended = there
-placed file text there (n ∷ ns) (faulty code at) = there
-placed file text there (n ∷ ns) (token p rest) = placed file text (there ++ replicate n (file_place file text p.start)) ns rest
+abbrev pub place_nodes : (file : ℕ) → List ℕ → List FilePlace → (nodes : List ℕ) → Source → List FilePlace
+place_nodes file text there [] ahead = there
+place_nodes file text there (n ∷ ns) ended = there
+place_nodes file text there (n ∷ ns) (faulty code at) = there
+place_nodes file text there (n ∷ ns) (token p rest) = place_nodes file text (there ++ replicate n (file_place file text p.start)) ns rest
 
 -- what a cursor stands for: a file and its text, the tokens that lie ahead, and the places of the nodes before them
 pub record Ahead : Type 0 where
@@ -23,5 +23,5 @@ pub record Ahead : Type 0 where
   pub places : List FilePlace
 
 -- the places where so many nodes begin at each token ahead
-abbrev pub laid : List ℕ → Ahead → List FilePlace
-laid nodes c = placed c.file c.text c.places nodes c.source
+abbrev pub lay : List ℕ → Ahead → List FilePlace
+lay nodes c = place_nodes c.file c.text c.places nodes c.source

@@ -15,9 +15,9 @@ code_of too_deep = 8
 abbrev pub Stopped : Type 0
 Stopped = ℕ × ℕ
 
-abbrev pub stamped : {S : Type 0} → (at : ℕ) → Result S Halt → Result S Stopped
-stamped at (Ok s) = Ok s
-stamped at (Err h) = Err (code_of h, at)
+abbrev pub stamp : {S : Type 0} → (at : ℕ) → Result S Halt → Result S Stopped
+stamp at (Ok s) = Ok s
+stamp at (Err h) = Err (code_of h, at)
 
 -- the tokens end where the text does
 abbrev pub at_end : {A : Type 0} → (size : ℕ) → Option A → Result A Stopped
@@ -28,7 +28,7 @@ abbrev pub run_from : {S A : Type 0} → (step : S → Tok → Result S Halt) �
 run_from step done size (Err f) ahead = Err f
 run_from step done size (Ok s) ended = at_end size (done s)
 run_from step done size (Ok s) (faulty code at) = Err (code, at)
-run_from step done size (Ok s) (token p rest) = run_from step done size (stamped p.start (step s (tok_of_piece p))) rest
+run_from step done size (Ok s) (token p rest) = run_from step done size (stamp p.start (step s (tok_of_piece p))) rest
 
 abbrev pub run : {S A : Type 0} → (step : S → Tok → Result S Halt) → (done : S → Option A) → (size : ℕ) → S → Source → Result A Stopped
 run step done size s ahead = run_from step done size (Ok s) ahead

@@ -9,9 +9,9 @@ use Rattle.gql_ast.specs.declared.place.FilePlace.{FilePlace}
 use Rattle.gql_syntax.specs.declared.fault.Fault.{Fault}
 use Rattle.gql_syntax.specs.Answers.{Tells, node_count}
 use Rattle.gql_syntax.specs.Machine.{Place, Reading, put, Arguing, called, Directing, Holder, Typing, put_type}
-use Rattle.gql_syntax.specs.Nexts.{repeated, word_of}
+use Rattle.gql_syntax.specs.Nexts.{repeat, word_of}
 use Rattle.gql_syntax.specs.Parts.{Part, goes, done, done_before, One, never, value_alone, arguments_alone, directives_alone, directives_there, type_alone, type_there, part_from}
-use Rattle.gql_syntax.specs.Places.{Ahead, laid}
+use Rattle.gql_syntax.specs.Places.{Ahead, lay}
 use Rattle.gql_syntax.specs.Run.{Halt, unexpected, code_of, Stopped}
 use Rattle.gql_syntax.specs.Spelling.{spell_type}
 use Rattle.gql_syntax.specs.Texts.{nesting_limit}
@@ -65,11 +65,11 @@ from there c = record { file = c.file; text = c.text; source = c.source; places 
 -- the first place so many more times
 abbrev pub first_again : {A : Type 0} → ℕ → List A → List A
 first_again zero xs = xs
-first_again (suc n) xs = repeated 0 (first_again n xs)
+first_again (suc n) xs = repeat 0 (first_again n xs)
 
 -- a type has been read, and its places were put behind those that were there; at its first token more nodes may begin
 pub record IsTypeLaid (t : Ty) (c d : Ahead) : Type 0 where
   pub added : List FilePlace
   pub some : 0 < length added
   pub kept : d.places ≡ c.places ++ added
-  pub lays : (around above : ℕ) (there : List FilePlace) (ns : List ℕ) → laid (spell_type node_count t around above ns) (from there c) ≡ laid ns (from (there ++ first_again above added) d)
+  pub lays : (around above : ℕ) (there : List FilePlace) (ns : List ℕ) → lay (spell_type node_count t around above ns) (from there c) ≡ lay ns (from (there ++ first_again above added) d)

@@ -1,5 +1,5 @@
 -- What it is to read the text of a file by a grammar: its one tree with the places of its nodes, or its first fault.
-use Rattle.std.specs.Prelude.{◌≡◌, ◌⊎◌, ℕ, List, [], Some, length, IsUtf8}
+use Rattle.std.specs.Prelude.{◌≡◌, ◌⊎◌, ◌↔◌, ℕ, List, [], Some, length, Result, Ok, Err, IsUtf8}
 use Rattle.gql_lex.specs.Lines.{place_at}
 use Rattle.gql_lex.specs.Sources.{lexed}
 use Rattle.gql_lex.specs.Toks.{tokens_of}
@@ -8,7 +8,7 @@ use Rattle.gql_ast.specs.declared.fault.ParseFault.TheVariants.{Syntax, NoMemory
 use Rattle.gql_ast.specs.declared.fault.SyntaxFault.{SyntaxFault}
 use Rattle.gql_ast.specs.declared.place.FilePlace.{FilePlace}
 use Rattle.gql_syntax.specs.FirstFault.{Grammar, Shallow, IsFirstFault}
-use Rattle.gql_syntax.specs.Places.{placed}
+use Rattle.gql_syntax.specs.Places.{place_nodes}
 
 -- how many selection sets, how many lists and objects, and how many list types may stand in one another
 abbrev pub nesting_limit : ℕ
@@ -20,7 +20,7 @@ pub record IsTree {V : Type 0} (g : Grammar V) (nodes : V → List ℕ) (file : 
   pub tokens : tokens_of text ≡ Some (g.tokens v)
   pub formed : g.Formed v
   pub shallow : Shallow nesting_limit (g.levels v)
-  pub places : node_places ≡ placed file text [] (nodes v) (lexed 0 text)
+  pub places : node_places ≡ place_nodes file text [] (nodes v) (lexed 0 text)
 
 abbrev pub not_utf8 : ℕ
 not_utf8 = 7
@@ -39,6 +39,16 @@ pub record NoText (bytes : List ℕ) (f : SyntaxFault) : Type 0 where
   pub code : f.code ≡ not_utf8
   pub line : f.line ≡ 1
   pub column : f.column ≡ 1
+
+-- the fault of bytes that are no text
+abbrev pub no_text : (file : ℕ) → SyntaxFault
+no_text file = record { file = file; line = 1; column = 1; code = not_utf8 }
+
+-- the code of bytes that are no text is told of such bytes, and of no others
+abbrev pub TellsText : {T : Type 0} → List ℕ → Result T ParseFault → Type 0
+TellsText bytes (Ok t) = IsUtf8 bytes
+TellsText bytes (Err NoMemory) = IsUtf8 bytes
+TellsText bytes (Err (Syntax f)) = (f.code ≡ not_utf8) ↔ (IsUtf8 bytes → ⊥)
 
 abbrev pub IsParseFault : {V : Type 0} → Grammar V → (file : ℕ) → List ℕ → ParseFault → Type 0
 IsParseFault g file text NoMemory = Unit {0}

@@ -6,7 +6,7 @@ ghost use Rattle.gql_syntax.specs.Answers.{Answers, call_read, node_count};
 ghost use Rattle.gql_syntax.specs.Machine.{more};
 ghost use Rattle.gql_syntax.specs.Nexts.{token_count};
 ghost use Rattle.gql_syntax.specs.Parts.{arguments_read, goes};
-ghost use Rattle.gql_syntax.specs.Places.{Ahead, laid};
+ghost use Rattle.gql_syntax.specs.Places.{Ahead, lay};
 ghost use Rattle.gql_syntax.specs.Spelling.{spell_arguments, spell_value};
 ghost use Rattle.gql_syntax.specs.Steps.{LeadsTo, argument_next, arguments_on};
 
@@ -25,7 +25,7 @@ pub fn read_arguments(
     cursor: &mut Cursor<'_>,
 ) -> Result<Arguments, Fault>
     ensures reads { Answers result (λ a. a) cursor.new.source (arguments_read 60 constant (length cursor.old.text) cursor.old.source) }
-    ensures places { IfOk result (λ a. (c : Ahead) → ((ns : List ℕ) → laid (0 ∷ ns) c ≡ laid ns cursor.old) → (ns : List ℕ) → laid (spell_arguments node_count a ns) c ≡ laid ns cursor.new) }
+    ensures places { IfOk result (λ a. (c : Ahead) → ((ns : List ℕ) → lay (0 ∷ ns) c ≡ lay ns cursor.old) → (ns : List ℕ) → lay (spell_arguments node_count a ns) c ≡ lay ns cursor.new) }
     ensures taken { OnOk result (token_count cursor.new.source < token_count cursor.old.source) }
     ensures same { OnOk result (cursor.new.text ≡ cursor.old.text) }
 {
@@ -43,7 +43,7 @@ pub fn read_arguments(
 /// Reads `(` and arguments, where `(` stands.
 pub fn read_call(alloc: Global, constant: bool, cursor: &mut Cursor<'_>) -> Result<Arguments, Fault>
     ensures reads { Answers result (λ a. a) cursor.new.source (call_read constant (length cursor.old.text) cursor.old.source) }
-    ensures places { IfOk result (λ a. (ns : List ℕ) → laid (spell_arguments node_count a ns) cursor.old ≡ laid ns cursor.new) }
+    ensures places { IfOk result (λ a. (ns : List ℕ) → lay (spell_arguments node_count a ns) cursor.old ≡ lay ns cursor.new) }
     ensures taken { OnOk result (token_count cursor.new.source ≤ token_count cursor.old.source) }
     ensures same { OnOk result (cursor.new.text ≡ cursor.old.text) }
 {
@@ -57,7 +57,7 @@ pub fn read_call(alloc: Global, constant: bool, cursor: &mut Cursor<'_>) -> Resu
 /// Reads an argument.
 fn read_argument(alloc: Global, constant: bool, cursor: &mut Cursor<'_>) -> Result<Argument, Fault>
     ensures reads { (xs : List (List ℕ × Val)) → LeadsTo result (λ a. goes (more constant (xs ++ argument_of a ∷ []) tt)) cursor.new.source (arguments_on (length cursor.old.text)) (argument_next (length cursor.old.text) constant xs cursor.old.source) }
-    ensures places { IfOk result (λ a. (ns : List ℕ) → laid (2 ∷ 0 ∷ spell_value node_count (value_of a.value) 0 ns) cursor.old ≡ laid ns cursor.new) }
+    ensures places { IfOk result (λ a. (ns : List ℕ) → lay (2 ∷ 0 ∷ spell_value node_count (value_of a.value) 0 ns) cursor.old ≡ lay ns cursor.new) }
     ensures taken { OnOk result (token_count cursor.new.source < token_count cursor.old.source) }
     ensures same { OnOk result (cursor.new.text ≡ cursor.old.text) }
 {

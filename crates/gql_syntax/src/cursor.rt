@@ -4,13 +4,12 @@ ghost use Rattle.gql_lex.specs.Answers.{piece_of};
 ghost use Rattle.gql_lex.specs.Heads.{IsToken};
 ghost use Rattle.gql_lex.specs.Sources.{ended, lexed, token};
 ghost use Rattle.gql_syntax.specs.Answers.{wrong_at};
-ghost use Rattle.gql_syntax.specs.Nexts.{behind, IsLast, next_is, next_is_text, next_word, repeated, stopped_at, too_deep_at};
-ghost use Rattle.gql_syntax.specs.Places.{laid};
+ghost use Rattle.gql_syntax.specs.Nexts.{behind, IsLast, next_is, next_is_text, next_word, repeat, stopped_at, too_deep_at};
+ghost use Rattle.gql_syntax.specs.Places.{lay};
 
 use crate::fault::Fault;
-use crate::locator::Locator;
 use gql_ast::{FilePlace, FilePlaces};
-use gql_lex::{LexFault, Lexer, Token, TokenKind};
+use gql_lex::{LexFault, Lexer, Locator, Token, TokenKind};
 use gql_plain::NoMemory;
 use std::alloc::Global;
 use std::marker::Model;
@@ -124,7 +123,7 @@ impl<'a> Cursor<'a> {
     /// Takes the next token, at which so many nodes begin. Where there is none, nothing is taken.
     pub fn skip(&mut self, nodes: usize) -> Result<(), NoMemory>
         ensures source { OnOk result (self.new.source ≡ behind self.old.source) }
-        ensures places { OnOk result ((ns : List ℕ) → laid (nodes ∷ ns) self.old ≡ laid ns self.new) }
+        ensures places { OnOk result ((ns : List ℕ) → lay (nodes ∷ ns) self.old ≡ lay ns self.new) }
         ensures same { self.new.text ≡ self.old.text }
         ensures file { self.new.file ≡ self.old.file }
     {
@@ -202,7 +201,7 @@ impl<'a> Cursor<'a> {
     /// later.
     pub fn repeat_place(&mut self, number: usize) -> Result<(), NoMemory>
         requires { number < length self.old.places }
-        ensures { OnOk result (self.new ≡ record self.old { places = repeated number self.old.places }) }
+        ensures { OnOk result (self.new ≡ record self.old { places = repeat number self.old.places }) }
     {
         repeat_at(&mut self.places, number)?;
         Ok(())
@@ -229,7 +228,7 @@ fn push_times(places: &mut FilePlaces, place: FilePlace, times: usize) -> Result
 /// Puts a place once more before itself.
 fn repeat_at(places: &mut FilePlaces, number: usize) -> Result<(), NoMemory>
     requires { number < length places.old }
-    ensures { OnOk result (places.new ≡ repeated number places.old) }
+    ensures { OnOk result (places.new ≡ repeat number places.old) }
 {
     let place = places.items[number];
     places.items.insert(number, place)?;

@@ -5,7 +5,7 @@ ghost use Rattle.gql_syntax.specs.Answers.{Answers, node_count};
 ghost use Rattle.gql_syntax.specs.Machine.{further};
 ghost use Rattle.gql_syntax.specs.Nexts.{next_is, token_count};
 ghost use Rattle.gql_syntax.specs.Parts.{directives_read, goes};
-ghost use Rattle.gql_syntax.specs.Places.{laid};
+ghost use Rattle.gql_syntax.specs.Places.{lay};
 ghost use Rattle.gql_syntax.specs.Spelling.{spell_arguments, spell_directives};
 ghost use Rattle.gql_syntax.specs.Steps.{LeadsTo, directives_on};
 
@@ -23,7 +23,7 @@ pub fn read_directives(
     cursor: &mut Cursor<'_>,
 ) -> Result<Directives, Fault>
     ensures reads { Answers result (λ d. d) cursor.new.source (directives_read 60 constant (length cursor.old.text) cursor.old.source) }
-    ensures places { IfOk result (λ d. (ns : List ℕ) → laid (spell_directives node_count d ns) cursor.old ≡ laid ns cursor.new) }
+    ensures places { IfOk result (λ d. (ns : List ℕ) → lay (spell_directives node_count d ns) cursor.old ≡ lay ns cursor.new) }
     ensures taken { OnOk result (token_count cursor.new.source ≤ token_count cursor.old.source) }
     ensures last { OnOk result (next_is 64 cursor.new.source ≡ false) }
     ensures same { OnOk result (cursor.new.text ≡ cursor.old.text) }
@@ -44,7 +44,7 @@ fn read_directive(
 ) -> Result<Directive, Fault>
     requires { next_is 64 cursor.old.source ≡ true }
     ensures reads { (ds : List Directive) → LeadsTo result (λ d. goes (further constant (ds ++ d ∷ []) tt)) cursor.new.source (directives_on (length cursor.old.text)) (directives_on (length cursor.old.text) (goes (further constant ds tt)) cursor.old.source) }
-    ensures places { IfOk result (λ d. (ns : List ℕ) → laid (1 ∷ 1 ∷ spell_arguments node_count d.arguments ns) cursor.old ≡ laid ns cursor.new) }
+    ensures places { IfOk result (λ d. (ns : List ℕ) → lay (1 ∷ 1 ∷ spell_arguments node_count d.arguments ns) cursor.old ≡ lay ns cursor.new) }
     ensures taken { OnOk result (token_count cursor.new.source < token_count cursor.old.source) }
     ensures same { OnOk result (cursor.new.text ≡ cursor.old.text) }
 {

@@ -1,11 +1,35 @@
 //! What is wrong with a text.
-ghost use Rattle.std.specs.Prelude.{◌≡◌, ◌<◌, ◌-◌, ◌^◌, length, IsCharBoundary};
+ghost use Rattle.std.specs.Prelude.{◌≡◌, ◌<◌, ◌-◌, ◌^◌, length, IfErr, IfOk, IsCharBoundary, IsUtf8};
+ghost use Rattle.gql_ast.specs.declared.fault.ParseFault.TheVariants.{Syntax};
 ghost use Rattle.gql_syntax.specs.Answers.{fault_in, LiesIn};
+ghost use Rattle.gql_syntax.specs.Texts.{no_text};
 
 use gql_ast::{ParseFault, SyntaxFault};
 use gql_lex::place;
 use gql_plain::NoMemory;
 use std::alloc::{AllocError, AllocFailed};
+
+/// The code of bytes that are no UTF-8.
+pub const NOT_UTF8: u8 = 7;
+
+/// The text that the bytes of the file with this number are. Bytes that are not UTF-8 are a fault at
+/// the first line and column; that these are refused is this project's own.
+pub fn text_of(file: u32, bytes: &[u8]) -> Result<&str, ParseFault>
+    ensures text { IfOk result (λ text. text.now ≡ bytes.now) }
+    ensures utf8 { IfOk result (λ text. IsUtf8 bytes.now) }
+    ensures fault { IfErr result (λ f. f ≡ Syntax (no_text file)) }
+    ensures other { IfErr result (λ f. IsUtf8 bytes.now → ⊥) }
+{
+    match std::str::from_utf8(bytes) {
+        Ok(text) => Ok(text),
+        Err(_) => Err(ParseFault::Syntax(SyntaxFault {
+            file,
+            line: 1,
+            column: 1,
+            code: NOT_UTF8,
+        })),
+    }
+}
 
 /// Why a text could not be read.
 #[derive(Clone, Copy, Debug, PartialEq, Eq, Drop)]

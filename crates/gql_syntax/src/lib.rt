@@ -6,7 +6,6 @@ pub mod arguments;
 pub mod cursor;
 pub mod directives;
 pub mod fault;
-mod locator;
 pub mod names;
 pub mod types;
 pub mod values;
@@ -14,9 +13,9 @@ pub mod values;
 pub use arguments::{read_arguments, read_call};
 pub use cursor::Cursor;
 pub use directives::read_directives;
-pub use fault::Fault;
+pub use fault::{Fault, text_of};
 pub use names::{expect, expect_word, kind_of, read_name};
-pub use types::read_type;
+pub use types::{read_type, type_of_text};
 pub use values::{read_default, read_value};
 
 /// How deep selection sets, lists and objects, and list types may nest, each by itself. That deeper

@@ -3,7 +3,7 @@ ghost use Rattle.std.specs.Prelude.{◌≡◌, ◌≢◌, ◌∷◌, ℕ, List, 
 ghost use Rattle.gql_ast.specs.declared.document.Kind.{Kind};
 ghost use Rattle.gql_syntax.specs.Answers.{Misses};
 ghost use Rattle.gql_syntax.specs.Nexts.{behind, next_is, next_word, stopped_at};
-ghost use Rattle.gql_syntax.specs.Places.{laid};
+ghost use Rattle.gql_syntax.specs.Places.{lay};
 ghost use Rattle.gql_syntax.specs.Words.{kind_word};
 
 use crate::cursor::Cursor;
@@ -16,7 +16,7 @@ use std::alloc::Global;
 pub fn read_name(alloc: Global, cursor: &mut Cursor<'_>, nodes: usize) -> Result<Name, Fault>
     ensures name { IfOk result (λ n. next_word cursor.old.source ≡ Some n) }
     ensures source { OnOk result (cursor.new.source ≡ behind cursor.old.source) }
-    ensures places { OnOk result ((ns : List ℕ) → laid (nodes ∷ ns) cursor.old ≡ laid ns cursor.new) }
+    ensures places { OnOk result ((ns : List ℕ) → lay (nodes ∷ ns) cursor.old ≡ lay ns cursor.new) }
     ensures same { cursor.new.text ≡ cursor.old.text }
     ensures file { cursor.new.file ≡ cursor.old.file }
     ensures fault { IfErr result (λ f. Misses f (next_word cursor.old.source ≡ None) (stopped_at (length cursor.old.text) cursor.old.source)) }
@@ -33,7 +33,7 @@ pub fn read_name(alloc: Global, cursor: &mut Cursor<'_>, nodes: usize) -> Result
 pub fn expect(cursor: &mut Cursor<'_>, punctuator: u8, nodes: usize) -> Result<(), Fault>
     ensures found { OnOk result (next_is punctuator cursor.old.source ≡ true) }
     ensures source { OnOk result (cursor.new.source ≡ behind cursor.old.source) }
-    ensures places { OnOk result ((ns : List ℕ) → laid (nodes ∷ ns) cursor.old ≡ laid ns cursor.new) }
+    ensures places { OnOk result ((ns : List ℕ) → lay (nodes ∷ ns) cursor.old ≡ lay ns cursor.new) }
     ensures same { cursor.new.text ≡ cursor.old.text }
     ensures file { cursor.new.file ≡ cursor.old.file }
     ensures fault { IfErr result (λ f. Misses f (next_is punctuator cursor.old.source ≡ false) (stopped_at (length cursor.old.text) cursor.old.source)) }
@@ -49,7 +49,7 @@ pub fn expect(cursor: &mut Cursor<'_>, punctuator: u8, nodes: usize) -> Result<(
 pub fn expect_word(cursor: &mut Cursor<'_>, word: &str, nodes: usize) -> Result<(), Fault>
     ensures found { OnOk result (next_word cursor.old.source ≡ Some word.now) }
     ensures source { OnOk result (cursor.new.source ≡ behind cursor.old.source) }
-    ensures places { OnOk result ((ns : List ℕ) → laid (nodes ∷ ns) cursor.old ≡ laid ns cursor.new) }
+    ensures places { OnOk result ((ns : List ℕ) → lay (nodes ∷ ns) cursor.old ≡ lay ns cursor.new) }
     ensures same { cursor.new.text ≡ cursor.old.text }
     ensures file { cursor.new.file ≡ cursor.old.file }
     ensures fault { IfErr result (λ f. Misses f (next_word cursor.old.source ≢ Some word.now) (stopped_at (length cursor.old.text) cursor.old.source)) }

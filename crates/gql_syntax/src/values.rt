@@ -12,7 +12,7 @@ ghost use Rattle.gql_syntax.specs.Answers.{Answers, default_read, node_count};
 ghost use Rattle.gql_syntax.specs.Machine.{Place, want, items, members, members_then};
 ghost use Rattle.gql_syntax.specs.Nexts.{Comes, next_is, next_is_punctuator, token_count};
 ghost use Rattle.gql_syntax.specs.Parts.{One, goes, value_read};
-ghost use Rattle.gql_syntax.specs.Places.{laid};
+ghost use Rattle.gql_syntax.specs.Places.{lay};
 ghost use Rattle.gql_syntax.specs.Spelling.{spell_value, spell_values, spell_members, spell_default};
 ghost use Rattle.gql_syntax.specs.Steps.{LeadsTo, value_on, put_alone};
 
@@ -34,7 +34,7 @@ pub fn read_value(
     cursor: &mut Cursor<'_>,
 ) -> Result<ValueTree, Fault>
     ensures reads { Answers result value_of cursor.new.source (value_read constant room (length cursor.old.text) cursor.old.source) }
-    ensures places { IfOk result (λ v. (ns : List ℕ) → laid (spell_value node_count (value_of v) 0 ns) cursor.old ≡ laid ns cursor.new) }
+    ensures places { IfOk result (λ v. (ns : List ℕ) → lay (spell_value node_count (value_of v) 0 ns) cursor.old ≡ lay ns cursor.new) }
     ensures taken { OnOk result (token_count cursor.new.source < token_count cursor.old.source) }
     ensures same { OnOk result (cursor.new.text ≡ cursor.old.text) }
 {
@@ -44,7 +44,7 @@ pub fn read_value(
 /// Reads `=` and a constant, where `=` stands.
 pub fn read_default(alloc: Global, cursor: &mut Cursor<'_>) -> Result<Option<ValueTree>, Fault>
     ensures reads { Answers result (option_map value_of) cursor.new.source (default_read (length cursor.old.text) cursor.old.source) }
-    ensures places { IfOk result (λ d. (ns : List ℕ) → laid (spell_default node_count d ns) cursor.old ≡ laid ns cursor.new) }
+    ensures places { IfOk result (λ d. (ns : List ℕ) → lay (spell_default node_count d ns) cursor.old ≡ lay ns cursor.new) }
     ensures taken { OnOk result (token_count cursor.new.source ≤ token_count cursor.old.source) }
     ensures same { OnOk result (cursor.new.text ≡ cursor.old.text) }
 {
@@ -64,7 +64,7 @@ fn read(
     cursor: &mut Cursor<'_>,
 ) -> Result<ValueTree, Fault>
     ensures reads { (p : Place One) → LeadsTo result (λ v. put_alone (value_of v) p) cursor.new.source (value_on (length cursor.old.text)) (value_on (length cursor.old.text) (goes (want constant room p)) cursor.old.source) }
-    ensures places { IfOk result (λ v. (around : ℕ) (ns : List ℕ) → laid (spell_value node_count (value_of v) around ns) cursor.old ≡ laid ns cursor.new) }
+    ensures places { IfOk result (λ v. (around : ℕ) (ns : List ℕ) → lay (spell_value node_count (value_of v) around ns) cursor.old ≡ lay ns cursor.new) }
     ensures taken { OnOk result (token_count cursor.new.source < token_count cursor.old.source) }
     ensures same { OnOk result (cursor.new.text ≡ cursor.old.text) }
 {
@@ -90,7 +90,7 @@ fn read_punctuated(
 ) -> Result<ValueTree, Fault>
     requires { next_is_punctuator cursor.old.source ≡ true }
     ensures reads { (p : Place One) → LeadsTo result (λ v. put_alone (value_of v) p) cursor.new.source (value_on (length cursor.old.text)) (value_on (length cursor.old.text) (goes (want constant room p)) cursor.old.source) }
-    ensures places { IfOk result (λ v. (around : ℕ) (ns : List ℕ) → laid (spell_value node_count (value_of v) around ns) cursor.old ≡ laid ns cursor.new) }
+    ensures places { IfOk result (λ v. (around : ℕ) (ns : List ℕ) → lay (spell_value node_count (value_of v) around ns) cursor.old ≡ lay ns cursor.new) }
     ensures taken { OnOk result (token_count cursor.new.source < token_count cursor.old.source) }
     ensures same { OnOk result (cursor.new.text ≡ cursor.old.text) }
 {
@@ -120,7 +120,7 @@ fn read_variable(alloc: Global, cursor: &mut Cursor<'_>) -> Result<ValueTree, Fa
     requires lists { next_is 91 cursor.old.source ≡ false }
     requires objects { next_is 123 cursor.old.source ≡ false }
     ensures reads { (r : ℕ) (p : Place One) → LeadsTo result (λ v. put_alone (value_of v) p) cursor.new.source (value_on (length cursor.old.text)) (value_on (length cursor.old.text) (goes (want false r p)) cursor.old.source) }
-    ensures places { IfOk result (λ v. (around : ℕ) (ns : List ℕ) → laid (spell_value node_count (value_of v) around ns) cursor.old ≡ laid ns cursor.new) }
+    ensures places { IfOk result (λ v. (around : ℕ) (ns : List ℕ) → lay (spell_value node_count (value_of v) around ns) cursor.old ≡ lay ns cursor.new) }
     ensures taken { OnOk result (token_count cursor.new.source < token_count cursor.old.source) }
     ensures same { OnOk result (cursor.new.text ≡ cursor.old.text) }
 {
@@ -132,7 +132,7 @@ fn read_variable(alloc: Global, cursor: &mut Cursor<'_>) -> Result<ValueTree, Fa
 fn read_word(alloc: Global, word: &str, cursor: &mut Cursor<'_>) -> Result<ValueTree, Fault>
     requires { Comes cursor.old.source (name word.now) }
     ensures reads { (c : Bool) (r : ℕ) (p : Place One) → LeadsTo result (λ v. put_alone (value_of v) p) cursor.new.source (value_on (length cursor.old.text)) (value_on (length cursor.old.text) (goes (want c r p)) cursor.old.source) }
-    ensures places { IfOk result (λ v. (around : ℕ) (ns : List ℕ) → laid (spell_value node_count (value_of v) around ns) cursor.old ≡ laid ns cursor.new) }
+    ensures places { IfOk result (λ v. (around : ℕ) (ns : List ℕ) → lay (spell_value node_count (value_of v) around ns) cursor.old ≡ lay ns cursor.new) }
     ensures taken { OnOk result (token_count cursor.new.source < token_count cursor.old.source) }
     ensures same { OnOk result (cursor.new.text ≡ cursor.old.text) }
 {
@@ -158,7 +158,7 @@ fn read_int(text: &str, cursor: &mut Cursor<'_>) -> Result<ValueTree, Fault>
     requires form { IsToken kind.Int text.now }
     requires comes { Comes cursor.old.source (int (int_value text.now)) }
     ensures reads { (c : Bool) (r : ℕ) (p : Place One) → LeadsTo result (λ v. put_alone (value_of v) p) cursor.new.source (value_on (length cursor.old.text)) (value_on (length cursor.old.text) (goes (want c r p)) cursor.old.source) }
-    ensures places { IfOk result (λ v. (around : ℕ) (ns : List ℕ) → laid (spell_value node_count (value_of v) around ns) cursor.old ≡ laid ns cursor.new) }
+    ensures places { IfOk result (λ v. (around : ℕ) (ns : List ℕ) → lay (spell_value node_count (value_of v) around ns) cursor.old ≡ lay ns cursor.new) }
     ensures taken { OnOk result (token_count cursor.new.source < token_count cursor.old.source) }
     ensures same { OnOk result (cursor.new.text ≡ cursor.old.text) }
 {
@@ -172,7 +172,7 @@ fn read_text(alloc: Global, token: &Token<'_>, cursor: &mut Cursor<'_>) -> Resul
     requires form { IsString token.now.kind token.now.text.now }
     requires comes { Comes cursor.old.source (text (string_value_of token.now.kind token.now.text.now)) }
     ensures reads { (c : Bool) (r : ℕ) (p : Place One) → LeadsTo result (λ v. put_alone (value_of v) p) cursor.new.source (value_on (length cursor.old.text)) (value_on (length cursor.old.text) (goes (want c r p)) cursor.old.source) }
-    ensures places { IfOk result (λ v. (around : ℕ) (ns : List ℕ) → laid (spell_value node_count (value_of v) around ns) cursor.old ≡ laid ns cursor.new) }
+    ensures places { IfOk result (λ v. (around : ℕ) (ns : List ℕ) → lay (spell_value node_count (value_of v) around ns) cursor.old ≡ lay ns cursor.new) }
     ensures taken { OnOk result (token_count cursor.new.source < token_count cursor.old.source) }
     ensures same { OnOk result (cursor.new.text ≡ cursor.old.text) }
 {
@@ -203,7 +203,7 @@ fn read_items(
     cursor: &mut Cursor<'_>,
 ) -> Result<ValueTrees, Fault>
     ensures reads { (p : Place One) → LeadsTo result (λ vs. put_alone (list (vals_of vs)) p) cursor.new.source (value_on (length cursor.old.text)) (value_on (length cursor.old.text) (goes (items constant room no_vals p)) cursor.old.source) }
-    ensures places { IfOk result (λ vs. (around : ℕ) (ns : List ℕ) → laid (spell_values node_count (vals_of vs) around (0 ∷ ns)) cursor.old ≡ laid ns cursor.new) }
+    ensures places { IfOk result (λ vs. (around : ℕ) (ns : List ℕ) → lay (spell_values node_count (vals_of vs) around (0 ∷ ns)) cursor.old ≡ lay ns cursor.new) }
     ensures taken { OnOk result (token_count cursor.new.source < token_count cursor.old.source) }
     ensures same { OnOk result (cursor.new.text ≡ cursor.old.text) }
 {
@@ -225,7 +225,7 @@ fn read_fields(
     cursor: &mut Cursor<'_>,
 ) -> Result<Arguments, Fault>
     ensures reads { (p : Place One) → LeadsTo result (λ fs. put_alone (object (members_of fs)) p) cursor.new.source (value_on (length cursor.old.text)) (value_on (length cursor.old.text) (goes (members constant room no_members p)) cursor.old.source) }
-    ensures places { IfOk result (λ fs. (around : ℕ) (ns : List ℕ) → laid (spell_members node_count (members_of fs) around (0 ∷ ns)) cursor.old ≡ laid ns cursor.new) }
+    ensures places { IfOk result (λ fs. (around : ℕ) (ns : List ℕ) → lay (spell_members node_count (members_of fs) around (0 ∷ ns)) cursor.old ≡ lay ns cursor.new) }
     ensures taken { OnOk result (token_count cursor.new.source < token_count cursor.old.source) }
     ensures same { OnOk result (cursor.new.text ≡ cursor.old.text) }
 {
@@ -248,7 +248,7 @@ fn read_field(
 ) -> Result<Argument, Fault>
     requires { next_is 125 cursor.old.source ≡ false }
     ensures reads { (ms : Members) (p : Place One) → LeadsTo result (λ f. goes (members constant room (members_then ms f.name (value_of f.value)) p)) cursor.new.source (value_on (length cursor.old.text)) (value_on (length cursor.old.text) (goes (members constant room ms p)) cursor.old.source) }
-    ensures places { IfOk result (λ f. (around : ℕ) (ns : List ℕ) → laid (2 ∷ 0 ∷ spell_value node_count (value_of f.value) around ns) cursor.old ≡ laid ns cursor.new) }
+    ensures places { IfOk result (λ f. (around : ℕ) (ns : List ℕ) → lay (2 ∷ 0 ∷ spell_value node_count (value_of f.value) around ns) cursor.old ≡ lay ns cursor.new) }
     ensures taken { OnOk result (token_count cursor.new.source < token_count cursor.old.source) }
     ensures same { OnOk result (cursor.new.text ≡ cursor.old.text) }
 {

@@ -4,13 +4,13 @@ use Rattle.std.proofs.lemmas.Result.{err_from_is_err_and}
 use Rattle.gql_ast.specs.SelectionView.{sel_of}
 use Rattle.gql_ast.specs.Sels.{end, field, followed}
 use Rattle.gql_parse.specs.Documents.{spell_selections, SomeSelection}
-use Rattle.gql_parse.specs.Going.{going, closed}
+use Rattle.gql_parse.specs.Going.{run_on, closed}
 use Rattle.gql_parse.specs.Machine.{Up, Inside, OpenField, of_field, of_inline, on_field, on_spread, on_inline, set, dotted, in_directives, within_field}
 use Rattle.gql_parse.specs.Machine as machine
 use Rattle.gql_syntax.specs.Answers.{node_count}
 use Rattle.gql_syntax.specs.Machine.{further}
 use Rattle.gql_syntax.specs.Nexts.{next_is, next_word, stopped_at}
-use Rattle.gql_syntax.specs.Places.{laid}
+use Rattle.gql_syntax.specs.Places.{lay}
 use Rattle.gql_syntax.specs.Spelling.{spell_directives}
 use Rattle.gql_syntax.specs.Words.{on_word}
 use Rattle.gql_parse.proofs.Courses.{tells-same, tells-missed, resized, resized_tells, resized_opening, resized_opening_tells, goes-moves, call_goes, call_tells, directives_goes, directives_tells, closes, spread_ends, dotted_ends, inline_opens, field_opens, dots, dots_on, dots_named, on_missed, some_selection, at_taken, word_taken, one_word, resized_goes, ok-maps}
@@ -122,8 +122,8 @@ read_selections-returns-then-next_is-2-clause-reads t c =
     ∙ resized _ size (set (record { room = c.args.room; before = b; up = up })) (set (record { room = c.args.room; before = followed b (sel_of x); up = up })) c.selections.cursor.source c.read_selection.new.cursor.source
     (ap length c.selections.invariant.same) (c.in_ok-selection.ensures.reads b up)
     ∙ closes size c.args.room (followed b (sel_of x)) up c.read_selection.new.cursor.source (some_selection b x) n
-    ∙ ap (λ s. going size (closed (c.args.room + 1) (followed b (sel_of x)) up) s) (sym c.in_ok-skip.ensures.source)
-    ∙ ap (λ s. going size (closed (c.args.room + 1) s up) c.skip.new.self.source) (sym pushed)
+    ∙ ap (λ s. run_on size (closed (c.args.room + 1) (followed b (sel_of x)) up) s) (sym c.in_ok-skip.ensures.source)
+    ∙ ap (λ s. run_on size (closed (c.args.room + 1) s up) c.skip.new.self.source) (sym pushed)
 
 pub read_selections-returns-then-next_is-2-clause-some : goal.read_selections-returns-then-next_is-2-clause-some
 read_selections-returns-then-next_is-2-clause-some t c =
@@ -135,8 +135,8 @@ read_selections-returns-then-next_is-2-clause-places t c =
     let b = c.selections.selections in
     let x = c.in_ok-selection.selection in
     let pushed : c.push.new.self ≡ followed b (sel_of x) = c.in_ok-push.ensures.ok in
-    λ level ns. ap (λ s. laid (spell_selections node_count s level (0 ∷ ns)) c.args.cursor.now) pushed
-    ∙ ap (λ r. laid r c.args.cursor.now) (spell_selections-followed node_count b (sel_of x) level (0 ∷ ns))
+    λ level ns. ap (λ s. lay (spell_selections node_count s level (0 ∷ ns)) c.args.cursor.now) pushed
+    ∙ ap (λ r. lay r c.args.cursor.now) (spell_selections-followed node_count b (sel_of x) level (0 ∷ ns))
     ∙ c.selections.invariant.places level (spell_selections node_count (sel_of x) level (0 ∷ ns))
     ∙ c.in_ok-selection.ensures.places level (0 ∷ ns)
     ∙ c.in_ok-skip.ensures.places ns
@@ -151,9 +151,9 @@ read_selections-selections-preserved t c =
       reads = λ up. c.selections.invariant.reads up
           ∙ resized _ size (set (record { room = c.args.room; before = b; up = up })) (set (record { room = c.args.room; before = followed b (sel_of x); up = up })) c.selections.cursor.source c.read_selection.new.cursor.source
           (ap length c.selections.invariant.same) (c.in_ok-selection.ensures.reads b up)
-          ∙ ap (λ s. going size (set (record { room = c.args.room; before = s; up = up })) c.read_selection.new.cursor.source) (sym pushed);
-      places = λ level ns. ap (λ s. laid (spell_selections node_count s level ns) c.args.cursor.now) pushed
-          ∙ ap (λ r. laid r c.args.cursor.now) (spell_selections-followed node_count b (sel_of x) level ns)
+          ∙ ap (λ s. run_on size (set (record { room = c.args.room; before = s; up = up })) c.read_selection.new.cursor.source) (sym pushed);
+      places = λ level ns. ap (λ s. lay (spell_selections node_count s level ns) c.args.cursor.now) pushed
+          ∙ ap (λ r. lay r c.args.cursor.now) (spell_selections-followed node_count b (sel_of x) level ns)
           ∙ c.selections.invariant.places level (spell_selections node_count (sel_of x) level ns)
           ∙ c.in_ok-selection.ensures.places level ns;
       unclosed = grind (arith, common_steps);
@@ -169,7 +169,7 @@ read_spread-returns-in_default-clause-reads t c =
     λ before up.
     let i : Inside = record { room = c.args.room; before = before; up = up } in
     goes-moves c.read_inline.result _ _ _
-    (dots size i src c.requires ∙ ap (λ s. going size (dotted i) s) (sym c.in_ok-skip.ensures.source) ∙ dotted_ends size i c.skip.new.self.source n
+    (dots size i src c.requires ∙ ap (λ s. run_on size (dotted i) s) (sym c.in_ok-skip.ensures.source) ∙ dotted_ends size i c.skip.new.self.source n
     )
     (resized_goes _ size c.read_inline.result (in_directives (further false [] (on_inline i None))) (λ x. set (record { room = c.args.room; before = followed before (sel_of x); up = up })) c.skip.new.self.source c.read_inline.new.cursor.source
     (ap length c.skip.ensures.same) (c.read_inline.ensures.reads before up))
@@ -184,8 +184,8 @@ read_spread-returns-in_err-on-clause-reads t c =
     λ before up.
     let i : Inside = record { room = c.args.room; before = before; up = up } in
     rw (e.1, e.2) (tells-missed c.in_err-on.field-0.0 _ _ _
-    (λ n. dots size i src c.requires ∙ ap (λ s. going size (dotted i) s) (sym c.in_ok-skip.ensures.source)
-    ∙ dots_on size i c.in-Some.word.now c.skip.new.self.source c.in-Some.ensures.some is_on ∙ ap (λ s. going size (machine.on i) s) (sym c.in_ok-skip-2.ensures.source)
+    (λ n. dots size i src c.requires ∙ ap (λ s. run_on size (dotted i) s) (sym c.in_ok-skip.ensures.source)
+    ∙ dots_on size i c.in-Some.word.now c.skip.new.self.source c.in-Some.ensures.some is_on ∙ ap (λ s. run_on size (machine.on i) s) (sym c.in_ok-skip-2.ensures.source)
     ∙ on_missed size i c.skip-then-eq.new.self.source n ∙ ap (λ k. Err (stopped_at k c.skip-then-eq.new.self.source)) (sym (ap length text)))
     c.in_err-on.ensures.fault)
 
@@ -207,9 +207,9 @@ read_spread-returns-in_err-directives-clause-reads t c =
     λ before up.
     let i : Inside = record { room = c.args.room; before = before; up = up } in
     rw (e.1, e.2) (tells-same c.in_err-directives.field-0.0 _ _
-    (dots size i src c.requires ∙ ap (λ s. going size (dotted i) s) (sym c.in_ok-skip.ensures.source)
+    (dots size i src c.requires ∙ ap (λ s. run_on size (dotted i) s) (sym c.in_ok-skip.ensures.source)
     ∙ dots_named size i name c.skip.new.self.source c.in_ok-name.ensures.name named
-    ∙ ap (λ s. going size (in_directives (further false [] (on_spread i name))) s) (sym c.in_ok-name.ensures.source))
+    ∙ ap (λ s. run_on size (in_directives (further false [] (on_spread i name))) s) (sym c.in_ok-name.ensures.source))
     (directives_tells _ size false (on_spread i name) c.read_name-2.new.cursor.source c.in_err-directives.field-0.0 (ap length (c.in_ok-name.ensures.same ∙ c.skip.ensures.same)) c.in_err-directives.ensures.reads))
 
 pub read_spread-returns-clause-reads : goal.read_spread-returns-clause-reads
@@ -222,9 +222,9 @@ read_spread-returns-clause-reads t c =
     let named : bytes_eq name on_word ≡ false = subst (λ w. bytes_eq w on_word ≡ false) (one_word c.in-Some.word.now name c.skip.new.self.source c.in-Some.ensures.some c.in_ok-name.ensures.name) not_on in
     λ before up.
     let i : Inside = record { room = c.args.room; before = before; up = up } in
-    dots size i src c.requires ∙ ap (λ s. going size (dotted i) s) (sym c.in_ok-skip.ensures.source)
+    dots size i src c.requires ∙ ap (λ s. run_on size (dotted i) s) (sym c.in_ok-skip.ensures.source)
     ∙ dots_named size i name c.skip.new.self.source c.in_ok-name.ensures.name named
-    ∙ ap (λ s. going size (in_directives (further false [] (on_spread i name))) s) (sym c.in_ok-name.ensures.source)
+    ∙ ap (λ s. run_on size (in_directives (further false [] (on_spread i name))) s) (sym c.in_ok-name.ensures.source)
     ∙ directives_goes _ size false (on_spread i name) c.read_name-2.new.cursor.source ds c.read_directives.new.cursor.source (ap length (c.in_ok-name.ensures.same ∙ c.skip.ensures.same)) c.in_ok-directives.ensures.reads
     ∙ spread_ends size i name ds c.read_directives.new.cursor.source c.in_ok-directives.ensures.last
 

@@ -1,7 +1,7 @@
 use Rattle.std.proofs.Common.{◌≡◌, ◌∷◌, true, length, sym, ap, ◌∙◌, arith}
 use Rattle.std.proofs.lemmas.Result.{err_from_is_err_and}
 use Rattle.gql_ast.specs.TypeView.{ty_of}
-use Rattle.gql_parse.specs.Going.{going}
+use Rattle.gql_parse.specs.Going.{run_on}
 use Rattle.gql_parse.specs.Machine.{VariableName, Typed, on_variable, dollar, variable_named, in_type}
 use Rattle.gql_syntax.specs.Answers.{node_count}
 use Rattle.gql_syntax.specs.Machine.{want_type, whole}
@@ -19,9 +19,9 @@ returns-in_err-of-clause-reads c =
     λ o before h.
     let v : VariableName = record { opening = o; before = before; name = c.in_ok-name.name } in
     rw (e.1, e.2) (tells-same c.in_err-of.field-0.0 _ _
-    (variable_begins size o before c.args.cursor.now.source c.in_ok-expect.ensures.found ∙ ap (λ s. going size (dollar o before) s) (sym c.in_ok-expect.ensures.source)
-    ∙ variable_name size o before c.in_ok-name.name c.expect.new.cursor.source c.in_ok-name.ensures.name ∙ ap (λ s. going size (variable_named v) s) (sym c.in_ok-name.ensures.source)
-    ∙ variable_colon size v c.read_name.new.cursor.source c.in_ok-expect-2.ensures.found ∙ ap (λ s. going size (in_type (want_type nesting_limit (whole v))) s) (sym c.in_ok-expect-2.ensures.source))
+    (variable_begins size o before c.args.cursor.now.source c.in_ok-expect.ensures.found ∙ ap (λ s. run_on size (dollar o before) s) (sym c.in_ok-expect.ensures.source)
+    ∙ variable_name size o before c.in_ok-name.name c.expect.new.cursor.source c.in_ok-name.ensures.name ∙ ap (λ s. run_on size (variable_named v) s) (sym c.in_ok-name.ensures.source)
+    ∙ variable_colon size v c.read_name.new.cursor.source c.in_ok-expect-2.ensures.found ∙ ap (λ s. run_on size (in_type (want_type nesting_limit (whole v))) s) (sym c.in_ok-expect-2.ensures.source))
     (type_tells _ size v c.expect-2.new.cursor.source c.in_err-of.field-0.0 (ap length text) c.in_err-of.ensures.reads))
 
 pub returns-in_err-default-clause-reads : goal.returns-in_err-default-clause-reads
@@ -33,9 +33,9 @@ returns-in_err-default-clause-reads c =
     let v : VariableName = record { opening = o; before = before; name = c.in_ok-name.name } in
     let w : Typed = record { variable = v; of = ty_of c.in_ok-of.of } in
     rw (e.1, e.2) (tells-same c.in_err-default.field-0.0 _ _
-    (variable_begins size o before c.args.cursor.now.source c.in_ok-expect.ensures.found ∙ ap (λ s. going size (dollar o before) s) (sym c.in_ok-expect.ensures.source)
-    ∙ variable_name size o before c.in_ok-name.name c.expect.new.cursor.source c.in_ok-name.ensures.name ∙ ap (λ s. going size (variable_named v) s) (sym c.in_ok-name.ensures.source)
-    ∙ variable_colon size v c.read_name.new.cursor.source c.in_ok-expect-2.ensures.found ∙ ap (λ s. going size (in_type (want_type nesting_limit (whole v))) s) (sym c.in_ok-expect-2.ensures.source)
+    (variable_begins size o before c.args.cursor.now.source c.in_ok-expect.ensures.found ∙ ap (λ s. run_on size (dollar o before) s) (sym c.in_ok-expect.ensures.source)
+    ∙ variable_name size o before c.in_ok-name.name c.expect.new.cursor.source c.in_ok-name.ensures.name ∙ ap (λ s. run_on size (variable_named v) s) (sym c.in_ok-name.ensures.source)
+    ∙ variable_colon size v c.read_name.new.cursor.source c.in_ok-expect-2.ensures.found ∙ ap (λ s. run_on size (in_type (want_type nesting_limit (whole v))) s) (sym c.in_ok-expect-2.ensures.source)
     ∙ type_goes _ size v c.expect-2.new.cursor.source (ty_of c.in_ok-of.of) c.read_type.new.cursor.source (ap length text) c.in_ok-of.ensures.reads)
     (default_tells _ size w c.read_type.new.cursor.source c.in_err-default.field-0.0 (ap length (c.in_ok-of.ensures.same ∙ text)) c.in_err-default.ensures.reads))
 
@@ -49,9 +49,9 @@ returns-in_err-directives-clause-reads c =
     let v : VariableName = record { opening = o; before = before; name = c.in_ok-name.name } in
     let w : Typed = record { variable = v; of = ty_of c.in_ok-of.of } in
     rw (e.1, e.2) (tells-same c.in_err-directives.field-0.0 _ _
-    (variable_begins size o before c.args.cursor.now.source c.in_ok-expect.ensures.found ∙ ap (λ s. going size (dollar o before) s) (sym c.in_ok-expect.ensures.source)
-    ∙ variable_name size o before c.in_ok-name.name c.expect.new.cursor.source c.in_ok-name.ensures.name ∙ ap (λ s. going size (variable_named v) s) (sym c.in_ok-name.ensures.source)
-    ∙ variable_colon size v c.read_name.new.cursor.source c.in_ok-expect-2.ensures.found ∙ ap (λ s. going size (in_type (want_type nesting_limit (whole v))) s) (sym c.in_ok-expect-2.ensures.source)
+    (variable_begins size o before c.args.cursor.now.source c.in_ok-expect.ensures.found ∙ ap (λ s. run_on size (dollar o before) s) (sym c.in_ok-expect.ensures.source)
+    ∙ variable_name size o before c.in_ok-name.name c.expect.new.cursor.source c.in_ok-name.ensures.name ∙ ap (λ s. run_on size (variable_named v) s) (sym c.in_ok-name.ensures.source)
+    ∙ variable_colon size v c.read_name.new.cursor.source c.in_ok-expect-2.ensures.found ∙ ap (λ s. run_on size (in_type (want_type nesting_limit (whole v))) s) (sym c.in_ok-expect-2.ensures.source)
     ∙ type_goes _ size v c.expect-2.new.cursor.source (ty_of c.in_ok-of.of) c.read_type.new.cursor.source (ap length text) c.in_ok-of.ensures.reads
     ∙ default_goes _ size w c.read_type.new.cursor.source c.in_ok-default.default c.read_default.new.cursor.source (ap length text_of) c.in_ok-default.ensures.reads)
     (directives_tells _ size true (on_variable w c.in_ok-default.default) c.read_default.new.cursor.source c.in_err-directives.field-0.0 (ap length (c.in_ok-default.ensures.same ∙ text_of)) c.in_err-directives.ensures.reads))
@@ -66,9 +66,9 @@ returns-clause-reads c =
     λ o before h.
     let v : VariableName = record { opening = o; before = before; name = c.in_ok-name.name } in
     let w : Typed = record { variable = v; of = ty_of c.in_ok-of.of } in
-    variable_begins size o before c.args.cursor.now.source c.in_ok-expect.ensures.found ∙ ap (λ s. going size (dollar o before) s) (sym c.in_ok-expect.ensures.source)
-    ∙ variable_name size o before c.in_ok-name.name c.expect.new.cursor.source c.in_ok-name.ensures.name ∙ ap (λ s. going size (variable_named v) s) (sym c.in_ok-name.ensures.source)
-    ∙ variable_colon size v c.read_name.new.cursor.source c.in_ok-expect-2.ensures.found ∙ ap (λ s. going size (in_type (want_type nesting_limit (whole v))) s) (sym c.in_ok-expect-2.ensures.source)
+    variable_begins size o before c.args.cursor.now.source c.in_ok-expect.ensures.found ∙ ap (λ s. run_on size (dollar o before) s) (sym c.in_ok-expect.ensures.source)
+    ∙ variable_name size o before c.in_ok-name.name c.expect.new.cursor.source c.in_ok-name.ensures.name ∙ ap (λ s. run_on size (variable_named v) s) (sym c.in_ok-name.ensures.source)
+    ∙ variable_colon size v c.read_name.new.cursor.source c.in_ok-expect-2.ensures.found ∙ ap (λ s. run_on size (in_type (want_type nesting_limit (whole v))) s) (sym c.in_ok-expect-2.ensures.source)
     ∙ type_goes _ size v c.expect-2.new.cursor.source (ty_of c.in_ok-of.of) c.read_type.new.cursor.source (ap length text) c.in_ok-of.ensures.reads
     ∙ default_goes _ size w c.read_type.new.cursor.source d c.read_default.new.cursor.source (ap length text_of) c.in_ok-default.ensures.reads
     ∙ directives_goes _ size true (on_variable w d) c.read_default.new.cursor.source ds c.read_directives.new.cursor.source (ap length (c.in_ok-default.ensures.same ∙ text_of)) c.in_ok-directives.ensures.reads

@@ -26,12 +26,12 @@ returns-in_err-directives-clause-reads c =
 pub returns-in_err-values-clause-reads : goal.returns-in_err-values-clause-reads
 returns-in_err-values-clause-reads c =
     let e = err_from_is_err_and c.from_residual-in_err-values.result c.from_residual-in_err-values.ensures.1 in
-    rw (e.1, e.2) (D.fails-rest (codes "enum") c.args.cursor.now c.read_directives.new.cursor reads.NoDirective reads.unopened_values (λ f. record { front = f; title = c.in_ok-name.name; directives = c.in_ok-directives.directives }) (c.in_ok-directives.ensures.same ∙ c.read_name.ensures.same ∙ c.skip.ensures.same) (D.to_directives machine.an_enum c.args.cursor.now c.skip.new.self c.in_ok-skip.ensures.source c.skip.ensures.same c.read_name.new.cursor c.in_ok-name.name c.in_ok-name.ensures.name c.in_ok-name.ensures.source c.read_name.ensures.same (λ f. machine.on_enum f c.in_ok-name.name) (λ f. refl) c.read_directives.new.cursor c.in_ok-directives.directives c.in_ok-directives.ensures.reads) (λ f. c.in_ok-directives.ensures.last) c.in_err-values.field-0.0 c.in_err-values.ensures.reads)
+    rw (e.1, e.2) (D.fails-rest (codes "enum") c.args.cursor.now c.read_directives.new.cursor reads.NoDirective reads.before_values (λ f. record { front = f; title = c.in_ok-name.name; directives = c.in_ok-directives.directives }) (c.in_ok-directives.ensures.same ∙ c.read_name.ensures.same ∙ c.skip.ensures.same) (D.to_directives machine.an_enum c.args.cursor.now c.skip.new.self c.in_ok-skip.ensures.source c.skip.ensures.same c.read_name.new.cursor c.in_ok-name.name c.in_ok-name.ensures.name c.in_ok-name.ensures.source c.read_name.ensures.same (λ f. machine.on_enum f c.in_ok-name.name) (λ f. refl) c.read_directives.new.cursor c.in_ok-directives.directives c.in_ok-directives.ensures.reads) (λ f. c.in_ok-directives.ensures.last) c.in_err-values.field-0.0 c.in_err-values.ensures.reads)
 
 pub returns-clause-reads : goal.returns-clause-reads
 returns-clause-reads c =
     let r = c.in_ok-values.ensures.reads in
-    D.reads-rest (codes "enum") c.args.nodes c.args.cursor.now c.read_directives.new.cursor c.read_enum_values.new.cursor reads.NoDirective reads.unopened_values reads.closed_values (written.spell_enum_values_part node_count) written.values_of (λ f. record { front = f; title = c.in_ok-name.name; directives = c.in_ok-directives.directives })
+    D.reads-rest (codes "enum") c.args.nodes c.args.cursor.now c.read_directives.new.cursor c.read_enum_values.new.cursor reads.NoDirective reads.before_values reads.behind_values (written.spell_enum_values_part node_count) written.values_of (λ f. record { front = f; title = c.in_ok-name.name; directives = c.in_ok-directives.directives })
     c.in_ok-values.values r (λ vs. written.enum c.in_ok-name.name c.in_ok-directives.directives vs) _ (c.in_ok-directives.ensures.same ∙ c.read_name.ensures.same ∙ c.skip.ensures.same)
     (omega (arith, behind-count c.args.cursor.now.source, behind-count c.skip.new.self.source, ap token_count c.in_ok-skip.ensures.source, ap token_count c.in_ok-name.ensures.source, c.in_ok-directives.ensures.taken))
     (D.to_directives machine.an_enum c.args.cursor.now c.skip.new.self c.in_ok-skip.ensures.source c.skip.ensures.same c.read_name.new.cursor c.in_ok-name.name c.in_ok-name.ensures.name c.in_ok-name.ensures.source c.read_name.ensures.same (λ f. machine.on_enum f c.in_ok-name.name) (λ f. refl) c.read_directives.new.cursor c.in_ok-directives.directives c.in_ok-directives.ensures.reads) (λ f. c.in_ok-directives.ensures.last) (λ f w. refl)

@@ -3,7 +3,7 @@ use Rattle.std.proofs.lemmas.Result.{err_from_is_err_and}
 use Rattle.gql_lex.specs.Toks as tok
 use Rattle.gql_syntax.specs.Answers.{node_count}
 use Rattle.gql_syntax.specs.Nexts.{token_count}
-use Rattle.gql_syntax.specs.Places.{laid}
+use Rattle.gql_syntax.specs.Places.{lay}
 use Rattle.gql_syntax.specs.Spelling.{spell_directives}
 use Rattle.gql_syntax.proofs.Tokens.{comes_word}
 use Rattle.gql_ast.specs.declared.schema.SchemaDef.TheVariants as S
@@ -37,7 +37,7 @@ returns-clause-reads c =
     (omega (arith, behind-count c.args.cursor.now.source, behind-count c.skip.new.self.source, ap token_count c.in_ok-skip.ensures.source, ap token_count c.in_ok-name.ensures.source, c.in_ok-directives.ensures.taken))
     (D.to_directives machine.an_input c.args.cursor.now c.skip.new.self c.in_ok-skip.ensures.source c.skip.ensures.same c.read_name.new.cursor c.in_ok-name.name c.in_ok-name.ensures.name c.in_ok-name.ensures.source c.read_name.ensures.same (λ f. machine.on_object f c.in_ok-name.name) (λ f. refl) c.read_directives.new.cursor c.in_ok-directives.directives c.in_ok-directives.ensures.reads) (λ f. (refl, refl, c.in_ok-directives.ensures.last)) (λ f w. refl)
     (λ ns. c.in_ok-skip.ensures.places (1 ∷ spell_directives node_count c.in_ok-directives.directives (written.spell_input_fields node_count r.written ns)) ∙ c.in_ok-name.ensures.places (spell_directives node_count c.in_ok-directives.directives (written.spell_input_fields node_count r.written ns))
-    ∙ c.in_ok-directives.ensures.places (written.spell_input_fields node_count r.written ns) ∙ ap (λ xs. laid xs c.read_directives.new.cursor) (D.fields-as-arguments r.written ns))
+    ∙ c.in_ok-directives.ensures.places (written.spell_input_fields node_count r.written ns) ∙ ap (λ xs. lay xs c.read_directives.new.cursor) (D.fields-as-arguments r.written ns))
     (ap (λ x. S.Input c.in_ok-name.name c.in_ok-directives.directives x) r.viewed)
 
 pub returns-clause-taken : goal.returns-clause-taken

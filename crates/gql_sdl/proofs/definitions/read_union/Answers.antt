@@ -26,12 +26,12 @@ returns-in_err-directives-clause-reads c =
 pub returns-in_err-members-clause-reads : goal.returns-in_err-members-clause-reads
 returns-in_err-members-clause-reads c =
     let e = err_from_is_err_and c.from_residual-in_err-members.result c.from_residual-in_err-members.ensures.1 in
-    rw (e.1, e.2) (D.fails-rest (codes "union") c.args.cursor.now c.read_directives.new.cursor reads.NoDirective reads.ununited (λ f. record { front = f; title = c.in_ok-name.name; directives = c.in_ok-directives.directives }) (c.in_ok-directives.ensures.same ∙ c.read_name.ensures.same ∙ c.skip.ensures.same) (D.to_directives machine.a_union c.args.cursor.now c.skip.new.self c.in_ok-skip.ensures.source c.skip.ensures.same c.read_name.new.cursor c.in_ok-name.name c.in_ok-name.ensures.name c.in_ok-name.ensures.source c.read_name.ensures.same (λ f. machine.on_union f c.in_ok-name.name) (λ f. refl) c.read_directives.new.cursor c.in_ok-directives.directives c.in_ok-directives.ensures.reads) (λ f. c.in_ok-directives.ensures.last) c.in_err-members.field-0.0 c.in_err-members.ensures.reads)
+    rw (e.1, e.2) (D.fails-rest (codes "union") c.args.cursor.now c.read_directives.new.cursor reads.NoDirective reads.before_union_members (λ f. record { front = f; title = c.in_ok-name.name; directives = c.in_ok-directives.directives }) (c.in_ok-directives.ensures.same ∙ c.read_name.ensures.same ∙ c.skip.ensures.same) (D.to_directives machine.a_union c.args.cursor.now c.skip.new.self c.in_ok-skip.ensures.source c.skip.ensures.same c.read_name.new.cursor c.in_ok-name.name c.in_ok-name.ensures.name c.in_ok-name.ensures.source c.read_name.ensures.same (λ f. machine.on_union f c.in_ok-name.name) (λ f. refl) c.read_directives.new.cursor c.in_ok-directives.directives c.in_ok-directives.ensures.reads) (λ f. c.in_ok-directives.ensures.last) c.in_err-members.field-0.0 c.in_err-members.ensures.reads)
 
 pub returns-clause-reads : goal.returns-clause-reads
 returns-clause-reads c =
     let r = c.in_ok-members.ensures.reads in
-    D.reads-rest (codes "union") c.args.nodes c.args.cursor.now c.read_directives.new.cursor c.read_union_members.new.cursor reads.NoDirective reads.ununited reads.united (λ (w : reads.Led (List ℕ)) (ns : List ℕ). written.spell_members_part node_count w.leading w.all ns) (λ w. w.all) (λ f. record { front = f; title = c.in_ok-name.name; directives = c.in_ok-directives.directives })
+    D.reads-rest (codes "union") c.args.nodes c.args.cursor.now c.read_directives.new.cursor c.read_union_members.new.cursor reads.NoDirective reads.before_union_members reads.behind_union_members (λ (w : reads.Led (List ℕ)) (ns : List ℕ). written.spell_members_part node_count w.leading w.all ns) (λ w. w.all) (λ f. record { front = f; title = c.in_ok-name.name; directives = c.in_ok-directives.directives })
     c.in_ok-members.members r (λ w. written.union c.in_ok-name.name c.in_ok-directives.directives w.leading w.all) _ (c.in_ok-directives.ensures.same ∙ c.read_name.ensures.same ∙ c.skip.ensures.same)
     (omega (arith, behind-count c.args.cursor.now.source, behind-count c.skip.new.self.source, ap token_count c.in_ok-skip.ensures.source, ap token_count c.in_ok-name.ensures.source, c.in_ok-directives.ensures.taken))
     (D.to_directives machine.a_union c.args.cursor.now c.skip.new.self c.in_ok-skip.ensures.source c.skip.ensures.same c.read_name.new.cursor c.in_ok-name.name c.in_ok-name.ensures.name c.in_ok-name.ensures.source c.read_name.ensures.same (λ f. machine.on_union f c.in_ok-name.name) (λ f. refl) c.read_directives.new.cursor c.in_ok-directives.directives c.in_ok-directives.ensures.reads) (λ f. c.in_ok-directives.ensures.last) (λ f w. refl)

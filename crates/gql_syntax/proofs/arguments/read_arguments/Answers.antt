@@ -6,7 +6,7 @@ use Rattle.gql_syntax.specs.Answers.{node_count}
 use Rattle.gql_syntax.specs.Machine.{members_then, more}
 use Rattle.gql_syntax.specs.Nexts.{next_is}
 use Rattle.gql_syntax.specs.Parts.{goes}
-use Rattle.gql_syntax.specs.Places.{laid}
+use Rattle.gql_syntax.specs.Places.{lay}
 use Rattle.gql_syntax.specs.Spelling.{spell_value, spell_members, spell_arguments}
 use Rattle.gql_syntax.specs.Steps.{argument_next, arguments_on}
 use Rattle.gql_syntax.proofs.ArgumentMoves.{more_wants}
@@ -19,11 +19,11 @@ returns-then-next_is-clause-places c =
     let n = c.in_ok-argument.argument.name in
     let v = value_of c.in_ok-argument.argument.value in
     let pushed : members_of c.push.new.self ≡ members_then (members_of c.arguments.arguments) n v = ap members_of c.in_ok-push.ensures.ok ∙ members_of-behind c.arguments.arguments n v in
-    λ d h ns. ap (λ xs. laid (spell_arguments node_count xs ns) d) c.in_ok-push.ensures.ok
-    ∙ ap (λ xs. laid xs d) (arguments_some node_count c.arguments.arguments (n, v) ns)
+    λ d h ns. ap (λ xs. lay (spell_arguments node_count xs ns) d) c.in_ok-push.ensures.ok
+    ∙ ap (λ xs. lay xs d) (arguments_some node_count c.arguments.arguments (n, v) ns)
     ∙ h (spell_members node_count (members_of (c.arguments.arguments ++ (n, v) ∷ [])) 0 (0 ∷ ns))
-    ∙ ap (λ ms. laid (spell_members node_count ms 0 (0 ∷ ns)) c.args.cursor.now) (members_of-behind c.arguments.arguments n v)
-    ∙ ap (λ xs. laid xs c.args.cursor.now) (members_behind node_count 0 (0 ∷ ns) (members_of c.arguments.arguments) n v)
+    ∙ ap (λ ms. lay (spell_members node_count ms 0 (0 ∷ ns)) c.args.cursor.now) (members_of-behind c.arguments.arguments n v)
+    ∙ ap (λ xs. lay xs c.args.cursor.now) (members_behind node_count 0 (0 ∷ ns) (members_of c.arguments.arguments) n v)
     ∙ c.arguments.invariant.places (2 ∷ 0 ∷ spell_value node_count v 0 (0 ∷ ns)) ∙ c.in_ok-argument.ensures.places (0 ∷ ns) ∙ c.in_ok-skip.ensures.places ns
 
 pub arguments-preserved : goal.arguments-preserved
@@ -38,8 +38,8 @@ arguments-preserved c =
           (ap length c.arguments.invariant.same) (c.in_ok-argument.ensures.reads c.arguments.arguments)
           ∙ more_wants size c.args.constant (c.arguments.arguments ++ (n, v) ∷ []) c.read_argument.new.cursor.source last
           ∙ ap (λ xs. argument_next size c.args.constant xs c.read_argument.new.cursor.source) (sym c.in_ok-push.ensures.ok);
-      places = λ ns. ap (λ ms. laid (spell_members node_count ms 0 ns) c.args.cursor.now) (ap members_of c.in_ok-push.ensures.ok ∙ members_of-behind c.arguments.arguments n v)
-          ∙ ap (λ xs. laid xs c.args.cursor.now) (members_behind node_count 0 ns (members_of c.arguments.arguments) n v)
+      places = λ ns. ap (λ ms. lay (spell_members node_count ms 0 ns) c.args.cursor.now) (ap members_of c.in_ok-push.ensures.ok ∙ members_of-behind c.arguments.arguments n v)
+          ∙ ap (λ xs. lay xs c.args.cursor.now) (members_behind node_count 0 ns (members_of c.arguments.arguments) n v)
           ∙ c.arguments.invariant.places (2 ∷ 0 ∷ spell_value node_count v 0 ns) ∙ c.in_ok-argument.ensures.places ns;
       same = c.in_ok-argument.ensures.same ∙ c.arguments.invariant.same;
       fewer = omega (arith, c.arguments.invariant.fewer, c.in_ok-argument.ensures.taken);

@@ -7,7 +7,7 @@ use Rattle.gql_syntax.specs.Answers.{node_count}
 use Rattle.gql_syntax.specs.Machine.{item, of_member, want, items, members, named, vals_then, members_then}
 use Rattle.gql_syntax.specs.Nexts.{next_is}
 use Rattle.gql_syntax.specs.Parts.{goes}
-use Rattle.gql_syntax.specs.Places.{laid}
+use Rattle.gql_syntax.specs.Places.{lay}
 use Rattle.gql_syntax.specs.Spelling.{spell_value, spell_values, spell_members}
 use Rattle.gql_syntax.specs.Steps.{value_on, put_alone}
 use Rattle.gql_syntax.proofs.Tokens.{comes_at, comes_word}
@@ -42,8 +42,8 @@ read_fields-fields-preserved t c =
       reads = λ p. c.fields.invariant.reads p ∙ resized _ _ (goes (members c.args.constant c.args.room (members_of c.fields.fields) p)) (goes (members c.args.constant c.args.room (members_then (members_of c.fields.fields) n v) p))
           c.fields.cursor.source c.read_field.new.cursor.source (ap length c.fields.invariant.same) (c.in_ok-field.ensures.reads (members_of c.fields.fields) p)
           ∙ ap (λ ms. value_on size (goes (members c.args.constant c.args.room ms p)) c.read_field.new.cursor.source) (sym pushed);
-      places = λ around ns. ap (λ ms. laid (spell_members node_count ms around ns) c.args.cursor.now) pushed
-          ∙ ap (λ xs. laid xs c.args.cursor.now) (members_behind node_count around ns (members_of c.fields.fields) n v)
+      places = λ around ns. ap (λ ms. lay (spell_members node_count ms around ns) c.args.cursor.now) pushed
+          ∙ ap (λ xs. lay xs c.args.cursor.now) (members_behind node_count around ns (members_of c.fields.fields) n v)
           ∙ c.fields.invariant.places around (2 ∷ 0 ∷ spell_value node_count v around ns) ∙ c.in_ok-field.ensures.places around ns;
       same = c.in_ok-field.ensures.same ∙ c.fields.invariant.same;
       fewer = omega (arith, c.fields.invariant.fewer, c.in_ok-field.ensures.taken);
@@ -75,8 +75,8 @@ read_items-items-preserved t c =
           ∙ resized _ _ (goes (want c.args.constant c.args.room (item c.args.constant c.args.room (vals_of c.items.values) p))) (goes (items c.args.constant c.args.room (vals_then (vals_of c.items.values) v) p))
           c.items.cursor.source c.read.new.cursor.source (ap length c.items.invariant.same) (c.in_ok-value.ensures.reads (item c.args.constant c.args.room (vals_of c.items.values) p))
           ∙ ap (λ vs. value_on size (goes (items c.args.constant c.args.room vs p)) c.read.new.cursor.source) (sym pushed);
-      places = λ around ns. ap (λ vs. laid (spell_values node_count vs around ns) c.args.cursor.now) pushed
-          ∙ ap (λ xs. laid xs c.args.cursor.now) (values_behind node_count around ns (vals_of c.items.values) v)
+      places = λ around ns. ap (λ vs. lay (spell_values node_count vs around ns) c.args.cursor.now) pushed
+          ∙ ap (λ xs. lay xs c.args.cursor.now) (values_behind node_count around ns (vals_of c.items.values) v)
           ∙ c.items.invariant.places around (spell_value node_count v around ns) ∙ c.in_ok-value.ensures.places around ns;
       same = c.in_ok-value.ensures.same ∙ c.items.invariant.same;
       fewer = omega (arith, c.items.invariant.fewer, c.in_ok-value.ensures.taken);
