@@ -1,5 +1,5 @@
 -- Worked rows of the rules on documents, computed from the definitions.
-use Rattle.std.proofs.Common.{◌≡◌, refl, ℕ, List, [], ◌∷◌, Option, Some, None, codes, true, false}
+use Rattle.std.proofs.Common.{◌≡◌, refl, List, [], ◌∷◌, Option, Some, None, codes}
 use Rattle.std.specs.Prelude.{pos}
 use Rattle.gql_ast.specs.Sels.{Sels, end, field, spread, inline}
 use Rattle.gql_ast.specs.Ty as ty
@@ -13,7 +13,6 @@ use Rattle.gql_ast.specs.declared.document.Kind.{Kind}
 use Rattle.gql_ast.specs.declared.document.Kind.TheVariants.{Query, Mutation, Subscription}
 use Rattle.gql_ast.specs.declared.member.FieldTree.{FieldTree}
 use Rattle.gql_ast.specs.declared.member.InputTree.{InputTree}
-use Rattle.gql_ast.specs.declared.schema.SchemaDef.{SchemaDef}
 use Rattle.gql_ast.specs.declared.schema.SchemaDef.TheVariants as S
 use Rattle.gql_ast.specs.declared.type_tree.TypeTree.{TypeTree}
 use Rattle.gql_ast.specs.declared.type_tree.TypeTree.TheVariants as T
@@ -21,12 +20,12 @@ use Rattle.gql_ast.specs.declared.value.ValueTree.{ValueTree}
 use Rattle.gql_ast.specs.declared.value.ValueTree.TheVariants as V
 use Rattle.gql_ast.specs.declared.variable.VariableDef.{VariableDef}
 use Rattle.gql_plain.specs.Tree as t
-use Rattle.schema_types.specs.declared.fault.Rule.TheVariants as R
+use Rattle.schema_rules.specs.declared.fault.Rule.TheVariants as R
 use Rattle.schema_types.specs.DocumentRules.{name_rules, field_rules, argument_rules}
 use Rattle.schema_types.specs.Environments.{environment, first_failure, missing, unfit, evaluated}
-use Rattle.schema_types.specs.Rules.{first_broken}
+use Rattle.gql_graph.specs.Rules.{first_broken}
 use Rattle.schema_types.specs.Sites.{all_definitions}
-use Rattle.schema_types.specs.Types.{Text, Defs}
+use Rattle.schema_tables.specs.Types.{Text, Defs}
 
 -- ---- a schema: `type Query{me:User team(size:Int):[User] thing:Thing} type User{name:String tag(a:Int!):Int} type Page{name:String} union Thing=Page
 -- type Subscription{tick:Int tock:Int}`

@@ -1,15 +1,1 @@
-pub mod SchemaRows
 pub mod DocumentRows
-pub mod LocatedSteps
-pub mod LeastSteps
-pub mod SeenSteps
-pub mod Finding
-pub mod Named
-pub mod Literals
-pub mod FoundAt
-pub mod Settled
-pub mod Graphs
-pub mod NeededTypes
-pub mod Grouping
-pub mod Searching
-pub mod InputKept

@@ -1,20 +1,20 @@
 -- The rules on documents in their order, in three groups; the first that does not hold, and the least place where it does not.
-use Rattle.std.specs.Prelude.{◌≡◌, ℕ, List, [], ◌∷◌, ◌++◌, Option, Some, None}
+use Rattle.std.specs.Prelude.{◌≡◌, ℕ, List, [], ◌∷◌, Some, None}
 use Rattle.gql_ast.specs.declared.document.Document.{Document}
 use Rattle.gql_ast.specs.declared.place.FilePlace.{FilePlace}
 use Rattle.gql_ast.specs.declared.place.Placed.{Placed}
-use Rattle.schema_types.specs.declared.fault.ProjectFault.{ProjectFault}
-use Rattle.schema_types.specs.declared.fault.Rule.{Rule}
-use Rattle.schema_types.specs.declared.fault.Rule.TheVariants as R
-use Rattle.schema_types.specs.declared.fault.RuleFault.{RuleFault}
-use Rattle.schema_types.specs.declared.fault.RuleFault.TheVariants as F
+use Rattle.schema_rules.specs.declared.fault.ProjectFault.{ProjectFault}
+use Rattle.schema_rules.specs.declared.fault.Rule.{Rule}
+use Rattle.schema_rules.specs.declared.fault.Rule.TheVariants as R
+use Rattle.schema_rules.specs.declared.fault.RuleFault.{RuleFault}
+use Rattle.schema_rules.specs.declared.fault.RuleFault.TheVariants as F
 use Rattle.schema_types.specs.ArgumentRules.{arguments_wrong, arguments_missing, literals_unfit, directives_wrong, variables_wrong}
-use Rattle.schema_types.specs.Checked.{node_place, fault_at}
+use Rattle.schema_rules.specs.Checked.{node_place, fault_at}
 use Rattle.schema_types.specs.FieldRules.{fields_undefined, sets_wrong, floats_selected, conditions_never_apply, subscriptions_wrong}
 use Rattle.schema_types.specs.NameRules.{operations_not_named, fragments_not_unique, conditions_wrong, fragments_not_there, spreads_on_cycles, roots_missing}
-use Rattle.schema_types.specs.Rules.{each, first_broken}
+use Rattle.gql_graph.specs.Rules.{each, first_broken}
 use Rattle.schema_types.specs.Sites.{DefinitionAt, all_definitions}
-use Rattle.schema_types.specs.Types.{Defs}
+use Rattle.schema_tables.specs.Types.{Defs}
 
 abbrev pub Rules : Type 0
 Rules = List (Rule × List ℕ)

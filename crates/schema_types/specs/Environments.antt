@@ -1,6 +1,6 @@
 -- The values of variables (GraphQL, October 2021, sections 6.1.2 and 3.4 to 3.12): which values that are given fit a type, the environment of an
 -- operation, and what a value of the language is in one.
-use Rattle.std.specs.Prelude.{◌≡◌, ℤ, ℕ, Bool, true, false, not, ◌&&◌, ◌||◌, cond, List, [], ◌∷◌, ◌++◌, codes, Option, Some, None, is_some, bytes_eq}
+use Rattle.std.specs.Prelude.{Bool, true, false, not, ◌&&◌, ◌||◌, cond, List, [], ◌∷◌, codes, Option, Some, None, is_some, bytes_eq}
 use Rattle.std.specs.Cmp.Lexicographic.{slice_cmp}
 use Rattle.std.specs.Ordering.{nat_cmp, match_ordering}
 use Rattle.gql_plain.specs.Order.{has_text, member_at}
@@ -14,8 +14,8 @@ use Rattle.gql_ast.specs.ValueView.{value_of}
 use Rattle.gql_ast.specs.declared.member.InputTree.{InputTree}
 use Rattle.gql_ast.specs.declared.value.ValueTree.{ValueTree}
 use Rattle.gql_ast.specs.declared.variable.VariableDef.{VariableDef}
-use Rattle.schema_types.specs.Fits.{is_non_null, item_of, is_list_type, is_in_i32, is_required, Meaning, built_in, one_of, fields, anything, meaning_of, takes_list, input_type}
-use Rattle.schema_types.specs.Types.{Text, Defs, base_of, input_named}
+use Rattle.schema_tables.specs.Fits.{is_non_null, item_of, is_list_type, is_in_i32, is_required, Meaning, built_in, one_of, fields, anything, meaning_of, takes_list, input_type}
+use Rattle.schema_tables.specs.Types.{Text, Defs, base_of, input_named}
 
 -- ---- values that are given fit (as literals do; an enum name is a text)
 

@@ -1,6 +1,6 @@
 -- What stands in documents, in text order, each with the type around it and with the places of its names. A place is told by its
 -- number among the nodes of all documents, from 0 (GraphQL, October 2021, sections 2.3 to 2.8, 2.10, 2.12; 5.3.1 for types).
-use Rattle.std.specs.Prelude.{ℕ, ◌+◌, Bool, true, false, cond, List, [], ◌∷◌, ◌++◌, codes, Option, Some, None, option_map, option_and_then, bytes_eq}
+use Rattle.std.specs.Prelude.{ℕ, ◌+◌, Bool, true, false, cond, List, [], ◌∷◌, ◌++◌, codes, Option, Some, None, option_map, bytes_eq}
 use Rattle.gql_ast.specs.Sels as sels
 use Rattle.gql_ast.specs.Sels.{Sels, end}
 use Rattle.gql_ast.specs.Ty as ty
@@ -18,8 +18,8 @@ use Rattle.gql_ast.specs.declared.document.Operation.{Operation}
 use Rattle.gql_ast.specs.declared.member.FieldTree.{FieldTree}
 use Rattle.gql_ast.specs.declared.value.ValueTree.{ValueTree}
 use Rattle.gql_ast.specs.declared.variable.VariableDef.{VariableDef}
-use Rattle.schema_types.specs.Located.{Located, value_nodes, members_nodes, directives_nodes, type_nodes, default_nodes}
-use Rattle.schema_types.specs.Types.{Text, Defs, base_of, field_on, is_composite, root}
+use Rattle.schema_trees.specs.Located.{Located, value_nodes, members_nodes, directives_nodes, type_nodes, default_nodes}
+use Rattle.schema_tables.specs.Types.{Text, Defs, base_of, field_on, is_composite, root}
 
 -- ---- how many nodes
 

@@ -3,20 +3,20 @@ ghost use Rattle.std.specs.Prelude.{◌≡◌, map, true, option_map, option_and
 ghost use Rattle.gql_plain.specs.Order.{sorted_texts};
 ghost use Rattle.gql_ast.specs.TypeView.{ty_of};
 ghost use Rattle.gql_ast.specs.ValueView.{value_of};
-ghost use Rattle.schema_types.specs.BuiltIn as known;
-ghost use Rattle.schema_types.specs.Checked as checked;
-ghost use Rattle.schema_types.specs.Checked.{IsSound, IsRuleFault};
-ghost use Rattle.schema_types.specs.Fits as fits;
-ghost use Rattle.schema_types.specs.Types as types;
+ghost use Rattle.schema_tables.specs.BuiltIn as known;
+ghost use Rattle.schema_rules.specs.Checked as checked;
+ghost use Rattle.schema_rules.specs.Checked.{IsSound, IsRuleFault};
+ghost use Rattle.schema_tables.specs.Fits as fits;
+ghost use Rattle.schema_tables.specs.Types as types;
 
-use crate::definitions::{DirectiveDef, FieldDef, InputDef, InputDefs};
-use crate::fault::{ProjectFault, Rule, RuleFault};
-use crate::first::broken;
-use crate::fits::use_allowed;
-use crate::kind::TypeKind;
-use crate::tables::Tables;
 use gql_ast::{FilePlaces, Kind, Placed, SchemaTree, TypeTree, ValueTree, VariableDef};
 use gql_plain::{Ids, Name};
+use schema_rules::fault::{ProjectFault, Rule, RuleFault};
+use schema_rules::first::broken;
+use schema_tables::definitions::{DirectiveDef, FieldDef, InputDef, InputDefs};
+use schema_tables::fits::use_allowed;
+use schema_tables::kind::TypeKind;
+use schema_tables::tables::Tables;
 use std::alloc::Global;
 use std::marker::Model;
 
@@ -52,7 +52,7 @@ impl Model for Schema {
     ghost use Rattle.std.specs.Coded.{coded_list};
     ghost use Rattle.gql_ast.specs.declared.schema.SchemaDef.{SchemaDef};
     ghost use Rattle.gql_ast.specs.contracts.schema.SchemaDef as definition_row;
-    ghost use Rattle.schema_types.specs.Checked.{IsSound};
+    ghost use Rattle.schema_rules.specs.Checked.{IsSound};
 
     ghost Value = { List SchemaDef };
 

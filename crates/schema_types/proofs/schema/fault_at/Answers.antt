@@ -1,7 +1,7 @@
 -- The place of a node is the one of its number.
 use Rattle.std.proofs.Common.{◌≡◌, ℕ, zero, suc, ◌<◌, ◌≤◌, List, [], ◌∷◌, length, get_or, refl, ap, sym, ◌∙◌, arith}
 use Rattle.gql_ast.specs.declared.place.FilePlace.{FilePlace}
-use Rattle.schema_types.specs.Checked.{fault_at, node_place}
+use Rattle.schema_rules.specs.Checked.{fault_at, node_place}
 use Rattle.schema_types.proofs.schema.fault_at.Goals as goal
 
 given : (ps : List FilePlace) (n : ℕ) (other : FilePlace) → n < length ps → node_place ps n ≡ get_or ps n other

@@ -1,8 +1,7 @@
 -- The tables are of the definitions of the tree.
 use Rattle.std.proofs.Common.{◌≡◌, sym, ap, ◌∙◌}
-use Rattle.gql_ast.specs.declared.schema.SchemaDef.{SchemaDef}
-use Rattle.schema_types.specs.Checked.{broken}
-use Rattle.schema_types.specs.Types.{Defs}
+use Rattle.schema_rules.specs.Checked.{broken}
+use Rattle.schema_tables.specs.Types.{Defs}
 use Rattle.schema_types.proofs.schema.Schema.build.Goals as goal
 
 pub returns-in-Some-clause-fault : goal.returns-in-Some-clause-fault

@@ -1,0 +1,7 @@
+pub mod TextSteps
+pub mod LeastSteps
+pub mod SeenSteps
+pub mod Graphs
+pub mod Searching
+pub mod Listing
+pub mod RankSteps

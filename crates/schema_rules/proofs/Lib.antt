@@ -1,0 +1,3 @@
+pub mod SchemaRows
+pub mod FoundAt
+pub mod NeededTypes

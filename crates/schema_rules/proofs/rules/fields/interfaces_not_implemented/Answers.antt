@@ -1,0 +1,9 @@
+-- One more of the list.
+use Rattle.std.proofs.Common.{arith}
+use Rattle.schema_trees.specs.LocatedView.{def_of}
+use Rattle.schema_rules.specs.Rules as rules
+use Rattle.gql_graph.proofs.LeastSteps.{each_next}
+use Rattle.schema_rules.proofs.rules.fields.interfaces_not_implemented.Goals as goal
+
+pub definitions-preserved : goal.definitions-preserved
+definitions-preserved c = each_next def_of (rules.not_implemented_in c.args.tables.now) c.args.definitions.now c.definitions.definition-index c.definition-item.result _ _ _ (omega arith) c.definition-item.is c.in_ok-note_not_implemented.ensures c.definitions.invariant

@@ -1,0 +1,6 @@
+//! The rules that a schema has to meet (GraphQL, October 2021, section 3), and the faults of projects.
+#![tactic(auto)]
+
+pub mod fault;
+pub mod first;
+mod rules;

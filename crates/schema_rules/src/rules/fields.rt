@@ -1,0 +1,383 @@
+//! S8, interface fields (GraphQL, October 2021, section 3.6): a type has each field of its
+//! interfaces, with the same type or a narrower one, each argument with the same type, and no
+//! further required argument. `interface N { id: ID } type A implements N { x: Int }` breaks it at
+//! `A`.
+ghost use Rattle.std.specs.Prelude.{◌≡◌, [], ◌&&◌, not, map, List, Some, None, IfOk, OnOk, option_map, is_some};
+ghost use Rattle.std.specs.BTreeMap.{get_by_text};
+ghost use Rattle.gql_ast.specs.TypeView.{ty_of};
+ghost use Rattle.gql_graph.specs.Leasts.{noted};
+ghost use Rattle.schema_trees.specs.Located as located;
+ghost use Rattle.schema_trees.specs.LocatedView.{name_of, input_of, field_of, def_of};
+ghost use Rattle.schema_rules.specs.NamedAt.{name_place, field_place, input_place, wanted_place};
+ghost use Rattle.schema_rules.specs.Rules as rules;
+ghost use Rattle.schema_tables.specs.Types as types;
+
+use crate::rules::interfaces::is_interface;
+use crate::rules::members::is_object;
+use crate::rules::names::{field_names, input_names};
+use gql_ast::{FieldTree, InputTree, SchemaDef, TypeTree};
+use gql_graph::least::Least;
+use gql_plain::NoMemory;
+use schema_tables::index::Index;
+use schema_tables::tables::Tables;
+use schema_tables::type_forms::is_non_null;
+use schema_trees::located::{DefAt, FieldAt, InputAt, NameAt};
+use std::alloc::Global;
+
+/// S8: a type has each field of its interfaces, of the same type or a narrower one; it has each
+/// argument with the same type, and further arguments are not required (GraphQL, October 2021,
+/// sections 3.6 and 3.7).
+pub(crate) fn interfaces_not_implemented(
+    alloc: Global,
+    tables: &Tables,
+    least: &mut Least,
+    definitions: &[DefAt<'_>],
+) -> Result<(), NoMemory>
+    ensures { OnOk result (least.new.at ≡ noted least.old.at (rules.interfaces_not_implemented tables.now (map def_of definitions.now))) }
+{
+    'definitions: for definition in definitions {
+        note_not_implemented(alloc, tables, least, definition)?;
+    }
+    Ok(())
+}
+
+/// What a definition lacks of its interfaces.
+fn note_not_implemented(
+    alloc: Global,
+    tables: &Tables,
+    least: &mut Least,
+    definition: &DefAt<'_>,
+) -> Result<(), NoMemory>
+    ensures { OnOk result (least.new.at ≡ noted least.old.at (rules.not_implemented_in tables.now (def_of definition.now))) }
+{
+    match definition {
+        DefAt::Object {
+            name,
+            interfaces,
+            fields,
+        } => note_lacks(alloc, tables, least, name, fields, interfaces),
+        DefAt::Interface {
+            name,
+            interfaces,
+            fields,
+        } => note_lacks(alloc, tables, least, name, fields, interfaces),
+        DefAt::Schema { .. } => Ok(()),
+        DefAt::Scalar { .. } => Ok(()),
+        DefAt::Union { .. } => Ok(()),
+        DefAt::Enum { .. } => Ok(()),
+        DefAt::Input { .. } => Ok(()),
+        DefAt::Directive { .. } => Ok(()),
+    }
+}
+
+/// What a type lacks of the interfaces that it implements.
+fn note_lacks(
+    alloc: Global,
+    tables: &Tables,
+    least: &mut Least,
+    name: &NameAt<'_>,
+    fields: &[FieldAt<'_>],
+    interfaces: &[NameAt<'_>],
+) -> Result<(), NoMemory>
+    ensures { OnOk result (least.new.at ≡ noted least.old.at (rules.each (rules.lacks_of_interface tables.now (name_of name.now) (map field_of fields.now)) (map name_of interfaces.now))) }
+{
+    let places = places_of_fields(alloc, fields)?;
+    'interfaces: for interface in interfaces {
+        let wanted = fields_wanted(tables, interface.name);
+        note_differences(alloc, tables, least, name, fields, &places, wanted)?;
+    }
+    Ok(())
+}
+
+/// The fields of an interface.
+fn fields_wanted<'t>(tables: &'t Tables, name: &str) -> &'t [FieldTree]
+    ensures { result.now ≡ rules.interface_fields (types.type_named tables.now name.now) }
+{
+    match tables.definition(name) {
+        Some(definition) => fields_of(definition),
+        None => &[],
+    }
+}
+
+/// The fields of a definition.
+fn fields_of(definition: &SchemaDef) -> &[FieldTree]
+    ensures { result.now ≡ types.fields_of definition.now }
+{
+    match definition {
+        SchemaDef::Object { fields, .. } => fields.as_slice(),
+        SchemaDef::Interface { fields, .. } => fields.as_slice(),
+        SchemaDef::Schema { .. } => &[],
+        SchemaDef::Scalar { .. } => &[],
+        SchemaDef::Union { .. } => &[],
+        SchemaDef::Enum { .. } => &[],
+        SchemaDef::Input { .. } => &[],
+        SchemaDef::Directive { .. } => &[],
+    }
+}
+
+/// The first places of names.
+fn places_of(alloc: Global, names: &[NameAt<'_>]) -> Result<Index, NoMemory>
+    ensures { IfOk result (λ index. (n : types.Text) → get_by_text index.places n ≡ name_place (map name_of names.now) n) }
+{
+    let mut index = Index::new(alloc);
+    let mut at = 0;
+    'names: for name in names {
+        index.put(alloc, name.name, at)?;
+        at += 1;
+    }
+    Ok(index)
+}
+
+/// The first places of the names of fields.
+#[tactic(auto, using(crate::proofs::FoundAt::named_places))]
+fn places_of_fields(alloc: Global, fields: &[FieldAt<'_>]) -> Result<Index, NoMemory>
+    ensures { IfOk result (λ index. (n : types.Text) → get_by_text index.places n ≡ field_place (map field_of fields.now) n) }
+{
+    let names = field_names(alloc, fields)?;
+    let index = places_of(alloc, &names)?;
+    Ok(index)
+}
+
+/// The first places of the names of arguments.
+#[tactic(auto, using(crate::proofs::FoundAt::named_places))]
+fn places_of_inputs(alloc: Global, inputs: &[InputAt<'_>]) -> Result<Index, NoMemory>
+    ensures { IfOk result (λ index. (n : types.Text) → get_by_text index.places n ≡ input_place (map input_of inputs.now) n) }
+{
+    let names = input_names(alloc, inputs)?;
+    let index = places_of(alloc, &names)?;
+    Ok(index)
+}
+
+/// The first places of the names of the arguments that are wanted.
+fn places_of_wanted(alloc: Global, wanted: &[InputTree]) -> Result<Index, NoMemory>
+    ensures { IfOk result (λ index. (n : types.Text) → get_by_text index.places n ≡ wanted_place wanted.now n) }
+{
+    let mut index = Index::new(alloc);
+    let mut at = 0;
+    'wanted: for input in wanted {
+        index.put(alloc, input.name.as_str(), at)?;
+        at += 1;
+    }
+    Ok(index)
+}
+
+/// What the fields of a type differ in from those of an interface.
+fn note_differences(
+    alloc: Global,
+    tables: &Tables,
+    least: &mut Least,
+    name: &NameAt<'_>,
+    fields: &[FieldAt<'_>],
+    places: &Index,
+    wanted: &[FieldTree],
+) -> Result<(), NoMemory>
+    requires { (n : types.Text) → get_by_text places.now.places n ≡ field_place (map field_of fields.now) n }
+    ensures { OnOk result (least.new.at ≡ noted least.old.at (rules.each (λ w. rules.field_differs tables.now name.now.at (rules.field_found (map field_of fields.now) w.name) w) wanted.now)) }
+{
+    'wanted: for field in wanted {
+        let found = field_found(fields, places, field.name.as_str());
+        note_difference(alloc, tables, least, name.at, found, field)?;
+    }
+    Ok(())
+}
+
+/// The first field of a name.
+fn field_found<'d, 'a>(
+    fields: &'d [FieldAt<'a>],
+    places: &Index,
+    name: &str,
+) -> Option<&'d FieldAt<'a>>
+    requires { (n : types.Text) → get_by_text places.now.places n ≡ field_place (map field_of fields.now) n }
+    ensures { option_map (λ f. field_of f.now) result ≡ rules.field_found (map field_of fields.now) name.now }
+{
+    match places.find(name) {
+        Some(at) => Some(&fields[at]),
+        None => None,
+    }
+}
+
+/// The first argument of a name.
+fn input_found<'d, 'a>(
+    inputs: &'d [InputAt<'a>],
+    places: &Index,
+    name: &str,
+) -> Option<&'d InputAt<'a>>
+    requires { (n : types.Text) → get_by_text places.now.places n ≡ input_place (map input_of inputs.now) n }
+    ensures { option_map (λ i. input_of i.now) result ≡ rules.input_found (map input_of inputs.now) name.now }
+{
+    match places.find(name) {
+        Some(at) => Some(&inputs[at]),
+        None => None,
+    }
+}
+
+/// What a field, if there is one, differs in from that of an interface.
+fn note_difference(
+    alloc: Global,
+    tables: &Tables,
+    least: &mut Least,
+    lacks: usize,
+    found: Option<&FieldAt<'_>>,
+    wanted: &FieldTree,
+) -> Result<(), NoMemory>
+    ensures { OnOk result (least.new.at ≡ noted least.old.at (rules.field_differs tables.now lacks (option_map (λ f. field_of f.now) found.entry) wanted.now)) }
+{
+    match found {
+        Some(field) => note_field(alloc, tables, least, field, wanted),
+        None => {
+            least.note(lacks);
+            Ok(())
+        }
+    }
+}
+
+/// What a field differs in from that of an interface.
+#[tactic(auto, using(gql_graph::proofs::LeastSteps::noting))]
+fn note_field(
+    alloc: Global,
+    tables: &Tables,
+    least: &mut Least,
+    field: &FieldAt<'_>,
+    wanted: &FieldTree,
+) -> Result<(), NoMemory>
+    ensures { OnOk result (least.new.at ≡ noted least.old.at (rules.field_differs tables.now 0 (Some (field_of field.now)) wanted.now)) }
+{
+    least.note_if(!is_narrower(tables, field.of.of, &wanted.of), field.of.at);
+    note_arguments(alloc, least, field, wanted)?;
+    note_further(alloc, least, field, wanted)
+}
+
+/// Arguments that a field lacks, or whose types differ.
+fn note_arguments(
+    alloc: Global,
+    least: &mut Least,
+    field: &FieldAt<'_>,
+    wanted: &FieldTree,
+) -> Result<(), NoMemory>
+    ensures { OnOk result (least.new.at ≡ noted least.old.at (rules.each (rules.arguments_lack (field_of field.now)) wanted.now.arguments)) }
+{
+    let places = places_of_inputs(alloc, &field.arguments)?;
+    'arguments: for argument in wanted.arguments.as_slice() {
+        let found = input_found(&field.arguments, &places, argument.name.as_str());
+        note_argument(least, field.name.at, found, argument);
+    }
+    Ok(())
+}
+
+/// What an argument, if there is one, differs in from that of an interface.
+fn note_argument(least: &mut Least, lacks: usize, found: Option<&InputAt<'_>>, wanted: &InputTree)
+    ensures { least.new.at ≡ noted least.old.at (rules.argument_differs lacks (option_map (λ i. input_of i.now) found.entry) wanted.now) }
+{
+    match found {
+        Some(input) => least.note_if(!same_type(input.of.of, &wanted.of), input.of.at),
+        None => least.note(lacks),
+    }
+}
+
+/// Arguments that are required, and that the interface does not have.
+fn note_further(
+    alloc: Global,
+    least: &mut Least,
+    field: &FieldAt<'_>,
+    wanted: &FieldTree,
+) -> Result<(), NoMemory>
+    ensures { OnOk result (least.new.at ≡ noted least.old.at (rules.each (rules.further_argument wanted.now.arguments) (field_of field.now).arguments)) }
+{
+    let places = places_of_wanted(alloc, wanted.arguments.as_slice())?;
+    note_not_wanted(least, &places, wanted, &field.arguments);
+    Ok(())
+}
+
+/// Arguments that are required and not wanted.
+#[tactic(auto, using(gql_graph::proofs::LeastSteps::noting))]
+fn note_not_wanted(least: &mut Least, places: &Index, wanted: &FieldTree, arguments: &[InputAt<'_>])
+    requires { (n : types.Text) → get_by_text places.now.places n ≡ wanted_place wanted.now.arguments n }
+    ensures { least.new.at ≡ noted least.old.at (rules.each (rules.further_argument wanted.now.arguments) (map input_of arguments.now)) }
+{
+    'arguments: for argument in arguments {
+        least.note_if(is_further(places, wanted, argument), argument.name.at);
+    }
+}
+
+/// Whether an argument is required and not one that the field of the interface has.
+fn is_further(places: &Index, wanted: &FieldTree, argument: &InputAt<'_>) -> bool
+    requires { (n : types.Text) → get_by_text places.now.places n ≡ wanted_place wanted.now.arguments n }
+    ensures { result ≡ (rules.is_required_at (input_of argument.now) && not (is_some (types.input_named wanted.now.arguments argument.now.name.name.now))) }
+{
+    is_required(argument) && !is_wanted(places, wanted, argument.name.name)
+}
+
+/// Whether an argument of this name is wanted.
+fn is_wanted(places: &Index, _wanted: &FieldTree, name: &str) -> bool
+    requires { (n : types.Text) → get_by_text places.now.places n ≡ wanted_place _wanted.now.arguments n }
+    ensures { result ≡ is_some (types.input_named _wanted.now.arguments name.now) }
+{
+    places.find(name).is_some()
+}
+
+/// Whether an argument has to be given.
+fn is_required(input: &InputAt<'_>) -> bool
+    ensures { result ≡ rules.is_required_at (input_of input.now) }
+{
+    is_non_null(input.of.of) && input.default.is_none()
+}
+
+/// Whether a type is the same as another one, or a narrower one.
+fn is_narrower(tables: &Tables, narrow: &TypeTree, wide: &TypeTree) -> bool
+    ensures { result ≡ rules.is_narrower tables.now (ty_of narrow.now) (ty_of wide.now) }
+{
+    match narrow {
+        TypeTree::Named(name) => match wide {
+            TypeTree::Named(other) => is_narrower_name(tables, name.as_str(), other.as_str()),
+            TypeTree::List(_) => false,
+            TypeTree::NonNull(_) => false,
+        },
+        TypeTree::List(item) => match wide {
+            TypeTree::Named(_) => false,
+            TypeTree::List(other) => is_narrower(tables, item.tree(), other.tree()),
+            TypeTree::NonNull(_) => false,
+        },
+        TypeTree::NonNull(inner) => match wide {
+            TypeTree::Named(_) => is_narrower(tables, inner.tree(), wide),
+            TypeTree::List(_) => is_narrower(tables, inner.tree(), wide),
+            TypeTree::NonNull(other) => is_narrower(tables, inner.tree(), other.tree()),
+        },
+    }
+}
+
+/// Whether a type is the same as another one, a possible type of it, or an interface that implements
+/// it.
+fn is_narrower_name(tables: &Tables, narrow: &str, wide: &str) -> bool
+    ensures { result ≡ rules.is_narrower_name tables.now narrow.now wide.now }
+{
+    if narrow == wide {
+        return true;
+    }
+    if is_object(tables, narrow) && tables.applies(narrow, wide) {
+        return true;
+    }
+    is_interface(tables, narrow) && tables.implements(narrow, wide)
+}
+
+/// Whether two types are the same.
+fn same_type(one: &TypeTree, other: &TypeTree) -> bool
+    ensures { result ≡ rules.same_type (ty_of one.now) (ty_of other.now) }
+{
+    match one {
+        TypeTree::Named(a) => match other {
+            TypeTree::Named(b) => a.as_str() == b.as_str(),
+            TypeTree::List(_) => false,
+            TypeTree::NonNull(_) => false,
+        },
+        TypeTree::List(a) => match other {
+            TypeTree::Named(_) => false,
+            TypeTree::List(b) => same_type(a.tree(), b.tree()),
+            TypeTree::NonNull(_) => false,
+        },
+        TypeTree::NonNull(a) => match other {
+            TypeTree::Named(_) => false,
+            TypeTree::List(_) => false,
+            TypeTree::NonNull(b) => same_type(a.tree(), b.tree()),
+        },
+    }
+}

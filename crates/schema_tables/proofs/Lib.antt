@@ -1,0 +1,5 @@
+pub mod Finding
+pub mod Named
+pub mod Literals
+pub mod Grouping
+pub mod InputKept

@@ -1,0 +1,11 @@
+pub mod Types
+pub mod BuiltIn
+pub mod Fits
+pub mod Places
+pub mod Members
+pub mod Parts
+pub mod Kept
+pub mod Means
+pub mod Given
+pub mod Known
+pub mod Objects

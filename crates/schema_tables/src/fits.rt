@@ -1,0 +1,261 @@
+//! Which literals fit a type, and which uses of a variable are allowed (GraphQL, October 2021,
+//! sections 3.4 to 3.12, 5.6 and 5.8.5).
+ghost use Rattle.std.specs.Prelude.{◌≡◌, ℕ, List, map, Some};
+ghost use Rattle.gql_ast.specs.TypeView.{ty_of};
+ghost use Rattle.gql_ast.specs.Value.{vals_of, members_of};
+ghost use Rattle.gql_ast.specs.ValueView.{value_of, argument_of};
+ghost use Rattle.gql_ast.specs.declared.member.InputTree.{InputTree};
+ghost use Rattle.gql_plain.specs.Order.{sorted_texts};
+ghost use Rattle.schema_tables.specs.Fits as fits;
+ghost use Rattle.schema_tables.specs.Given.{must_be_given, gives_each};
+ghost use Rattle.schema_tables.specs.Means.{Means};
+ghost use Rattle.schema_tables.specs.Types as types;
+
+use crate::definitions::InputDef;
+use crate::members::InputTable;
+use crate::part::Part;
+use crate::tables::Tables;
+use crate::type_forms::{base_of, is_built_in_scalar, is_non_null, item_of};
+use gql_ast::{Argument, Arguments, TypeTree, ValueTree, ValueTrees, VariableDef};
+use gql_plain::Ids;
+
+/// What a named type takes.
+#[derive(Drop)]
+pub(crate) enum Meaning<'a> {
+    BuiltIn,
+    /// One of the names of an enum.
+    OneOf(&'a Ids),
+    /// An object with these fields.
+    Fields(&'a InputTable),
+    Anything,
+}
+
+impl Tables {
+    /// What a named type takes.
+    fn meaning(&self, name: &str) -> Meaning<'_>
+        ensures { Means self.now name.now result }
+    {
+        if is_built_in_scalar(name) {
+            return Meaning::BuiltIn;
+        }
+        match self.part(name) {
+            Some(Part::Values(names)) => Meaning::OneOf(names),
+            Some(Part::Inputs(inputs)) => Meaning::Fields(inputs),
+            _ => Meaning::Anything,
+        }
+    }
+
+    /// Whether the literal fits the type. A variable fits everywhere.
+    #[cycle(fits)]
+    pub fn literal_fits(&self, value: &ValueTree, of: &TypeTree) -> bool
+        ensures { result ≡ fits.literal_fits self.now (value_of value.now) (ty_of of.now) }
+    {
+        match value {
+            ValueTree::Variable(_) => true,
+            ValueTree::Null => !is_non_null(of),
+            ValueTree::List(values) => match item_of(of) {
+                Some(item) => self.items_fit(values, item),
+                None => matches!(self.meaning(base_of(of)), Meaning::Anything),
+            },
+            ValueTree::Object(fields) => match self.meaning(base_of(of)) {
+                Meaning::Fields(inputs) => {
+                    gives_required(inputs, fields) && self.members_fit(fields, inputs)
+                }
+                Meaning::Anything => true,
+                Meaning::BuiltIn => false,
+                Meaning::OneOf(_) => false,
+            },
+            ValueTree::Int(_) => self.single_fits(value, base_of(of)),
+            ValueTree::Text(_) => self.single_fits(value, base_of(of)),
+            ValueTree::Bool(_) => self.single_fits(value, base_of(of)),
+            ValueTree::Enum(_) => self.single_fits(value, base_of(of)),
+        }
+    }
+
+    /// Whether each value fits as an item of that type.
+    #[cycle(fits)]
+    fn items_fit(&self, values: &ValueTrees, item: &TypeTree) -> bool
+        ensures { result ≡ fits.items_fit self.now (vals_of values.now) (Some (ty_of item.now)) }
+    {
+        'items: for value in &values.items {
+            if !may_be_item(value, item) {
+                return false;
+            }
+            if !self.literal_fits(value, item) {
+                return false;
+            }
+        }
+        true
+    }
+
+    /// Whether each field is one of the inputs, stands once, and has a fitting value.
+    #[cycle(fits)]
+    fn members_fit(&self, fields: &Arguments, inputs: &InputTable) -> bool
+        ensures { (is : List InputTree) → inputs.now ≡ map types.input_def is
+            → result ≡ fits.members_fit self.now (members_of fields.now) (fits.fields is) }
+    {
+        'fields: for (at, field) in fields.items.iter().enumerate() {
+            let Some(input) = inputs.find(field.name.as_str()) else {
+                return false;
+            };
+            if !self.literal_fits(&field.value, &input.of) {
+                return false;
+            }
+            if has_member(&fields.items[at + 1..], field.name.as_str()) {
+                return false;
+            }
+        }
+        true
+    }
+
+    /// Whether a value that is no list, object, null or variable fits the named type.
+    fn single_fits(&self, value: &ValueTree, name: &str) -> bool
+        ensures { result ≡ fits.fits_meaning (value_of value.now) (fits.meaning_of self.now name.now) }
+    {
+        match self.meaning(name) {
+            Meaning::BuiltIn => fits_built_in(value, name),
+            Meaning::OneOf(names) => is_among(value, names),
+            Meaning::Fields(_) => false,
+            Meaning::Anything => true,
+        }
+    }
+}
+
+/// Whether the use of a variable is allowed at a place of a type that has a default or has none
+/// (section 5.8.5).
+pub fn use_allowed(defined: &VariableDef, of: &TypeTree, has_default: bool) -> bool
+    ensures { result ≡ fits.use_allowed (ty_of defined.now.of) defined.now.default (ty_of of.now) has_default }
+{
+    let TypeTree::NonNull(inner) = of else {
+        return types_agree(&defined.of, of);
+    };
+    if is_non_null(&defined.of) {
+        return types_agree(&defined.of, of);
+    }
+    if has_default {
+        return types_agree(&defined.of, inner.tree());
+    }
+    is_given_default(&defined.default) && types_agree(&defined.of, inner.tree())
+}
+
+/// Whether there is a default that is not null.
+fn is_given_default(default: &Option<ValueTree>) -> bool
+    ensures { result ≡ fits.is_given_default default.now }
+{
+    match default {
+        None => false,
+        Some(ValueTree::Null) => false,
+        Some(_) => true,
+    }
+}
+
+/// Whether a variable's type goes into the type of a place: a non-null form goes into a nullable
+/// one at every level.
+fn types_agree(variable: &TypeTree, place: &TypeTree) -> bool
+    ensures { result ≡ fits.types_agree (ty_of variable.now) (ty_of place.now) }
+{
+    match variable {
+        TypeTree::NonNull(inner) => match place {
+            TypeTree::NonNull(place) => types_agree(inner.tree(), place.tree()),
+            TypeTree::Named(_) => types_agree(inner.tree(), place),
+            TypeTree::List(_) => types_agree(inner.tree(), place),
+        },
+        TypeTree::Named(name) => match place {
+            TypeTree::Named(other) => name.as_str() == other.as_str(),
+            TypeTree::List(_) => false,
+            TypeTree::NonNull(_) => false,
+        },
+        TypeTree::List(item) => match place {
+            TypeTree::List(other) => types_agree(item.tree(), other.tree()),
+            TypeTree::Named(_) => false,
+            TypeTree::NonNull(_) => false,
+        },
+    }
+}
+
+/// Whether a value may be an item of that type: where the items are lists, only a list, null or a
+/// variable may be one.
+fn may_be_item(value: &ValueTree, item: &TypeTree) -> bool
+    ensures { result ≡ fits.may_be_item (value_of value.now) (ty_of item.now) }
+{
+    match value {
+        ValueTree::Variable(_) => true,
+        ValueTree::Null => true,
+        ValueTree::List(_) => true,
+        ValueTree::Object(_) => item_of(item).is_none(),
+        ValueTree::Int(_) => item_of(item).is_none(),
+        ValueTree::Text(_) => item_of(item).is_none(),
+        ValueTree::Bool(_) => item_of(item).is_none(),
+        ValueTree::Enum(_) => item_of(item).is_none(),
+    }
+}
+
+/// Whether a value fits a scalar that every schema has (section 3.5).
+fn fits_built_in(value: &ValueTree, name: &str) -> bool
+    ensures { result ≡ fits.fits_built_in (value_of value.now) name.now }
+{
+    if name == "Int" {
+        return is_small_int(value);
+    }
+    if name == "Float" {
+        return matches!(value, ValueTree::Int(_));
+    }
+    if name == "String" {
+        return matches!(value, ValueTree::Text(_));
+    }
+    if name == "Boolean" {
+        return matches!(value, ValueTree::Bool(_));
+    }
+    matches!(value, ValueTree::Text(_) | ValueTree::Int(_))
+}
+
+/// Whether a value is a whole number of 32 bits.
+fn is_small_int(value: &ValueTree) -> bool
+    ensures { result ≡ fits.is_small_int (value_of value.now) }
+{
+    match value {
+        ValueTree::Int(number) => -2_147_483_648 <= *number && *number <= 2_147_483_647,
+        _ => false,
+    }
+}
+
+/// Whether a value is one of the names of an enum.
+fn is_among(value: &ValueTree, names: &Ids) -> bool
+    ensures { (ns : List (List ℕ)) → names.now ≡ sorted_texts ns → result ≡ fits.fits_enum (value_of value.now) ns }
+{
+    match value {
+        ValueTree::Enum(name) => names.contains(name.as_str()),
+        _ => false,
+    }
+}
+
+/// Whether a field of that name is among these.
+fn has_member(fields: &[Argument], name: &str) -> bool
+    ensures { result ≡ fits.has_member name.now (members_of (map argument_of fields.now)) }
+{
+    'fields: for field in fields {
+        if field.name.as_str() == name {
+            return true;
+        }
+    }
+    false
+}
+
+/// Whether an input has to be given.
+fn is_required(input: &InputDef) -> bool
+    ensures { result ≡ must_be_given input.now }
+{
+    is_non_null(&input.of) && input.default.is_none()
+}
+
+/// Whether each input that has to be given is among the fields.
+fn gives_required(inputs: &InputTable, fields: &Arguments) -> bool
+    ensures { result ≡ gives_each inputs.now (members_of fields.now) }
+{
+    'inputs: for input in &inputs.all().items {
+        if is_required(input) && !has_member(&fields.items, input.name.as_str()) {
+            return false;
+        }
+    }
+    true
+}

@@ -1,0 +1,16 @@
+//! What a schema says (GraphQL, October 2021, section 3), from its definitions, with the tables that
+//! its look-ups need. The definitions need not meet any rule.
+#![tactic(auto)]
+
+mod building;
+pub mod built_in;
+mod copies;
+pub mod definitions;
+pub mod fits;
+pub mod index;
+pub mod kind;
+mod members;
+mod part;
+mod possible;
+pub mod tables;
+pub mod type_forms;

@@ -1,0 +1,2 @@
+pub mod LocatedSteps
+pub mod RepeatSteps

@@ -1,0 +1,3 @@
+pub mod Located
+pub mod LocatedView
+pub mod DefinitionParts

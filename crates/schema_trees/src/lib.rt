@@ -1,0 +1,7 @@
+//! Definitions of a schema as a tree whose names have numbers, their parts, and names that stand in a
+//! list before.
+#![tactic(auto)]
+
+pub mod located;
+pub mod parts_at;
+pub mod repeats;

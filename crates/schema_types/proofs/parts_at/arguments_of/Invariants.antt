@@ -1,8 +1,0 @@
--- What is collected and what is left are the whole.
-use Rattle.std.proofs.Common.{◌≡◌, ◌++◌, map, drop}
-use Rattle.schema_types.specs.LocatedView.{field_of, input_of}
-use Rattle.schema_types.specs.Rules as rules
-use Rattle.schema_types.proofs.parts_at.arguments_of.Given as goal
-
-abbrev pub invariant-fields : goal.invariant-fields
-invariant-fields l = map input_of l.inputs.items ++ rules.each (λ f. f.arguments) (map field_of (drop l.field-index l.fields)) ≡ rules.each (λ f. f.arguments) (map field_of l.fields)

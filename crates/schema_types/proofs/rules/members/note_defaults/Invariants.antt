@@ -1,9 +1,0 @@
--- What is noted and what is left are the whole.
-use Rattle.std.proofs.Common.{◌≡◌, map, drop}
-use Rattle.schema_types.specs.Leasts.{noted}
-use Rattle.schema_types.specs.LocatedView.{input_of}
-use Rattle.schema_types.specs.Rules as rules
-use Rattle.schema_types.proofs.rules.members.note_defaults.Given as goal
-
-abbrev pub invariant-inputs : goal.invariant-inputs
-invariant-inputs l = noted l.least.at (rules.each (rules.default_wrong l.tables) (map input_of (drop l.input-index l.inputs))) ≡ noted l.initial.least.at (rules.each (rules.default_wrong l.tables) (map input_of l.inputs))

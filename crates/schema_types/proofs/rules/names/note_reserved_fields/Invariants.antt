@@ -1,9 +1,0 @@
--- What is noted and what is left are the whole.
-use Rattle.std.proofs.Common.{◌≡◌, map, drop}
-use Rattle.schema_types.specs.Leasts.{noted}
-use Rattle.schema_types.specs.LocatedView.{field_of}
-use Rattle.schema_types.specs.Rules as rules
-use Rattle.schema_types.proofs.rules.names.note_reserved_fields.Given as goal
-
-abbrev pub invariant-fields : goal.invariant-fields
-invariant-fields l = noted l.least.at (rules.each rules.reserved (rules.field_names (map field_of (drop l.field-index l.fields)))) ≡ noted l.initial.least.at (rules.each rules.reserved (rules.field_names (map field_of l.fields)))

@@ -1,8 +1,0 @@
--- No root so far is that of queries.
-use Rattle.std.proofs.Common.{◌≡◌, map, drop}
-use Rattle.schema_types.specs.LocatedView.{root_of}
-use Rattle.schema_types.specs.Rules as rules
-use Rattle.schema_types.proofs.rules.roots.gives_query.Given as goal
-
-abbrev pub invariant-roots : goal.invariant-roots
-invariant-roots l = rules.gives_query (map root_of (drop l.root-index l.roots)) ≡ rules.gives_query (map root_of l.roots)

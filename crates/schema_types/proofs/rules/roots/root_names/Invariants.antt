@@ -1,8 +1,0 @@
--- What is collected and what is left are the whole.
-use Rattle.std.proofs.Common.{◌≡◌, ◌++◌, map, drop}
-use Rattle.schema_types.specs.LocatedView.{root_of, name_of}
-use Rattle.schema_types.specs.Rules as rules
-use Rattle.schema_types.proofs.rules.roots.root_names.Given as goal
-
-abbrev pub invariant-roots : goal.invariant-roots
-invariant-roots l = map name_of l.names.items ++ rules.root_names (map root_of (drop l.root-index l.roots)) ≡ rules.root_names (map root_of l.roots)

@@ -1,9 +1,0 @@
--- What is noted and what is left are the whole.
-use Rattle.std.proofs.Common.{◌≡◌, map, drop}
-use Rattle.schema_types.specs.Leasts.{noted}
-use Rattle.schema_types.specs.LocatedView.{name_of}
-use Rattle.schema_types.specs.Rules as rules
-use Rattle.schema_types.proofs.rules.types.note_undefined.Given as goal
-
-abbrev pub invariant-names : goal.invariant-names
-invariant-names l = noted l.least.at (rules.each (rules.not_defined l.tables) (map name_of (drop l.name-index l.names))) ≡ noted l.initial.least.at (rules.each (rules.not_defined l.tables) (map name_of l.names))

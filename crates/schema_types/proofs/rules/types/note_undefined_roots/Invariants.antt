@@ -1,9 +1,0 @@
--- What is noted and what is left are the whole.
-use Rattle.std.proofs.Common.{◌≡◌, map, drop}
-use Rattle.schema_types.specs.Leasts.{noted}
-use Rattle.schema_types.specs.LocatedView.{root_of}
-use Rattle.schema_types.specs.Rules as rules
-use Rattle.schema_types.proofs.rules.types.note_undefined_roots.Given as goal
-
-abbrev pub invariant-roots : goal.invariant-roots
-invariant-roots l = noted l.least.at (rules.each (rules.not_defined l.tables) (rules.root_names (map root_of (drop l.root-index l.roots)))) ≡ noted l.initial.least.at (rules.each (rules.not_defined l.tables) (rules.root_names (map root_of l.roots)))

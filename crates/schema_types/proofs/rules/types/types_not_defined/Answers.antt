@@ -1,9 +1,0 @@
--- One more of the list.
-use Rattle.std.proofs.Common.{arith}
-use Rattle.schema_types.specs.LocatedView.{def_of}
-use Rattle.schema_types.specs.Rules as rules
-use Rattle.schema_types.proofs.LeastSteps.{each_next}
-use Rattle.schema_types.proofs.rules.types.types_not_defined.Goals as goal
-
-pub definitions-preserved : goal.definitions-preserved
-definitions-preserved c = each_next def_of (λ d. rules.each (rules.not_defined c.args.tables.now) (rules.used_in d)) c.args.definitions.now c.definitions.definition-index c.definition-item.result _ _ _ (omega arith) c.definition-item.is c.in_ok-note_undefined_in.ensures c.definitions.invariant
