@@ -3,12 +3,12 @@ use Rattle.std.proofs.Common.{◌≡◌, ℕ, Bool, true, false, true≢false, c
 use Rattle.std.proofs.lemmas.Slice.Eq.{bytes_eq-Decides}
 use Rattle.gql_plain.specs.Order.{has_text}
 use Rattle.schema_types.specs.ArgumentRules.{Use}
-use Rattle.schema_types.specs.Leasts.{lower, noted}
-use Rattle.schema_types.specs.Rules.{each}
-use Rattle.schema_types.specs.Types.{Text}
-use Rattle.schema_types.proofs.LeastSteps.{noted-append, each-append}
-use Rattle.schema_types.proofs.Settled.{same_text}
-use Rattle.doc_args.specs.Gathered.{named_uses, uses_named}
+use Rattle.gql_graph.specs.Leasts.{lower, noted}
+use Rattle.gql_graph.specs.Rules.{each}
+use Rattle.gql_graph.specs.Texts.{Text}
+use Rattle.gql_graph.proofs.LeastSteps.{noted-append, each-append}
+use Rattle.gql_graph.proofs.TextSteps.{same_text}
+use Rattle.doc_args.specs.UsesByName.{named_uses, uses_named}
 
 -- ---- the order of places does not matter
 
@@ -39,50 +39,50 @@ twice o (n ∷ ns) =
 Absorbs : Option ℕ → List ℕ → Type 0
 Absorbs q ns = noted q ns ≡ q
 
-absorbs_first : (q : Option ℕ) (a b : List ℕ) → noted q (a ++ b) ≡ q → noted q a ≡ q
+pub absorbs_first : (q : Option ℕ) (a b : List ℕ) → noted q (a ++ b) ≡ q → noted q a ≡ q
 absorbs_first q a b h =
     let both : noted (noted q a) b ≡ q = sym (noted-append q a b) ∙ h in
     sym (ap (λ (x : Option ℕ). noted x a) both) ∙ swap (noted q a) b a ∙ ap (λ (x : Option ℕ). noted x b) (twice q a) ∙ both
 
-absorbs_second : (q : Option ℕ) (a b : List ℕ) → noted q (a ++ b) ≡ q → noted q b ≡ q
+pub absorbs_second : (q : Option ℕ) (a b : List ℕ) → noted q (a ++ b) ≡ q → noted q b ≡ q
 absorbs_second q a b h =
     let both : noted (noted q a) b ≡ q = sym (noted-append q a b) ∙ h in
     sym (ap (λ (x : Option ℕ). noted x b) both) ∙ twice (noted q a) b ∙ both
 
-absorbs_both : (q : Option ℕ) (a b : List ℕ) → noted q a ≡ q → noted q b ≡ q → noted q (a ++ b) ≡ q
+pub absorbs_both : (q : Option ℕ) (a b : List ℕ) → noted q a ≡ q → noted q b ≡ q → noted q (a ++ b) ≡ q
 absorbs_both q a b f g = noted-append q a b ∙ ap (λ (x : Option ℕ). noted x b) f ∙ g
 
 same_name : (n : Text) → bytes_eq n n ≡ true
 same_name n = (bytes_eq-Decides n n).1 refl
 
--- what is wrong with the uses in the parts of a name, where that name is one of the parts' names
-abbrev wrong_in : (Use → List ℕ) → List Text → Text × List Use → List ℕ
-wrong_in wrong names p = cond (has_text names p.0) (each wrong p.1) []
+-- what is wrong with the uses in a part, where its name is one of those that are looked at
+abbrev wrong_in : (Use → List ℕ) → (Text → Bool) → Text × List Use → List ℕ
+wrong_in wrong is_one p = cond (is_one p.0) (each wrong p.1) []
 
 abbrev wrong_named : (Use → List ℕ) → List (Text × List Use) → Text → List ℕ
 wrong_named wrong ps n = each wrong (uses_named ps n)
 
-named_absorbed : (wrong : Use → List ℕ) (q : Option ℕ) (names : List Text) (n : Text) → has_text names n ≡ true → (ps : List (Text × List Use))
-    → noted q (each (wrong_in wrong names) ps) ≡ q → noted q (wrong_named wrong ps n) ≡ q
-named_absorbed wrong q names n h [] a = refl
-named_absorbed wrong q names n h (p ∷ ps) a =
+named_absorbed : (wrong : Use → List ℕ) (q : Option ℕ) (is_one : Text → Bool) (n : Text) → is_one n ≡ true → (ps : List (Text × List Use))
+    → noted q (each (wrong_in wrong is_one) ps) ≡ q → noted q (wrong_named wrong ps n) ≡ q
+named_absorbed wrong q is_one n h [] a = refl
+named_absorbed wrong q is_one n h (p ∷ ps) a =
     ap (noted q) (each-append wrong (named_uses p n) (uses_named ps n))
     ∙ absorbs_both q (each wrong (named_uses p n)) (wrong_named wrong ps n) (on (bytes_eq p.0 n) refl)
-    (named_absorbed wrong q names n h ps (absorbs_second q (wrong_in wrong names p) (each (wrong_in wrong names) ps) a))
+    (named_absorbed wrong q is_one n h ps (absorbs_second q (wrong_in wrong is_one p) (each (wrong_in wrong is_one) ps) a))
   where
     on : (b : Bool) → bytes_eq p.0 n ≡ b → noted q (each wrong (cond b p.1 [])) ≡ q
     on true e =
-        let there : has_text names p.0 ≡ true = ap (has_text names) (same_text p.0 n e) ∙ h in
-        sym (ap (λ (b : Bool). noted q (cond b (each wrong p.1) [])) there) ∙ absorbs_first q (wrong_in wrong names p) (each (wrong_in wrong names) ps) a
+        let there : is_one p.0 ≡ true = ap is_one (same_text p.0 n e) ∙ h in
+        sym (ap (λ (b : Bool). noted q (cond b (each wrong p.1) [])) there) ∙ absorbs_first q (wrong_in wrong is_one p) (each (wrong_in wrong is_one) ps) a
     on false e = refl
 
-all_absorbed : (wrong : Use → List ℕ) (q : Option ℕ) (names : List Text) (ps : List (Text × List Use)) → noted q (each (wrong_in wrong names) ps) ≡ q
-    → (ns : List Text) → ((n : Text) → has_text ns n ≡ true → has_text names n ≡ true) → noted q (each (wrong_named wrong ps) ns) ≡ q
-all_absorbed wrong q names ps a [] h = refl
-all_absorbed wrong q names ps a (n ∷ ns) h =
+all_absorbed : (wrong : Use → List ℕ) (q : Option ℕ) (is_one : Text → Bool) (ps : List (Text × List Use)) → noted q (each (wrong_in wrong is_one) ps) ≡ q
+    → (ns : List Text) → ((n : Text) → has_text ns n ≡ true → is_one n ≡ true) → noted q (each (wrong_named wrong ps) ns) ≡ q
+all_absorbed wrong q is_one ps a [] h = refl
+all_absorbed wrong q is_one ps a (n ∷ ns) h =
     absorbs_both q (wrong_named wrong ps n) (each (wrong_named wrong ps) ns)
-    (named_absorbed wrong q names n (h n (ap (λ (b : Bool). b || has_text ns n) (same_name n))) ps a)
-    (all_absorbed wrong q names ps a ns (λ m g. h m (ap (λ (b : Bool). bytes_eq n m || b) g ∙ or_true (bytes_eq n m))))
+    (named_absorbed wrong q is_one n (h n (ap (λ (b : Bool). b || has_text ns n) (same_name n))) ps a)
+    (all_absorbed wrong q is_one ps a ns (λ m g. h m (ap (λ (b : Bool). bytes_eq n m || b) g ∙ or_true (bytes_eq n m))))
   where
     or_true : (b : Bool) → (b || true) ≡ true
     or_true true = refl
@@ -98,14 +98,14 @@ name_absorbed wrong q ps n (m ∷ ns) a h = on (bytes_eq m n) refl h (λ g. name
     on true e g rest = sym (ap (λ (t : Text). noted q (wrong_named wrong ps t)) (same_text m n e)) ∙ absorbs_first q (wrong_named wrong ps m) (each (wrong_named wrong ps) ns) a
     on false e g rest = rest g
 
-parts_absorbed : (wrong : Use → List ℕ) (q : Option ℕ) (names : List Text) (ps : List (Text × List Use))
-    → ((n : Text) → has_text names n ≡ true → noted q (wrong_named wrong ps n) ≡ q) → noted q (each (wrong_in wrong names) ps) ≡ q
-parts_absorbed wrong q names [] h = refl
-parts_absorbed wrong q names (p ∷ ps) h =
-    absorbs_both q (wrong_in wrong names p) (each (wrong_in wrong names) ps) (on (has_text names p.0) refl)
-    (parts_absorbed wrong q names ps (λ n g. absorbs_second q (each wrong (named_uses p n)) (wrong_named wrong ps n) (sym (ap (noted q) (each-append wrong (named_uses p n) (uses_named ps n))) ∙ h n g)))
+pub parts_absorbed : (wrong : Use → List ℕ) (q : Option ℕ) (is_one : Text → Bool) (ps : List (Text × List Use))
+    → ((n : Text) → is_one n ≡ true → noted q (wrong_named wrong ps n) ≡ q) → noted q (each (wrong_in wrong is_one) ps) ≡ q
+parts_absorbed wrong q is_one [] h = refl
+parts_absorbed wrong q is_one (p ∷ ps) h =
+    absorbs_both q (wrong_in wrong is_one p) (each (wrong_in wrong is_one) ps) (on (is_one p.0) refl)
+    (parts_absorbed wrong q is_one ps (λ n g. absorbs_second q (each wrong (named_uses p n)) (wrong_named wrong ps n) (sym (ap (noted q) (each-append wrong (named_uses p n) (uses_named ps n))) ∙ h n g)))
   where
-    on : (b : Bool) → has_text names p.0 ≡ b → noted q (cond b (each wrong p.1) []) ≡ q
+    on : (b : Bool) → is_one p.0 ≡ b → noted q (cond b (each wrong p.1) []) ≡ q
     on true e =
         sym (ap (λ (b : Bool). noted q (each wrong (cond b p.1 []))) (same_name p.0))
         ∙ absorbs_first q (each wrong (named_uses p p.0)) (wrong_named wrong ps p.0) (sym (ap (noted q) (each-append wrong (named_uses p p.0) (uses_named ps p.0))) ∙ h p.0 e)
@@ -116,7 +116,7 @@ pub by_name : (wrong : Use → List ℕ) (o : Option ℕ) (names : List Text) (p
     → noted o (each (λ n. each wrong (uses_named ps n)) names) ≡ noted o (each (λ p. cond (has_text names p.0) (each wrong p.1) []) ps)
 by_name wrong o names ps =
     let left : List ℕ = each (wrong_named wrong ps) names in
-    let right : List ℕ = each (wrong_in wrong names) ps in
-    let left_absorbs : noted (noted o left) right ≡ noted o left = parts_absorbed wrong (noted o left) names ps (λ n h. name_absorbed wrong (noted o left) ps n names (twice o left) h) in
-    let right_absorbs : noted (noted o right) left ≡ noted o right = all_absorbed wrong (noted o right) names ps (twice o right) names (λ n h. h) in
+    let right : List ℕ = each (wrong_in wrong (has_text names)) ps in
+    let left_absorbs : noted (noted o left) right ≡ noted o left = parts_absorbed wrong (noted o left) (has_text names) ps (λ n h. name_absorbed wrong (noted o left) ps n names (twice o left) h) in
+    let right_absorbs : noted (noted o right) left ≡ noted o right = all_absorbed wrong (noted o right) (has_text names) ps (twice o right) names (λ n h. h) in
     sym left_absorbs ∙ swap o left right ∙ right_absorbs

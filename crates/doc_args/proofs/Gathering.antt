@@ -3,8 +3,8 @@ use Rattle.std.proofs.Common.{◌≡◌, Bool, true, false, cond, List, [], ◌+
 use Rattle.std.proofs.lemmas.List.{append-nil}
 use Rattle.std.specs.Option.{UnwrapsOrElse}
 use Rattle.schema_types.specs.ArgumentRules.{Use}
-use Rattle.schema_types.specs.Types.{Text}
-use Rattle.schema_types.proofs.Settled.{same_text}
+use Rattle.gql_graph.specs.Texts.{Text}
+use Rattle.gql_graph.proofs.TextSteps.{same_text}
 use denote.Ref.{Bor}
 
 -- the uses of a name with those that are put behind them

@@ -3,3 +3,4 @@ pub mod Depths
 pub mod Members
 pub mod Gathering
 pub mod Absorbing
+pub mod NeedSteps

@@ -6,8 +6,8 @@ use Rattle.gql_ast.specs.ValueView.{value_of, argument_of}
 use Rattle.gql_ast.specs.declared.value.Argument.{Argument}
 use Rattle.gql_plain.specs.Order.{has_text}
 use Rattle.schema_types.specs.ArgumentRules.{names_differ, names_differ_among}
-use Rattle.schema_types.specs.Fits.{has_member}
-use Rattle.schema_types.specs.Types.{Text}
+use Rattle.schema_tables.specs.Fits.{has_member}
+use Rattle.gql_graph.specs.Texts.{Text}
 
 map-drop : {X A : Type 0} (view : X → A) (i : ℕ) (xs : List X) → map view (drop i xs) ≡ drop i (map view xs)
 map-drop view zero xs = refl

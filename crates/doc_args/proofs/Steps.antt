@@ -6,22 +6,22 @@ use Rattle.std.specs.Prelude.{codes}
 use Rattle.std.specs.List.{list_any}
 use Rattle.gql_plain.specs.Order.{has_text}
 use Rattle.schema_types.specs.ArgumentRules.{Use, free, unknown, not_taken, argument_unfit, argument_names, input_def_named, is_allowed, is_given, is_null, leaves_out, local_names, locals_in, names_once, stands_once, use_wrong, uses_of, uses_wrong_in, variable_named}
-use Rattle.schema_types.specs.BuiltIn as known
-use Rattle.schema_types.specs.Given.{must_be_given}
-use Rattle.schema_types.specs.Graphs.{first_next, next_in}
-use Rattle.schema_types.specs.Leasts.{noted}
-use Rattle.schema_types.specs.Located.{Located}
+use Rattle.schema_tables.specs.BuiltIn as known
+use Rattle.schema_tables.specs.Given.{must_be_given}
+use Rattle.gql_graph.specs.Graphs.{first_next, next_in}
+use Rattle.gql_graph.specs.Leasts.{noted}
+use Rattle.schema_trees.specs.Located.{Located}
 use Rattle.schema_types.specs.NameRules.{spread_by, spreads_of_fragment, spreads_in, names_of_all, fragment_named, fragments, operations}
-use Rattle.schema_types.specs.Reached.{reached}
-use Rattle.schema_types.specs.Rules.{each, wrong, names_of}
+use Rattle.gql_graph.specs.Reached.{reached}
+use Rattle.schema_rules.specs.Rules.{each, wrong, names_of}
 use Rattle.schema_types.specs.Sites.{ArgumentAt, DirectiveAt, FragmentAt, OperationAt, VariableAt, Site, field, spread, inline, DefinitionAt, operation, fragment}
-use Rattle.schema_types.specs.Types.{Text, Defs}
-use Rattle.schema_types.specs.declared.definitions.InputDef.{InputDef}
-use Rattle.schema_types.proofs.LeastSteps.{noted-append, each-append}
+use Rattle.schema_tables.specs.Types.{Text, Defs}
+use Rattle.schema_tables.specs.declared.definitions.InputDef.{InputDef}
+use Rattle.gql_graph.proofs.LeastSteps.{noted-append, each-append}
 use Rattle.doc_sites.specs.SitesView.{definition_of}
 use Rattle.doc_sites.specs.declared.site.DefinitionAt as code
-use Rattle.doc_args.specs.Directed.{once_name}
-use Rattle.doc_args.specs.Gathered.{named_in, named_uses, uses_named}
+use Rattle.doc_args.specs.Directives.{once_name}
+use Rattle.doc_args.specs.UsesByName.{named_in, named_uses, uses_named}
 use Rattle.doc_args.specs.GivenNames.{given_names}
 use Rattle.doc_args.specs.Locals.{located_locals}
 use Rattle.doc_args.specs.Parts.{fragment_name, free_use, free_uses, on_operation, part_for, part_wrong}
@@ -200,20 +200,20 @@ free_wrong vs locals (u ∷ us) =
     (λ k. free_if vs (has_text locals u.name.name) u k ++ free_wrong vs locals us k)
     ∙ sym (each-append (use_wrong vs []) (free_use locals u) (free_uses locals us))
 
-part_is : (defs : Defs) (fs : List FragmentAt) (o : OperationAt) (ns : List Text)
-    → ((to : Text) → has_text ns to ≡ reached (spread_by fs) (length fs) (names_of_all (spreads_in o.sites)) to)
-    → (f : FragmentAt) → part_wrong o.variables ns (part_for defs f) ≡ uses_wrong_in defs fs o f
-part_is defs fs o ns h f =
+part_is : (defs : Defs) (fs : List FragmentAt) (o : OperationAt) (is_one : Text → Bool)
+    → ((to : Text) → is_one to ≡ reached (spread_by fs) (length fs) (names_of_all (spreads_in o.sites)) to)
+    → (f : FragmentAt) → part_wrong o.variables is_one (part_for defs f) ≡ uses_wrong_in defs fs o f
+part_is defs fs o is_one h f =
     ap (λ (b : Bool). cond b (each (use_wrong o.variables []) (free_uses (local_names f) (uses_of defs f.directives f.sites))) []) (h f.name.name)
     ∙ ap (λ (ps : List ℕ). cond (reached (spread_by fs) (length fs) (names_of_all (spreads_in o.sites)) f.name.name) ps [])
     (sym (free_wrong o.variables (local_names f) (uses_of defs f.directives f.sites)))
 
 -- what is wrong in the fragments that an operation reaches
-pub parts_wrong : (defs : Defs) (fs : List FragmentAt) (o : OperationAt) (ns : List Text)
-    → ((to : Text) → has_text ns to ≡ reached (spread_by fs) (length fs) (names_of_all (spreads_in o.sites)) to)
-    → (gs : List FragmentAt) → each (part_wrong o.variables ns) (map (part_for defs) gs) ≡ each (uses_wrong_in defs fs o) gs
-parts_wrong defs fs o ns h [] = refl
-parts_wrong defs fs o ns h (g ∷ gs) = λ k. part_is defs fs o ns h g k ++ parts_wrong defs fs o ns h gs k
+pub parts_wrong : (defs : Defs) (fs : List FragmentAt) (o : OperationAt) (is_one : Text → Bool)
+    → ((to : Text) → is_one to ≡ reached (spread_by fs) (length fs) (names_of_all (spreads_in o.sites)) to)
+    → (gs : List FragmentAt) → each (part_wrong o.variables is_one) (map (part_for defs) gs) ≡ each (uses_wrong_in defs fs o) gs
+parts_wrong defs fs o is_one h [] = refl
+parts_wrong defs fs o is_one h (g ∷ gs) = λ k. part_is defs fs o is_one h g k ++ parts_wrong defs fs o is_one h gs k
 
 -- one more argument or variable is put in front of those that are found by their names
 pub input_next : (is : List InputDef) (i : ℕ) (x : InputDef) (n : Text) (old new : Option InputDef) → i < length is → x ≡ get_or is i x

@@ -2,10 +2,10 @@
 use Rattle.std.specs.Prelude.{[], List, map, Option}
 use Rattle.schema_types.specs.ArgumentRules.{inputs, free, unknown, field_takes}
 use Rattle.schema_types.specs.ArgumentRules as spec
-use Rattle.schema_types.specs.Located.{Located}
-use Rattle.schema_types.specs.LocatedView.{name_of}
+use Rattle.schema_trees.specs.Located.{Located}
+use Rattle.schema_trees.specs.LocatedView.{name_of}
 use Rattle.schema_types.specs.Sites.{ArgumentAt}
-use Rattle.schema_types.specs.Types.{Text, Defs}
+use Rattle.schema_tables.specs.Types.{Text, Defs}
 use Rattle.doc_sites.specs.SitesView.{argument_of}
 use Rattle.doc_args.specs.declared.call.Takes.{Takes}
 use Rattle.doc_args.specs.declared.call.Takes.TheVariants as T

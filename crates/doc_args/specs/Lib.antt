@@ -2,9 +2,11 @@ pub mod CallView
 pub mod Named
 pub mod GivenNames
 pub mod Literals
-pub mod Directed
+pub mod Directives
 pub mod UseView
 pub mod Locals
 pub mod Spreads
 pub mod Parts
-pub mod Gathered
+pub mod UsesByName
+pub mod Needs
+pub mod Fragments

@@ -2,9 +2,9 @@
 use Rattle.std.specs.Prelude.{ℕ, not, List, ◌++◌}
 use Rattle.gql_ast.specs.TypeView.{ty_of}
 use Rattle.schema_types.specs.ArgumentRules.{arguments_unfit, calls_of, default_unfit, defaults_unfit, names_differ}
-use Rattle.schema_types.specs.Rules.{each, wrong}
+use Rattle.gql_graph.specs.Rules.{each, wrong}
 use Rattle.schema_types.specs.Sites.{ArgumentAt, VariableAt, DefinitionAt}
-use Rattle.schema_types.specs.Types.{Defs}
+use Rattle.schema_tables.specs.Types.{Defs}
 
 abbrev pub default_of_unfit : Defs → VariableAt → List ℕ
 default_of_unfit defs v = default_unfit defs (ty_of v.defined.of) v.default

@@ -5,8 +5,8 @@ use Rattle.std.specs.Cmp.Lexicographic.{slice_cmp}
 use Rattle.std.specs.Ordering.{nat_cmp}
 use Rattle.schema_types.specs.ArgumentRules.{input_def_named, variable_named}
 use Rattle.schema_types.specs.Sites as spec
-use Rattle.schema_types.specs.Types.{Text}
-use Rattle.schema_types.specs.declared.definitions.InputDef.{InputDef}
+use Rattle.gql_graph.specs.Texts.{Text}
+use Rattle.schema_tables.specs.declared.definitions.InputDef.{InputDef}
 use Rattle.doc_sites.specs.SitesView.{variable_of}
 use Rattle.doc_args.specs.declared.index.Inputs.{Inputs}
 use Rattle.doc_args.specs.declared.index.Variables.{Variables}

@@ -1,13 +1,13 @@
 -- Fragments with the variables that are used in them.
-use Rattle.std.specs.Prelude.{ℕ, cond, List, [], ◌∷◌, map}
+use Rattle.std.specs.Prelude.{ℕ, Bool, cond, List, [], ◌∷◌, map}
 use Rattle.gql_plain.specs.Order.{has_text}
 use Rattle.schema_types.specs.ArgumentRules.{Use, local_names, use_wrong, uses_of}
-use Rattle.schema_types.specs.Located.{Located}
-use Rattle.schema_types.specs.Rules.{each}
+use Rattle.schema_trees.specs.Located.{Located}
+use Rattle.gql_graph.specs.Rules.{each}
 use Rattle.schema_types.specs.Sites.{FragmentAt, OperationAt, VariableAt, DefinitionAt, operation, fragment}
-use Rattle.schema_types.specs.Types.{Text, Defs}
+use Rattle.schema_tables.specs.Types.{Text, Defs}
 use Rattle.doc_args.specs.UseView.{use_of}
-use Rattle.doc_args.specs.declared.gathered.Part.{Part}
+use Rattle.doc_args.specs.declared.uses_by_name.Part.{Part}
 
 abbrev pub part_of : Part → Text × List Use
 part_of p = (p.name.now, map use_of p.uses.items)
@@ -22,9 +22,9 @@ free_uses locals us = each (free_use locals) us
 abbrev pub part_for : Defs → FragmentAt → Text × List Use
 part_for defs f = (f.name.name, free_uses (local_names f) (uses_of defs f.directives f.sites))
 
--- the uses that are wrong, where the fragment is one of these
-abbrev pub part_wrong : List VariableAt → (names : List Text) → Text × List Use → List ℕ
-part_wrong vs names p = cond (has_text names p.0) (each (use_wrong vs []) p.1) []
+-- the uses that are wrong, where the fragment is one of those that are looked at
+abbrev pub part_wrong : List VariableAt → (is_one : Text → Bool) → Text × List Use → List ℕ
+part_wrong vs is_one p = cond (is_one p.0) (each (use_wrong vs []) p.1) []
 
 abbrev pub variable_names : List VariableAt → List Located
 variable_names vs = map (λ (v : VariableAt). v.name) vs

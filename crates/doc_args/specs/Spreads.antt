@@ -2,7 +2,7 @@
 use Rattle.std.specs.Prelude.{List, [], ◌∷◌}
 use Rattle.schema_types.specs.NameRules.{names_of_all, spreads_in}
 use Rattle.schema_types.specs.Sites.{Site, field, spread, inline, DefinitionAt, operation, fragment}
-use Rattle.schema_types.specs.Types.{Text}
+use Rattle.gql_graph.specs.Texts.{Text}
 
 abbrev pub spread_name : Site → List Text
 spread_name (field around a n xs ds has_set) = []

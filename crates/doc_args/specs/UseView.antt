@@ -4,9 +4,9 @@ use Rattle.gql_ast.specs.TypeView.{ty_of}
 use Rattle.gql_ast.specs.declared.member.InputTree.{InputTree}
 use Rattle.schema_types.specs.ArgumentRules as spec
 use Rattle.schema_types.specs.ArgumentRules.{uses_in}
-use Rattle.schema_types.specs.LocatedView.{name_of}
+use Rattle.schema_trees.specs.LocatedView.{name_of}
 use Rattle.schema_types.specs.Sites.{ArgumentAt}
-use Rattle.schema_types.specs.Types.{Text, Defs, base_of, inputs_of}
+use Rattle.schema_tables.specs.Types.{Text, Defs, base_of, inputs_of}
 use Rattle.doc_args.specs.declared.uses.Place.{Place}
 use Rattle.doc_args.specs.declared.uses.Use.{Use}
 

@@ -2,12 +2,12 @@
 //! 2021, sections 5.4 and 3.13).
 ghost use Rattle.std.specs.Prelude.{◌≡◌, map, Some, option_copied};
 ghost use Rattle.schema_types.specs.ArgumentRules as rules;
-ghost use Rattle.schema_types.specs.LocatedView.{name_of};
+ghost use Rattle.schema_trees.specs.LocatedView.{name_of};
 ghost use Rattle.doc_sites.specs.SitesView.{argument_of, directive_of};
 ghost use Rattle.doc_args.specs.CallView.{call_of, field_call, takes_of};
 
 use doc_sites::{ArgumentAt, DirectiveAt};
-use schema_types::located::NameAt;
+use schema_trees::located::NameAt;
 use schema_types::{InputDefs, Schema};
 
 /// The arguments that a field or a directive takes.

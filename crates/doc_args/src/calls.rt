@@ -1,7 +1,7 @@
 //! The fields and directives of a definition with their arguments, in text order.
 ghost use Rattle.std.specs.Prelude.{◌≡◌, ◌++◌, map, IfOk, OnOk};
 ghost use Rattle.schema_types.specs.ArgumentRules as rules;
-ghost use Rattle.schema_types.specs.Rules.{each};
+ghost use Rattle.gql_graph.specs.Rules.{each};
 ghost use Rattle.doc_sites.specs.SitesView.{definition_of, directive_of, site_of, variable_of};
 ghost use Rattle.doc_args.specs.CallView.{call_of};
 

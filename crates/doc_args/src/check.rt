@@ -1,18 +1,19 @@
 //! The first rule on arguments, directives and variables that documents do not meet.
 ghost use Rattle.std.specs.Prelude.{◌≡◌, map, IfOk, IfErr, OnOk};
 ghost use Rattle.schema_types.specs.DocumentRules.{argument_rules, trees_of, AreFaulty, Meet};
-ghost use Rattle.schema_types.specs.Rules.{first_broken};
+ghost use Rattle.gql_graph.specs.Rules.{first_broken};
 ghost use Rattle.schema_types.specs.Sites.{all_definitions};
 ghost use Rattle.doc_sites.specs.SitesView.{definition_of};
 
-use crate::arguments::{arguments_missing, arguments_wrong};
-use crate::directives::directives_wrong;
-use crate::literals::literals_unfit;
-use crate::variables::variables_wrong;
+use crate::rules::arguments::arguments_wrong;
+use crate::rules::directives::directives_wrong;
+use crate::rules::literals::literals_unfit;
+use crate::rules::required::arguments_missing;
+use crate::rules::variables::variables_wrong;
 use doc_sites::{DefinitionAt, definitions_at, fault_at};
 use gql_ast::Documents;
+use gql_graph::least::Least;
 use gql_plain::NoMemory;
-use schema_types::least::Least;
 use schema_types::{Rule, RuleFault, Schema};
 use std::alloc::Global;
 
@@ -33,14 +34,14 @@ pub fn check_args(alloc: Global, schema: &Schema, documents: &Documents) -> Resu
     ensures met { OnOk result (Meet argument_rules schema.now documents.now) }
     ensures fault { IfErr result (AreFaulty argument_rules schema.now documents.now) }
 {
-    match broken(alloc, schema, documents)? {
+    match find_broken(alloc, schema, documents)? {
         Some((rule, at)) => Err(RuleFault::Rule(fault_at(documents, at, rule))),
         None => Ok(()),
     }
 }
 
 /// The first rule that the documents do not meet, and the number of the node where they do not.
-fn broken<'a>(
+fn find_broken<'a>(
     alloc: Global,
     schema: &'a Schema,
     documents: &'a Documents,

@@ -2,7 +2,7 @@
 ghost use Rattle.std.specs.Prelude.{◌≡◌, List, IfOk, is_some, option_copied, option_map};
 ghost use Rattle.schema_types.specs.ArgumentRules.{input_def_named, variable_named};
 ghost use Rattle.schema_types.specs.Sites as spec;
-ghost use Rattle.schema_types.specs.declared.definitions.InputDef.{InputDef};
+ghost use Rattle.schema_tables.specs.declared.definitions.InputDef.{InputDef};
 ghost use Rattle.doc_sites.specs.SitesView.{operation_of, variable_of};
 ghost use Rattle.doc_args.specs.Named.{NamesInputs, NamesVariables};
 

@@ -2,17 +2,17 @@
 //! 5.4, 5.6, 5.7 and 5.8).
 #![tactic(auto)]
 
-mod arguments;
 mod call;
 mod calls;
 mod check;
-mod directives;
-mod gathered;
+mod fragments;
 mod index;
-mod literals;
 mod locals;
-mod reached;
+mod needs;
+mod order;
+mod rules;
+mod spreads;
 mod uses;
-mod variables;
+mod uses_by_name;
 
 pub use check::check_args;

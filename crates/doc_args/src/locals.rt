@@ -1,16 +1,17 @@
 //! The local variables of fragments.
 ghost use Rattle.std.specs.Prelude.{◌≡◌, ◌++◌, map, IfOk, OnOk};
 ghost use Rattle.schema_types.specs.ArgumentRules as rules;
-ghost use Rattle.schema_types.specs.LocatedView.{name_of};
-ghost use Rattle.schema_types.specs.Rules.{each};
-ghost use Rattle.schema_types.specs.Seen.{Knows};
+ghost use Rattle.schema_trees.specs.LocatedView.{name_of};
+ghost use Rattle.gql_graph.specs.Rules.{each};
+ghost use Rattle.gql_graph.specs.Seen.{Knows};
 ghost use Rattle.doc_sites.specs.SitesView.{argument_of, directive_of};
 ghost use Rattle.doc_args.specs.Locals.{located_locals};
 
 use doc_sites::{ArgumentAt, DirectiveAt};
+use gql_graph::seen::Seen;
 use gql_plain::NoMemory;
-use schema_types::located::NameAt;
-use schema_types::seen::Seen;
+use schema_trees::located::NameAt;
+use schema_trees::repeats::seen_names;
 use std::alloc::Global;
 
 /// Puts the names of arguments.
@@ -54,6 +55,6 @@ pub(crate) fn locals_in<'a>(
     ensures { IfOk result (λ seen. Knows seen.names (each rules.locals_in (map directive_of directives.now))) }
 {
     let names = locals_of(alloc, directives)?;
-    let seen = Seen::of(alloc, &names)?;
+    let seen = seen_names(alloc, &names)?;
     Ok(seen)
 }

@@ -4,8 +4,8 @@ ghost use Rattle.std.specs.Prelude.{◌≡◌, ◌+◌, ◌++◌, map, option_co
 ghost use Rattle.gql_ast.specs.Value.{members_of, vals_of};
 ghost use Rattle.gql_ast.specs.ValueView as tree;
 ghost use Rattle.schema_types.specs.ArgumentRules as rules;
-ghost use Rattle.schema_types.specs.Located.{members_nodes, value_nodes, values_nodes};
-ghost use Rattle.schema_types.specs.Rules.{each};
+ghost use Rattle.schema_trees.specs.Located.{members_nodes, value_nodes, values_nodes};
+ghost use Rattle.gql_graph.specs.Rules.{each};
 ghost use Rattle.doc_sites.specs.SitesView.{argument_of, directive_of, site_of};
 ghost use Rattle.doc_args.specs.CallView.{call_of};
 ghost use Rattle.doc_args.specs.UseView.{fields_of_name, name_of_place, place_of, use_of, uses_at, uses_unknown};
@@ -16,8 +16,8 @@ use crate::index::Inputs;
 use doc_sites::{ArgumentAt, DirectiveAt, Site};
 use gql_ast::{Arguments, TypeTree, ValueTree, ValueTrees};
 use gql_plain::NoMemory;
-use schema_types::located::{NameAt, name_at, pass};
-use schema_types::type_forms::{base_of, item_of};
+use schema_tables::type_forms::{base_of, item_of};
+use schema_trees::located::{NameAt, name_at, pass};
 use schema_types::{InputDef, InputDefs, Schema};
 use std::alloc::Global;
 

@@ -3,8 +3,8 @@ use Rattle.std.proofs.Common.{◌≡◌, Bool, true, false, true≢false, cond, 
 use Rattle.std.specs.List.{filter, filter_map, list_any}
 use Rattle.gql_plain.specs.Order.{has_text, sorted_texts}
 use Rattle.gql_plain.proofs.SortedTexts.{has_text-sorted_texts}
-use Rattle.schema_types.specs.Types.{Text, Defs, applies, object_name, possible}
-use Rattle.schema_types.proofs.Settled.{same_text, either_of, or_true, some_of}
+use Rattle.schema_tables.specs.Types.{Text, Defs, applies, object_name, possible}
+use Rattle.gql_graph.proofs.TextSteps.{same_text, either_of, or_true, some_of}
 
 pub both_ways : (a b : Bool) → (a ≡ true → b ≡ true) → (b ≡ true → a ≡ true) → a ≡ b
 both_ways true b f g = sym (f refl)

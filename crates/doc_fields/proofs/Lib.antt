@@ -4,3 +4,6 @@ pub mod RootKeys
 pub mod CommonTypes
 pub mod SameKeys
 pub mod HeadSteps
+pub mod Sums
+pub mod BelowSteps
+pub mod CommonSteps

@@ -7,15 +7,14 @@ use Rattle.gql_ast.specs.Sels.{Sels}
 use Rattle.gql_ast.specs.declared.document.Kind.TheVariants.{Subscription}
 use Rattle.gql_ast.specs.declared.selection.Selection.{Selection}
 use Rattle.gql_ast.specs.declared.selection.Selection.TheVariants as S
-use Rattle.gql_plain.specs.Order.{has_text}
 use Rattle.schema_types.specs.FieldRules.{is_one_key, keys_in, keys_of_fragment, many_keys, root_keys, spreads_at_root, subscription_wrong}
-use Rattle.schema_types.specs.Rules.{each}
+use Rattle.gql_graph.specs.Rules.{each}
 use Rattle.schema_types.specs.Sites.{FragmentAt, OperationAt}
-use Rattle.schema_types.specs.Types.{Text, Defs, applies, root, same_kind}
+use Rattle.schema_tables.specs.Types.{Text, Defs, applies, root, same_kind}
 use Rattle.gql_ast.specs.declared.document.Kind.{Kind}
 use Rattle.gql_ast.specs.declared.document.Kind.TheVariants as K
 use Rattle.doc_fields.specs.Heads.{keys_of_name}
-use Rattle.doc_fields.specs.Keys.{keys_at, spreads_at, reaches}
+use Rattle.doc_fields.specs.Keys.{keys_at, spreads_at, AreReached}
 use Rattle.doc_fields.proofs.SameKeys.{named_and_each, same_one_key}
 
 pub keys_law : (defs : Defs) (r : Text) (x : Selection) (t : Sels) → keys_in defs r (sel_before x t) ≡ keys_at defs r x ++ keys_in defs r t
@@ -33,7 +32,7 @@ each_alike f g h [] = refl
 each_alike f g h (x ∷ xs) = λ i. h x i ++ each_alike f g h xs i
 
 -- the keys of the fragments that are reached, by their names
-pub one_root_key : (defs : Defs) (fs : List FragmentAt) (r : Text) (s : Sels) (ns : List Text) → ((to : Text) → has_text ns to ≡ reaches defs fs r s to)
+pub one_root_key : (defs : Defs) (fs : List FragmentAt) (r : Text) (s : Sels) (ns : List Text) → AreReached defs fs r (spreads_at_root defs r s) ns
     → is_one_key (keys_in defs r s ++ each (keys_of_name defs r fs) ns) ≡ is_one_key (root_keys defs fs r s)
 one_root_key defs fs r s ns same = same_one_key (keys_in defs r s ++ each (keys_of_name defs r fs) ns) (root_keys defs fs r s) (λ p.
     list_any-append p (keys_in defs r s) (each (keys_of_name defs r fs) ns)

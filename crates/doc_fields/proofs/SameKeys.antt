@@ -4,9 +4,10 @@ use Rattle.std.proofs.lemmas.List.Folds.{list_any-append}
 use Rattle.std.specs.List.{list_any, list_all}
 use Rattle.gql_plain.specs.Order.{has_text}
 use Rattle.schema_types.specs.FieldRules.{Key, is_good_key, is_one_key}
-use Rattle.schema_types.specs.Rules.{each}
-use Rattle.schema_types.specs.Types.{Text}
-use Rattle.schema_types.proofs.Settled.{same_text, same_self}
+use Rattle.gql_graph.specs.Rules.{each}
+use Rattle.gql_graph.specs.Texts.{Text}
+use Rattle.gql_graph.proofs.TextSteps.{same_text, same_self}
+use Rattle.doc_sites.proofs.DefinitionSteps.{or_false}
 use Rattle.doc_fields.proofs.CommonTypes.{both_ways}
 
 -- two lists have the same keys
@@ -46,10 +47,6 @@ same_one_key ks ls h = both_ways (is_one_key ks) (is_one_key ls) (one_way ks ls 
 
 -- ---- the keys of fragments, by their names and one by one
 
-or_false : (a : Bool) → (a || false) ≡ a
-or_false true = refl
-or_false false = refl
-
 or_self : (a : Bool) → (a || a) ≡ a
 or_self true = refl
 or_self false = refl
@@ -60,7 +57,7 @@ moved false true true d = refl
 moved false true false d = refl
 moved false false c d = refl
 
-swapped_text : (m n : Text) → bytes_eq m n ≡ bytes_eq n m
+pub swapped_text : (m n : Text) → bytes_eq m n ≡ bytes_eq n m
 swapped_text m n = both_ways (bytes_eq m n) (bytes_eq n m) (λ h. ap (λ (t : Text). bytes_eq n t) (same_text m n h) ∙ same_self n) (λ h. ap (λ (t : Text). bytes_eq m t) (same_text n m h) ∙ same_self m)
 
 -- two lists of each element

@@ -7,25 +7,17 @@ use Rattle.gql_ast.specs.SelectionView.{sel_before, sels_of}
 use Rattle.gql_ast.specs.Sels.{Sels}
 use Rattle.gql_ast.specs.declared.selection.Selection.{Selection}
 use Rattle.schema_types.specs.FieldRules.{condition_of_fragment}
-use Rattle.schema_types.specs.Graphs.{Holds, first_next, next_in}
-use Rattle.schema_types.specs.NameRules.{fragments, operations, fragment_named}
-use Rattle.schema_types.specs.Rules.{each}
-use Rattle.schema_types.specs.Sites.{FragmentAt, OperationAt, DefinitionAt, operation, fragment}
-use Rattle.schema_types.specs.Types.{Text}
-use Rattle.schema_types.specs.declared.graph.Graph.{Graph}
-use Rattle.doc_fields.specs.Fragments.{told, led_to, leading, condition_in, on_fragment, on_operation}
+use Rattle.gql_graph.specs.Graphs.{Holds, first_next, next_in}
+use Rattle.gql_graph.specs.Leasts.{noted}
+use Rattle.schema_types.specs.NameRules.{fragments, fragment_named}
+use Rattle.gql_graph.specs.Rules.{each}
+use Rattle.schema_types.specs.Sites.{FragmentAt, DefinitionAt}
+use Rattle.gql_graph.specs.Texts.{Text}
+use Rattle.gql_graph.specs.declared.graph.Graph.{Graph}
+use Rattle.doc_sites.proofs.DefinitionSteps.{over_fragments}
+use Rattle.doc_sites.specs.Definitions.{on_fragment}
+use Rattle.doc_fields.specs.Fragments.{next_or_none, next_by_name, leading, condition_in}
 use denote.Ref.{Bor}
-
--- what is said of each fragment, and of each operation
-pub of_fragments : {A : Type 0} (says : FragmentAt → List A) (ds : List DefinitionAt) → each says (fragments ds) ≡ each (on_fragment says) ds
-of_fragments says [] = refl
-of_fragments says (operation o ∷ ds) = of_fragments says ds
-of_fragments {A = A} says (fragment f ∷ ds) = ap (λ (l : List A). says f ++ l) (of_fragments says ds)
-
-pub of_operations : {A : Type 0} (says : OperationAt → List A) (ds : List DefinitionAt) → each says (operations ds) ≡ each (on_operation says) ds
-of_operations says [] = refl
-of_operations {A = A} says (operation o ∷ ds) = ap (λ (l : List A). says o ++ l) (of_operations says ds)
-of_operations says (fragment f ∷ ds) = of_operations says ds
 
 -- one more element, of which something is collected
 pub collected : {X Y A : Type 0} (view : X → Y) (f : Y → List A) (xs : List X) (i : ℕ) (x : X) (old new whole : List A) → i < length xs → x ≡ get_or xs i x
@@ -48,18 +40,18 @@ pairs_all {X = X} view of graph pairs whole xs i h k w =
     subst (λ (ps : List (Text × List Text)). Holds graph ps) (sym (append-nil pairs) ∙ sym (ap (λ (ys : List X). pairs ++ each of (map view ys)) (drop_all i xs h)) ∙ w) k
 
 -- of several fragments of one name the first tells
-next_leading : (next : FragmentAt → List Text) (fs : List FragmentAt) (n : Text) → next_in (each (leading next) fs) n ≡ led_to next fs n
+next_leading : (next : FragmentAt → List Text) (fs : List FragmentAt) (n : Text) → next_in (each (leading next) fs) n ≡ next_by_name next fs n
 next_leading next [] n = refl
 next_leading next (f ∷ fs) n = on (bytes_eq f.name.name n) (next_leading next fs n) where
-  on : (b : Bool) → next_in (each (leading next) fs) n ≡ led_to next fs n → unwrap_or (cond b (Some (next f)) (first_next (each (leading next) fs) n)) [] ≡ told next (cond b (Some f) (fragment_named fs n))
+  on : (b : Bool) → next_in (each (leading next) fs) n ≡ next_by_name next fs n → unwrap_or (cond b (Some (next f)) (first_next (each (leading next) fs) n)) [] ≡ next_or_none next (cond b (Some f) (fragment_named fs n))
   on true e = refl
   on false e = e
 
-pub next_among : (next : FragmentAt → List Text) (ds : List DefinitionAt) (n : Text) → next_in (each (on_fragment (leading next)) ds) n ≡ led_to next (fragments ds) n
-next_among next ds n = ap (λ (ps : List (Text × List Text)). next_in ps n) (sym (of_fragments (leading next) ds)) ∙ next_leading next (fragments ds) n
+pub next_among : (next : FragmentAt → List Text) (ds : List DefinitionAt) (n : Text) → next_in (each (on_fragment (leading next)) ds) n ≡ next_by_name next (fragments ds) n
+next_among next ds n = ap (λ (ps : List (Text × List Text)). next_in ps n) (sym (over_fragments (leading next) ds)) ∙ next_leading next (fragments ds) n
 
 -- the condition of a fragment is the first name that it leads to
-pub first_condition : (xs : List (Bor Text)) (f : Option FragmentAt) (o : Option (Bor Text)) → o ≡ slice_get xs 0 → map (λ (n : Bor Text). n.now) xs ≡ told condition_in f
+pub first_condition : (xs : List (Bor Text)) (f : Option FragmentAt) (o : Option (Bor Text)) → o ≡ slice_get xs 0 → map (λ (n : Bor Text). n.now) xs ≡ next_or_none condition_in f
     → option_copied o ≡ condition_of_fragment f
 first_condition [] None o e h = ap (λ (r : Option (Bor Text)). option_copied r) e
 first_condition [] (Some f) o e h = cc
@@ -74,3 +66,8 @@ walked {A = A} f g law xs i x old new whole h is e w =
     let same : drop i xs ≡ get_or xs i x ∷ drop (i + 1) xs = rw add-one (drop-cons xs i x h) in
     ap (λ (l : List A). l ++ f rest) e ∙ append_assoc old (g x) (f rest) ∙ ap (λ (l : List A). old ++ l) (sym (law x rest))
     ∙ ap (λ (y : Selection). old ++ f (sel_before y rest)) is ∙ sym (ap (λ (ys : List Selection). old ++ f (sels_of ys)) same) ∙ w
+
+-- all elements of a list are noted
+pub noted_all : {X A : Type 0} (view : X → A) (f : A → List ℕ) (xs : List X) (i : ℕ) (o whole : Option ℕ) → length xs ≤ i
+    → noted o (each f (map view (drop i xs))) ≡ whole → o ≡ whole
+noted_all {X = X} view f xs i o whole h w = sym (ap (λ (ys : List X). noted o (each f (map view ys))) (drop_all i xs h)) ∙ w

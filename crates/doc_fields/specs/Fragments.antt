@@ -2,16 +2,16 @@
 use Rattle.std.specs.Prelude.{List, [], ◌∷◌, Option, Some, None}
 use Rattle.schema_types.specs.FieldRules.{spreads_below}
 use Rattle.schema_types.specs.NameRules.{fragment_named}
-use Rattle.schema_types.specs.Sites.{FragmentAt, OperationAt, DefinitionAt, operation, fragment}
-use Rattle.schema_types.specs.Types.{Text, Defs}
+use Rattle.schema_types.specs.Sites.{FragmentAt}
+use Rattle.schema_tables.specs.Types.{Text, Defs}
 
-abbrev pub told : (FragmentAt → List Text) → Option FragmentAt → List Text
-told next None = []
-told next (Some f) = next f
+abbrev pub next_or_none : (FragmentAt → List Text) → Option FragmentAt → List Text
+next_or_none next None = []
+next_or_none next (Some f) = next f
 
 -- what the fragment of a name leads to
-abbrev pub led_to : (FragmentAt → List Text) → List FragmentAt → Text → List Text
-led_to next fs n = told next (fragment_named fs n)
+abbrev pub next_by_name : (FragmentAt → List Text) → List FragmentAt → Text → List Text
+next_by_name next fs n = next_or_none next (fragment_named fs n)
 
 -- a fragment with what it leads to
 abbrev pub leading : (FragmentAt → List Text) → FragmentAt → List (Text × List Text)
@@ -22,21 +22,11 @@ abbrev pub condition_in : FragmentAt → List Text
 condition_in f = f.on.name ∷ []
 
 abbrev pub conditions_of : List FragmentAt → Text → List Text
-conditions_of fs n = led_to condition_in fs n
-
--- what is said of a definition that is a fragment
-abbrev pub on_fragment : {A : Type 0} → (FragmentAt → List A) → DefinitionAt → List A
-on_fragment says (operation o) = []
-on_fragment says (fragment f) = says f
-
--- what is said of a definition that is an operation
-abbrev pub on_operation : {A : Type 0} → (OperationAt → List A) → DefinitionAt → List A
-on_operation says (operation o) = says o
-on_operation says (fragment f) = []
+conditions_of fs n = next_by_name condition_in fs n
 
 -- the fragments that it spreads at the root
 abbrev pub spreads_in : Defs → (root : Text) → FragmentAt → List Text
 spreads_in defs root f = spreads_below defs root (Some f)
 
 abbrev pub spreads_of : Defs → (root : Text) → List FragmentAt → Text → List Text
-spreads_of defs root fs n = led_to (spreads_in defs root) fs n
+spreads_of defs root fs n = next_by_name (spreads_in defs root) fs n

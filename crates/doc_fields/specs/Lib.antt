@@ -2,3 +2,4 @@ pub mod Bases
 pub mod Fragments
 pub mod Keys
 pub mod Heads
+pub mod Common

@@ -1,14 +1,14 @@
 //! The keys of the fragments that apply to a root type, by the names of the fragments (GraphQL,
 //! October 2021, section 5.2.3.1).
-ghost use Rattle.std.specs.Prelude.{◌≡◌, [], cond, map, bytes_eq, option_map, ◌++◌, IfOk, OnOk};
+ghost use Rattle.std.specs.Prelude.{◌≡◌, cond, map, bytes_eq, option_map, IfOk, OnOk};
 ghost use Rattle.schema_types.specs.NameRules as names;
-ghost use Rattle.schema_types.specs.Types.{Text};
+ghost use Rattle.gql_graph.specs.Texts.{Text};
 ghost use Rattle.doc_sites.specs.SitesView.{definition_of, fragment_of};
-ghost use Rattle.doc_fields.specs.Fragments.{on_fragment};
-ghost use Rattle.doc_fields.specs.Heads.{keys_found, keys_kept, keys_named, keys_of_name};
-ghost use Rattle.doc_fields.specs.Keys.{key_view};
+ghost use Rattle.doc_sites.specs.Definitions.{on_fragment};
+ghost use Rattle.doc_fields.specs.Heads.{all_of, keys_found, keys_kept, keys_named, keys_of_name};
+ghost use Rattle.doc_fields.specs.Keys.{joined, keys_view, no_key, sum_of};
 
-use crate::keys::{Key, put_keys};
+use crate::keys::{RootKeys, keys_in};
 use doc_sites::{DefinitionAt, FragmentAt};
 use gql_plain::NoMemory;
 use schema_types::Schema;
@@ -18,13 +18,13 @@ use std::collections::BTreeMap;
 /// The keys of the fragments that apply to the root type, by the names of the fragments.
 #[derive(Drop)]
 pub(crate) struct Heads<'a> {
-    by_name: BTreeMap<&'a str, Vec<Key<'a>>>,
+    by_name: BTreeMap<&'a str, RootKeys<'a>>,
 }
 
 impl<'a> Heads<'a> {
     /// No fragment; takes no memory.
     fn new(alloc: Global) -> Heads<'a>
-        ensures { (n : Text) → keys_found result n ≡ [] }
+        ensures { (n : Text) → keys_found result n ≡ no_key }
     {
         Heads {
             by_name: BTreeMap::new(alloc),
@@ -32,27 +32,32 @@ impl<'a> Heads<'a> {
     }
 
     /// The keys of the fragments of a name; takes no memory.
-    pub(crate) fn keys(&self, name: &str) -> &[Key<'a>]
-        ensures { map key_view result.now ≡ keys_found self.now name.now }
-    {
-        self.find(name).unwrap_or_default()
-    }
-
-    /// The keys of the fragments of a name, where there is one.
-    fn find(&self, name: &str) -> Option<&[Key<'a>]>
-        ensures { option_map (λ ks. map key_view ks.now) result ≡ keys_kept self.now name.now }
+    pub(crate) fn keys(&self, name: &str) -> RootKeys<'a>
+        ensures { keys_view result ≡ keys_found self.now name.now }
     {
         match self.by_name.get(name) {
-            Some(keys) => Some(keys.as_slice()),
-            None => None,
+            Some(keys) => *keys,
+            None => RootKeys::Absent,
         }
     }
 
-    /// Puts the keys of the fragments of a name, in place of those that were there.
-    fn set(&mut self, name: &'a str, keys: Vec<Key<'a>>) -> Result<(), NoMemory>
-        ensures { OnOk result ((n : Text) → keys_found self.new n ≡ cond (bytes_eq name.now n) (map key_view keys.entry.items) (keys_found self.old n)) }
+    /// The keys of the fragments of these names; takes no memory.
+    pub(crate) fn keys_of_each(&self, names: &[&str]) -> RootKeys<'a>
+        ensures { keys_view result ≡ all_of (keys_found self.now) (map (λ n. n.now) names.now) }
     {
-        drop(self.by_name.insert(name, keys)?);
+        let mut keys = RootKeys::Absent;
+        'names: for name in names {
+            let more = self.keys(name);
+            keys = keys.and(&more);
+        }
+        keys
+    }
+
+    /// Puts the keys of the fragments of a name, in place of those that were there.
+    fn set(&mut self, name: &'a str, keys: &RootKeys<'a>) -> Result<(), NoMemory>
+        ensures { OnOk result ((n : Text) → keys_found self.new n ≡ cond (bytes_eq name.now n) (keys_view keys.now) (keys_found self.old n)) }
+    {
+        let _before = self.by_name.insert(name, *keys)?;
         Ok(())
     }
 }
@@ -64,46 +69,43 @@ pub(crate) fn heads_of_each<'a>(
     root: &str,
     definitions: &[DefinitionAt<'a>],
 ) -> Result<Heads<'a>, NoMemory>
-    ensures { IfOk result (λ heads. (n : Text) → keys_found heads n ≡ keys_of_name schema.now root.now (names.fragments (map definition_of definitions.now)) n) }
+    ensures { IfOk result (λ heads. (n : Text) → keys_found heads n ≡ sum_of (keys_of_name schema.now root.now (names.fragments (map definition_of definitions.now)) n)) }
 {
     let mut heads = Heads::new(alloc);
     'definitions: for definition in definitions {
-        put_head_at(alloc, schema, root, &mut heads, definition)?;
+        put_head_at(schema, root, &mut heads, definition)?;
     }
     Ok(heads)
 }
 
 /// Puts the keys of a definition that is a fragment, where it applies to the root type.
 fn put_head_at<'a>(
-    alloc: Global,
     schema: &Schema,
     root: &str,
     heads: &mut Heads<'a>,
     definition: &DefinitionAt<'a>,
 ) -> Result<(), NoMemory>
-    ensures { OnOk result ((n : Text) → keys_found heads.new n ≡ keys_found heads.old n ++ on_fragment (keys_named schema.now root.now n) (definition_of definition.now)) }
+    ensures { OnOk result ((n : Text) → keys_found heads.new n ≡ joined (keys_found heads.old n) (sum_of (on_fragment (keys_named schema.now root.now n) (definition_of definition.now)))) }
 {
     match definition {
         DefinitionAt::Operation(_) => Ok(()),
-        DefinitionAt::Fragment(fragment) => put_head(alloc, schema, root, heads, fragment),
+        DefinitionAt::Fragment(fragment) => put_head(schema, root, heads, fragment),
     }
 }
 
-/// Puts the keys of a fragment after those of others of its name, where it applies to the root type.
+/// Puts the keys of a fragment to those of others of its name, where it applies to the root type.
 fn put_head<'a>(
-    alloc: Global,
     schema: &Schema,
     root: &str,
     heads: &mut Heads<'a>,
     fragment: &FragmentAt<'a>,
 ) -> Result<(), NoMemory>
-    ensures { OnOk result ((n : Text) → keys_found heads.new n ≡ keys_found heads.old n ++ keys_named schema.now root.now n (fragment_of fragment.now)) }
+    ensures { OnOk result ((n : Text) → keys_found heads.new n ≡ joined (keys_found heads.old n) (sum_of (keys_named schema.now root.now n (fragment_of fragment.now)))) }
 {
     if !schema.applies(root, fragment.on.name) {
         return Ok(());
     }
-    let mut keys = Vec::new(alloc);
-    keys.extend_from_slice(heads.keys(fragment.name.name))?;
-    put_keys(schema, root, &mut keys, fragment.selections)?;
-    heads.set(fragment.name.name, keys)
+    let own = keys_in(schema, root, fragment.selections);
+    let keys = heads.keys(fragment.name.name).and(&own);
+    heads.set(fragment.name.name, &keys)
 }

@@ -1,33 +1,85 @@
 //! Response keys at the root of an operation (GraphQL, October 2021, sections 2.7 and 5.2.3.1).
-ghost use Rattle.std.specs.Prelude.{◌≡◌, map, ◌++◌, OnOk};
-ghost use Rattle.std.specs.List.{list_all};
+ghost use Rattle.std.specs.Prelude.{◌≡◌};
 ghost use Rattle.schema_types.specs.FieldRules as rules;
-ghost use Rattle.doc_fields.specs.Keys.{key_view, keys_at};
+ghost use Rattle.doc_fields.specs.Keys.{and_one, is_one, joined, key_sum, keys_at, keys_view, one_key, sum_of};
 
 use gql_ast::{Selection, Selections};
-use gql_plain::{Name, NoMemory};
+use gql_plain::Name;
 use schema_types::Schema;
 
-/// A response key, and the name of the field.
+/// Which response keys there are.
 #[derive(Clone, Copy)]
-pub(crate) struct Key<'a> {
-    pub(crate) key: &'a str,
-    pub(crate) name: &'a str,
+pub(crate) enum RootKeys<'a> {
+    /// None.
+    Absent,
+    /// One, where no field is `__typename`.
+    One(&'a str),
+    /// Several, or a field is `__typename`.
+    Wrong,
+}
+
+impl<'a> RootKeys<'a> {
+    /// The key of a field, and the name of the field.
+    fn of_field(key: &'a str, name: &'a str) -> RootKeys<'a>
+        ensures { keys_view result ≡ key_sum (key.now, name.now) }
+    {
+        if key == "__typename" || name == "__typename" {
+            return RootKeys::Wrong;
+        }
+        RootKeys::One(key)
+    }
+
+    /// These keys and others.
+    pub(crate) fn and(&self, others: &RootKeys<'a>) -> RootKeys<'a>
+        ensures { keys_view result ≡ joined (keys_view self.now) (keys_view others.now) }
+    {
+        match self {
+            RootKeys::Absent => *others,
+            RootKeys::One(key) => others.and_key(key),
+            RootKeys::Wrong => RootKeys::Wrong,
+        }
+    }
+
+    /// A key and these.
+    fn and_key(&self, key: &'a str) -> RootKeys<'a>
+        ensures { keys_view result ≡ and_one key.now (keys_view self.now) }
+    {
+        match self {
+            RootKeys::Absent => RootKeys::One(key),
+            RootKeys::One(other) => same_key(key, other),
+            RootKeys::Wrong => RootKeys::Wrong,
+        }
+    }
+
+    /// Whether there is one key, and no field is `__typename`.
+    pub(crate) fn is_one(&self) -> bool
+        ensures { result ≡ is_one (keys_view self.now) }
+    {
+        match self {
+            RootKeys::Absent => false,
+            RootKeys::One(_) => true,
+            RootKeys::Wrong => false,
+        }
+    }
+}
+
+/// Two keys, neither of `__typename`.
+fn same_key<'a>(key: &'a str, other: &str) -> RootKeys<'a>
+    ensures { keys_view result ≡ and_one key.now (one_key other.now) }
+{
+    if key == other {
+        return RootKeys::One(key);
+    }
+    RootKeys::Wrong
 }
 
 /// The key of a field with this alias and name.
-fn key_of<'a>(alias: &'a Option<Name>, name: &'a Name) -> Key<'a>
-    ensures { key_view result ≡ rules.key_of alias.now name.now }
+fn key_of<'a>(alias: &'a Option<Name>, name: &'a Name) -> RootKeys<'a>
+    ensures { keys_view result ≡ key_sum (rules.key_of alias.now name.now) }
 {
     match alias {
-        Some(alias) => Key {
-            key: alias.as_str(),
-            name: name.as_str(),
-        },
-        None => Key {
-            key: name.as_str(),
-            name: name.as_str(),
-        },
+        Some(alias) => RootKeys::of_field(alias.as_str(), name.as_str()),
+        None => RootKeys::of_field(name.as_str(), name.as_str()),
     }
 }
 
@@ -41,73 +93,33 @@ pub(crate) fn takes_root(schema: &Schema, root: &str, on: &Option<Name>) -> bool
     }
 }
 
-/// Puts the keys of the fields of a set, and of its inline fragments that apply to the root type,
+/// The keys of the fields of a set, and of its inline fragments that apply to the root type,
 /// whatever the directives say.
 #[cycle(keys)]
-pub(crate) fn put_keys<'a>(
-    schema: &Schema,
-    root: &str,
-    keys: &mut Vec<Key<'a>>,
-    selections: &'a Selections,
-) -> Result<(), NoMemory>
-    ensures { OnOk result (map key_view keys.new.items ≡ map key_view keys.old.items ++ rules.keys_in schema.now root.now selections.now) }
+pub(crate) fn keys_in<'a>(schema: &Schema, root: &str, selections: &'a Selections) -> RootKeys<'a>
+    ensures { keys_view result ≡ sum_of (rules.keys_in schema.now root.now selections.now) }
 {
+    let mut keys = RootKeys::Absent;
     'selections: for selection in selections.as_slice() {
-        put_keys_of(schema, root, keys, selection)?;
+        let more = keys_at(schema, root, selection);
+        keys = keys.and(&more);
     }
-    Ok(())
+    keys
 }
 
-/// Puts the keys of a selection.
+/// The keys of a selection.
 #[cycle(keys)]
-fn put_keys_of<'a>(
-    schema: &Schema,
-    root: &str,
-    keys: &mut Vec<Key<'a>>,
-    selection: &'a Selection,
-) -> Result<(), NoMemory>
-    ensures { OnOk result (map key_view keys.new.items ≡ map key_view keys.old.items ++ keys_at schema.now root.now selection.now) }
+fn keys_at<'a>(schema: &Schema, root: &str, selection: &'a Selection) -> RootKeys<'a>
+    ensures { keys_view result ≡ sum_of (keys_at schema.now root.now selection.now) }
 {
     match selection {
-        Selection::Field { alias, name, .. } => {
-            keys.push(key_of(alias, name))?;
-            Ok(())
-        }
-        Selection::Spread { .. } => Ok(()),
+        Selection::Field { alias, name, .. } => key_of(alias, name),
+        Selection::Spread { .. } => RootKeys::Absent,
         Selection::Inline { on, selections, .. } => {
             if !takes_root(schema, root, on) {
-                return Ok(());
+                return RootKeys::Absent;
             }
-            put_keys(schema, root, keys, selections)
+            keys_in(schema, root, selections)
         }
     }
-}
-
-/// Whether there is a key, all keys are the same, and no field is `__typename`.
-pub(crate) fn is_one_key(keys: &[Key<'_>]) -> bool
-    ensures { result ≡ rules.is_one_key (map key_view keys.now) }
-{
-    match keys.first() {
-        Some(first) => are_good(first.key, keys),
-        None => false,
-    }
-}
-
-/// Whether all keys are this one, and no field is `__typename`.
-fn are_good(first: &str, keys: &[Key<'_>]) -> bool
-    ensures { result ≡ list_all (rules.is_good_key first.now) (map key_view keys.now) }
-{
-    'keys: for key in keys {
-        if !is_good(first, key.key, key.name) {
-            return false;
-        }
-    }
-    true
-}
-
-/// Whether a key is this one, and neither it nor the field is `__typename`.
-fn is_good(first: &str, key: &str, name: &str) -> bool
-    ensures { result ≡ rules.is_good_key first.now (key.now, name.now) }
-{
-    key == first && !(key == "__typename") && !(name == "__typename")
 }

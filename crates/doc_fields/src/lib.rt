@@ -2,14 +2,12 @@
 //! 5.3.3 and 5.5.2.3; V9 is this project's own).
 #![tactic(auto)]
 
-mod checking;
-mod conditions;
-mod floats;
+mod below;
+mod check;
+mod common_types;
 mod heads;
 mod keys;
-mod sets;
+mod rules;
 mod spreads;
-mod subscriptions;
-mod undefined;
 
-pub use checking::check_fields;
+pub use check::{check_fields, check_fields_of};

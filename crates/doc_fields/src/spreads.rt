@@ -2,21 +2,23 @@
 //! 2021, section 5.2.3.1).
 ghost use Rattle.std.specs.Prelude.{◌≡◌, map, length, ◌++◌, List, IfOk, OnOk};
 ghost use Rattle.schema_types.specs.FieldRules as rules;
-ghost use Rattle.schema_types.specs.Graphs.{Holds, Tells};
+ghost use Rattle.gql_graph.specs.Graphs.{Holds, Tells};
 ghost use Rattle.schema_types.specs.NameRules as names;
-ghost use Rattle.schema_types.specs.Types.{Text};
+ghost use Rattle.gql_graph.specs.Texts.{Text};
 ghost use Rattle.doc_sites.specs.SitesView.{definition_of, fragment_of};
-ghost use Rattle.doc_fields.specs.Fragments.{leading, on_fragment, spreads_in, spreads_of};
+ghost use Rattle.doc_sites.specs.Definitions.{on_fragment};
+ghost use Rattle.doc_fields.specs.Fragments.{leading, spreads_in, spreads_of};
 ghost use Rattle.doc_fields.specs.Heads.{IsOf};
 ghost use Rattle.doc_fields.specs.Keys.{spreads_at};
 
+use crate::below::{KeysBelow, keys_below};
 use crate::heads::{Heads, heads_of_each};
 use crate::keys::takes_root;
 use doc_sites::{DefinitionAt, FragmentAt, fragments};
 use gql_ast::{Selection, Selections};
+use gql_graph::graph::Graph;
 use gql_plain::NoMemory;
 use schema_types::Schema;
-use schema_types::graph::Graph;
 use std::alloc::Global;
 
 /// The fragments that apply to the root type.
@@ -28,6 +30,8 @@ pub(crate) struct RootFragments<'a> {
     pub(crate) heads: Heads<'a>,
     /// The number of all fragments.
     pub(crate) count: usize,
+    /// Their keys there, with those of the fragments that they lead to.
+    pub(crate) below: KeysBelow<'a>,
 }
 
 /// The fragments among these definitions that apply to the root type.
@@ -42,10 +46,12 @@ pub(crate) fn root_fragments<'a>(
     let spreads = spreads_of_each(alloc, schema, root, definitions)?;
     let heads = heads_of_each(alloc, schema, root, definitions)?;
     let count = count_fragments(alloc, definitions)?;
+    let below = keys_below(alloc, &spreads, &heads, definitions, count)?;
     Ok(RootFragments {
         spreads,
         heads,
         count,
+        below,
     })
 }
 

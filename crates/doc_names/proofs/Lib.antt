@@ -1,3 +1,2 @@
 pub mod NameSteps
 pub mod CycleSteps
-pub mod RankSteps

@@ -1,15 +1,15 @@
 -- Steps of noting names.
-use Rattle.std.proofs.Common.{◌≡◌, ℕ, ◌+◌, ◌<◌, ◌≤◌, List, [], ◌∷◌, ◌++◌, Option, map, drop, length, get_or, add-one, refl, sym, ap, ◌∙◌}
+use Rattle.std.proofs.Common.{◌≡◌, ℕ, ◌+◌, ◌<◌, ◌≤◌, List, [], ◌∷◌, Option, map, drop, length, get_or, add-one, sym, ap, ◌∙◌}
 use Rattle.std.proofs.Math.Seq.{drop-cons}
 use Rattle.std.proofs.lemmas.List.{drop_all}
-use Rattle.schema_types.specs.Leasts.{noted}
-use Rattle.schema_types.specs.NameRules.{not_there, names_of_all, fragment_names, fragments, operations, spreads_in, sites_of, without_root}
-use Rattle.schema_types.specs.Rules.{each}
-use Rattle.schema_types.specs.Sites.{DefinitionAt, FragmentAt, OperationAt, operation, fragment}
-use Rattle.schema_types.specs.Types.{Defs}
-use Rattle.schema_types.specs.declared.located.NameAt.{NameAt}
-use Rattle.schema_types.proofs.LeastSteps.{noted-append}
-use Rattle.doc_names.specs.Definitions.{on_fragment, on_operation}
+use Rattle.gql_graph.specs.Leasts.{noted}
+use Rattle.schema_types.specs.NameRules.{not_there, names_of_all, fragment_names, spreads_in, sites_of, without_root}
+use Rattle.gql_graph.specs.Rules.{each}
+use Rattle.schema_types.specs.Sites.{DefinitionAt}
+use Rattle.schema_tables.specs.Types.{Defs}
+use Rattle.schema_trees.specs.declared.located.NameAt.{NameAt}
+use Rattle.gql_graph.proofs.LeastSteps.{noted-append}
+use Rattle.doc_sites.specs.Definitions.{on_operation}
 
 pub ruleset noting = (noted-append)
 
@@ -20,17 +20,6 @@ not_there_in all ds = each (λ d. each (not_there (names_of_all (fragment_names 
 -- a definition that is an operation without a root
 abbrev pub no_root_in : Defs → DefinitionAt → List ℕ
 no_root_in defs d = on_operation (λ o. without_root defs o o.name) d
-
--- what is told of each operation, and of each fragment, over all definitions
-pub over_operations : (f : OperationAt → List ℕ) (ds : List DefinitionAt) → each f (operations ds) ≡ each (on_operation f) ds
-over_operations f [] = refl
-over_operations f (operation o ∷ ds) = ap (λ (ns : List ℕ). f o ++ ns) (over_operations f ds)
-over_operations f (fragment g ∷ ds) = over_operations f ds
-
-pub over_fragments : (f : FragmentAt → List ℕ) (ds : List DefinitionAt) → each f (fragments ds) ≡ each (on_fragment f) ds
-over_fragments f [] = refl
-over_fragments f (operation o ∷ ds) = over_fragments f ds
-over_fragments f (fragment g ∷ ds) = ap (λ (ns : List ℕ). f g ++ ns) (over_fragments f ds)
 
 -- all of a list is noted
 pub noted_end : {X A : Type 0} (view : X → A) (f : A → List ℕ) (xs : List X) (i : ℕ) (o whole : Option ℕ) → length xs ≤ i

@@ -1,3 +1,1 @@
-pub mod Definitions
 pub mod Cycles
-pub mod Ranks

@@ -1,9 +1,9 @@
 //! The first rule on names that documents do not meet.
 ghost use Rattle.std.specs.Prelude.{◌≡◌, map, IfErr, IfOk, OnOk};
+ghost use Rattle.doc_sites.specs.Definitions.{AreIn};
 ghost use Rattle.doc_sites.specs.SitesView.{definition_of};
-ghost use Rattle.schema_types.specs.DocumentRules.{AreFaulty, Meet, name_rules, trees_of};
-ghost use Rattle.schema_types.specs.Rules as rules;
-ghost use Rattle.schema_types.specs.Sites.{all_definitions};
+ghost use Rattle.schema_types.specs.DocumentRules.{AreFaulty, Meet, name_rules};
+ghost use Rattle.schema_rules.specs.Rules as rules;
 
 use crate::rules::conditions::conditions_wrong;
 use crate::rules::cycles::spreads_on_cycles;
@@ -13,8 +13,8 @@ use crate::rules::roots::roots_missing;
 use crate::rules::spreads::fragments_not_there;
 use doc_sites::{DefinitionAt, definitions_at, fault_at};
 use gql_ast::Documents;
+use gql_graph::least::Least;
 use gql_plain::NoMemory;
-use schema_types::least::Least;
 use schema_types::{Rule, RuleFault, Schema};
 use std::alloc::Global;
 
@@ -31,22 +31,30 @@ pub fn check_names(alloc: Global, schema: &Schema, documents: &Documents) -> Res
     ensures met { OnOk result (Meet name_rules schema.now documents.now) }
     ensures fault { IfErr result (AreFaulty name_rules schema.now documents.now) }
 {
-    match broken(alloc, schema, documents)? {
-        Some((rule, at)) => Err(RuleFault::Rule(fault_at(documents, at, rule))),
-        None => Ok(()),
-    }
+    let definitions = definitions_at(alloc, schema, documents)?;
+    check_names_of(alloc, schema, documents, &definitions)
 }
 
-/// The first rule that documents do not meet, and the number of the node where they do not.
-fn broken(
+/// Checks what [`check_names`] checks, where the definitions of the documents are listed already.
+///
+/// # Errors
+///
+/// The first of these rules that the documents do not meet, at its least place; `NoMemory`.
+pub fn check_names_of(
     alloc: Global,
     schema: &Schema,
     documents: &Documents,
-) -> Result<Option<(Rule, usize)>, NoMemory>
-    ensures { IfOk result (λ found. found ≡ rules.first_broken (name_rules schema.now (all_definitions schema.now (trees_of documents.now)))) }
+    definitions: &[DefinitionAt<'_>],
+) -> Result<(), RuleFault>
+    requires { AreIn schema.now documents.now definitions.now }
+    ensures met { OnOk result (Meet name_rules schema.now documents.now) }
+    ensures fault { IfErr result (AreFaulty name_rules schema.now documents.now) }
 {
-    let definitions = definitions_at(alloc, schema, documents)?;
-    first_broken(alloc, schema, &definitions)
+    let found = first_broken(alloc, schema, definitions)?;
+    match found {
+        Some((rule, node)) => Err(RuleFault::Rule(fault_at(documents, node, rule))),
+        None => Ok(()),
+    }
 }
 
 /// The first rule that definitions do not meet, and the number of the node where they do not.

@@ -3,9 +3,7 @@
 #![tactic(auto)]
 
 mod check;
-mod components;
 mod named;
-mod ranks;
 mod rules;
 
-pub use check::check_names;
+pub use check::{check_names, check_names_of};

@@ -1,3 +1,3 @@
 pub mod SiteSteps
 pub mod PlaceSteps
-pub mod Listing
+pub mod DefinitionSteps

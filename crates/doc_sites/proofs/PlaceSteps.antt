@@ -4,7 +4,7 @@ use Rattle.std.proofs.lemmas.List.{drop_more}
 use Rattle.gql_ast.specs.declared.document.Document.{Document}
 use Rattle.gql_ast.specs.declared.place.FilePlace.{FilePlace}
 use Rattle.gql_ast.specs.declared.place.Placed.{Placed}
-use Rattle.schema_types.specs.Checked.{node_place}
+use Rattle.schema_rules.specs.Checked.{node_place}
 use Rattle.schema_types.specs.DocumentRules.{places_of}
 
 within_first : (xs ys : List FilePlace) (n : ℕ) (d : FilePlace) → n < length xs → node_place (xs ++ ys) n ≡ get_or xs n d

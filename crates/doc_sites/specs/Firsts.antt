@@ -6,9 +6,9 @@ use Rattle.gql_ast.specs.declared.document.Operation.{Operation}
 use Rattle.gql_ast.specs.declared.selection.Selection.{Selection}
 use Rattle.gql_ast.specs.declared.selection.Selection.TheVariants as S
 use Rattle.gql_ast.specs.Value.{Val}
-use Rattle.schema_types.specs.Located.{Located, directives_nodes}
+use Rattle.schema_trees.specs.Located.{Located, directives_nodes}
 use Rattle.schema_types.specs.Sites.{ValueAt, Site, field, spread, inline, optional_name_nodes, optional_name_at, variables_nodes, selections_nodes, arguments_nodes, head_nodes, arguments_at, directives_at, is_set, below, condition_or}
-use Rattle.schema_types.specs.Types.{Text, Defs}
+use Rattle.schema_tables.specs.Types.{Text, Defs}
 
 -- a name, and a value, whose own node comes next
 abbrev pub name_here : (from : ℕ) → Text → Located

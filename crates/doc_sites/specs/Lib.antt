@@ -1,2 +1,3 @@
 pub mod SitesView
 pub mod Firsts
+pub mod Definitions

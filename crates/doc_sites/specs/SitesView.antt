@@ -2,7 +2,7 @@
 use Rattle.std.specs.Prelude.{List, map, option_map, option_copied}
 use denote.Ref.{Bor}
 use Rattle.gql_ast.specs.ValueView as tree
-use Rattle.schema_types.specs.LocatedView.{name_of}
+use Rattle.schema_trees.specs.LocatedView.{name_of}
 use Rattle.schema_types.specs.Sites.{field, spread, inline, operation, fragment}
 use Rattle.schema_types.specs.Sites as spec
 use Rattle.doc_sites.specs.declared.site.ValueAt.{ValueAt}

@@ -3,7 +3,7 @@ ghost use Rattle.std.specs.Prelude.{◌≡◌, ◌+◌, ◌++◌, map, option_co
 ghost use Rattle.schema_types.specs.DocumentRules.{trees_of};
 ghost use Rattle.schema_types.specs.Sites as spec;
 ghost use Rattle.schema_types.specs.Sites.{all_definitions, definition_nodes, document_nodes, selections_nodes};
-ghost use Rattle.schema_types.specs.Types as types;
+ghost use Rattle.schema_tables.specs.Types as types;
 ghost use Rattle.doc_sites.specs.Firsts.{fragment_nodes, operation_nodes};
 ghost use Rattle.doc_sites.specs.SitesView.{definition_of, fragment_of, operation_of, site_of};
 
@@ -12,8 +12,8 @@ use crate::selecting::put_sites;
 use crate::site::{DefinitionAt, FragmentAt, OperationAt, Site};
 use gql_ast::{Definition, Document, Documents, Fragment, Kind, Operation, Selections};
 use gql_plain::NoMemory;
+use schema_trees::located::pass;
 use schema_types::Schema;
-use schema_types::located::pass;
 use std::alloc::Global;
 
 /// The selections of a set and those inside them, in text order.

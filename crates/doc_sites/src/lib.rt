@@ -10,14 +10,12 @@ pub mod around;
 mod defining;
 mod parts;
 mod places;
-mod searching;
 mod selecting;
 pub mod site;
 
 pub use among::{fragments, operations};
 pub use defining::definitions_at;
 pub use places::fault_at;
-pub use searching::names_reached;
 pub use site::{
     ArgumentAt, DefinitionAt, DirectiveAt, FragmentAt, OperationAt, Site, ValueAt, VariableAt,
 };

@@ -1,6 +1,6 @@
 //! The places of nodes.
 ghost use Rattle.std.specs.Prelude.{◌≡◌};
-ghost use Rattle.schema_types.specs.Checked as checked;
+ghost use Rattle.schema_rules.specs.Checked as checked;
 ghost use Rattle.schema_types.specs.DocumentRules.{places_of};
 
 use gql_ast::{Documents, FilePlace};

@@ -10,8 +10,8 @@ use crate::parts::{arguments_at, directives_at, name_here, optional_name_at};
 use crate::site::Site;
 use gql_ast::{Selection, Selections};
 use gql_plain::NoMemory;
+use schema_trees::located::{name_at, pass};
 use schema_types::Schema;
-use schema_types::located::{name_at, pass};
 use std::alloc::Global;
 
 /// Whether there is a selection.

@@ -2,7 +2,7 @@
 
 use gql_ast::document::Kind;
 use gql_ast::{Selections, ValueTree, VariableDef};
-use schema_types::located::NameAt;
+use schema_trees::located::NameAt;
 
 /// A value (GraphQL, October 2021, section 2.9) and the number of its node.
 #[derive(Clone, Copy)]

@@ -3,18 +3,17 @@
 ghost use Rattle.std.specs.Prelude.{◌≡◌, map, OnOk};
 ghost use Rattle.std.specs.List.{filter_map};
 ghost use Rattle.doc_sites.specs.SitesView.{definition_of, site_of};
-ghost use Rattle.schema_types.specs.Leasts.{noted};
-ghost use Rattle.schema_types.specs.LocatedView.{name_of};
+ghost use Rattle.gql_graph.specs.Leasts.{noted};
+ghost use Rattle.schema_trees.specs.LocatedView.{name_of};
 ghost use Rattle.schema_types.specs.NameRules as names;
-ghost use Rattle.schema_types.specs.Rules as rules;
-ghost use Rattle.schema_types.specs.Types as types;
+ghost use Rattle.schema_rules.specs.Rules as rules;
 
 use crate::named::conditions_at;
 use doc_sites::{DefinitionAt, Site};
+use gql_graph::least::Least;
 use gql_plain::NoMemory;
-use schema_types::least::Least;
-use schema_types::located::NameAt;
-use schema_types::{Schema, TypeKind};
+use schema_trees::located::NameAt;
+use schema_types::Schema;
 use std::alloc::Global;
 
 /// Type conditions that name no such type.
@@ -80,15 +79,5 @@ fn note_each_not_composite(schema: &Schema, least: &mut Least, conditions: &[Nam
 fn note_not_composite(schema: &Schema, least: &mut Least, name: &NameAt<'_>)
     ensures { least.new.at ≡ noted least.old.at (names.not_composite schema.now (name_of name.now)) }
 {
-    least.note_if(!is_composite(schema, name.name), name.at);
-}
-
-/// Whether a type is an object, an interface or a union.
-fn is_composite(schema: &Schema, name: &str) -> bool
-    ensures { result ≡ types.is_composite schema.now name.now }
-{
-    matches!(
-        schema.kind_of(name),
-        Some(TypeKind::Object | TypeKind::Interface | TypeKind::Union)
-    )
+    least.note_if(!schema.is_composite(name.name), name.at);
 }

@@ -6,25 +6,25 @@
 //! components, that is the first.
 ghost use Rattle.std.specs.Prelude.{◌≡◌, ◌++◌, length, map, List, IfOk, OnOk};
 ghost use Rattle.doc_sites.specs.SitesView.{definition_of, fragment_of};
-ghost use Rattle.schema_types.specs.Graphs.{Holds, Tells};
-ghost use Rattle.schema_types.specs.Leasts.{noted};
-ghost use Rattle.schema_types.specs.LocatedView.{name_of};
+ghost use Rattle.gql_graph.specs.Graphs.{Holds, Tells};
+ghost use Rattle.gql_graph.specs.Leasts.{noted};
+ghost use Rattle.schema_trees.specs.LocatedView.{name_of};
 ghost use Rattle.schema_types.specs.NameRules as names;
-ghost use Rattle.schema_types.specs.Reached.{leads};
-ghost use Rattle.schema_types.specs.Rules as rules;
+ghost use Rattle.gql_graph.specs.Reached.{leads};
+ghost use Rattle.schema_rules.specs.Rules as rules;
 ghost use Rattle.schema_types.specs.Sites as sites;
-ghost use Rattle.schema_types.specs.Types.{Text};
-ghost use Rattle.doc_names.specs.Cycles.{leading_back, leads_back_in, spreading};
-ghost use Rattle.doc_names.specs.Definitions.{on_fragment};
-ghost use Rattle.doc_names.specs.Ranks.{rank_in, NeverRises};
+ghost use Rattle.gql_graph.specs.Texts.{Text};
+ghost use Rattle.doc_names.specs.Cycles.{leading_back, leads_back_in};
+ghost use Rattle.doc_sites.specs.Definitions.{on_fragment, spreading};
+ghost use Rattle.gql_graph.specs.Ranks.{rank_in, NeverRises};
 
 use crate::named::{fragment_names, spread_names, spreads_at};
-use crate::ranks::Ranks;
 use doc_sites::{DefinitionAt, FragmentAt};
+use gql_graph::graph::Graph;
+use gql_graph::least::Least;
+use gql_graph::ranks::Ranks;
 use gql_plain::NoMemory;
-use schema_types::graph::Graph;
-use schema_types::least::Least;
-use schema_types::located::NameAt;
+use schema_trees::located::NameAt;
 use std::alloc::Global;
 
 /// Spreads that lead back to the fragment in which they stand.
@@ -36,7 +36,7 @@ pub(crate) fn spreads_on_cycles(
     ensures { OnOk result (least.new.at ≡ noted least.old.at (names.spreads_on_cycles (map definition_of definitions.now))) }
 {
     let graph = spread_graph(alloc, definitions)?;
-    let ranks = Ranks::of(alloc, definitions)?;
+    let ranks = Ranks::of(alloc, &graph)?;
     let steps = count_fragments(alloc, definitions)?;
     'definitions: for definition in definitions {
         note_cycles_in(alloc, &graph, steps, &ranks, least, definition)?;
@@ -164,7 +164,7 @@ fn note_if_leads<'t>(
     if ranks.rank(spread.name) < ranks.rank(to) {
         return Ok(());
     }
-    let reached = graph.reached(alloc, steps, &[spread.name])?;
-    least.note_if(reached.contains(to), spread.at);
+    let leads_back = graph.leads_to(alloc, steps, &[spread.name], to)?;
+    least.note_if(leads_back, spread.at);
     Ok(())
 }

@@ -2,14 +2,14 @@
 //! `fragment F on User { name } fragment F on User { id }` breaks it at the second `F`.
 ghost use Rattle.std.specs.Prelude.{◌≡◌, map, OnOk};
 ghost use Rattle.doc_sites.specs.SitesView.{definition_of};
-ghost use Rattle.schema_types.specs.Leasts.{noted};
+ghost use Rattle.gql_graph.specs.Leasts.{noted};
 ghost use Rattle.schema_types.specs.NameRules as names;
 
 use crate::named::fragment_names;
 use doc_sites::DefinitionAt;
+use gql_graph::least::Least;
 use gql_plain::NoMemory;
-use schema_types::least::Least;
-use schema_types::seen::note_repeated;
+use schema_trees::repeats::note_repeated;
 use std::alloc::Global;
 
 /// Names of fragments that stand before.

@@ -4,16 +4,16 @@
 //! at its first token.
 ghost use Rattle.std.specs.Prelude.{◌≡◌, map, OnOk};
 ghost use Rattle.doc_sites.specs.SitesView.{definition_of, operation_of};
-ghost use Rattle.schema_types.specs.Leasts.{noted};
+ghost use Rattle.gql_graph.specs.Leasts.{noted};
 ghost use Rattle.schema_types.specs.NameRules as names;
-ghost use Rattle.schema_types.specs.Rules as rules;
-ghost use Rattle.doc_names.specs.Definitions.{on_operation};
+ghost use Rattle.schema_rules.specs.Rules as rules;
+ghost use Rattle.doc_sites.specs.Definitions.{on_operation};
 
 use crate::named::operation_names;
 use doc_sites::{DefinitionAt, OperationAt};
+use gql_graph::least::Least;
 use gql_plain::NoMemory;
-use schema_types::least::Least;
-use schema_types::seen::note_repeated;
+use schema_trees::repeats::note_repeated;
 use std::alloc::Global;
 
 /// Operations without a name, by their first tokens, and names that stand before.

@@ -2,15 +2,15 @@
 //! exists. `mutation M { rename }` breaks it at `M` where the schema has no mutation type.
 ghost use Rattle.std.specs.Prelude.{◌≡◌, map, is_some};
 ghost use Rattle.doc_sites.specs.SitesView.{definition_of, operation_of};
-ghost use Rattle.schema_types.specs.Leasts.{noted};
+ghost use Rattle.gql_graph.specs.Leasts.{noted};
 ghost use Rattle.schema_types.specs.NameRules as names;
-ghost use Rattle.schema_types.specs.Types as types;
-ghost use Rattle.doc_names.specs.Definitions.{on_operation};
+ghost use Rattle.schema_tables.specs.Types as types;
+ghost use Rattle.doc_sites.specs.Definitions.{on_operation};
 
 use doc_sites::{DefinitionAt, OperationAt};
 use gql_ast::Kind;
+use gql_graph::least::Least;
 use schema_types::Schema;
-use schema_types::least::Least;
 
 /// Operations of kinds that the schema has no root for, by their names.
 pub(crate) fn roots_missing(schema: &Schema, least: &mut Least, definitions: &[DefinitionAt<'_>])

@@ -2,19 +2,20 @@
 //! defined. `{ me { ...F } }` without a fragment F breaks it at `F`.
 ghost use Rattle.std.specs.Prelude.{◌≡◌, map, List, IfOk, OnOk};
 ghost use Rattle.doc_sites.specs.SitesView.{definition_of};
-ghost use Rattle.schema_types.specs.Leasts.{noted};
-ghost use Rattle.schema_types.specs.LocatedView.{name_of};
+ghost use Rattle.gql_graph.specs.Leasts.{noted};
+ghost use Rattle.schema_trees.specs.LocatedView.{name_of};
 ghost use Rattle.schema_types.specs.NameRules as names;
-ghost use Rattle.schema_types.specs.Rules as rules;
-ghost use Rattle.schema_types.specs.Seen.{Knows};
-ghost use Rattle.schema_types.specs.Types.{Text};
+ghost use Rattle.schema_rules.specs.Rules as rules;
+ghost use Rattle.gql_graph.specs.Seen.{Knows};
+ghost use Rattle.gql_graph.specs.Texts.{Text};
 
 use crate::named::{fragment_names, spreads_at};
 use doc_sites::DefinitionAt;
+use gql_graph::least::Least;
+use gql_graph::seen::Seen;
 use gql_plain::NoMemory;
-use schema_types::least::Least;
-use schema_types::located::NameAt;
-use schema_types::seen::Seen;
+use schema_trees::located::NameAt;
+use schema_trees::repeats::seen_names;
 use std::alloc::Global;
 
 /// Spreads of no fragment, in operations and in fragments.
@@ -37,7 +38,7 @@ fn names_there<'a>(alloc: Global, definitions: &[DefinitionAt<'a>]) -> Result<Se
     ensures { IfOk result (λ seen. Knows seen.names (names.names_of_all (names.fragment_names (map definition_of definitions.now)))) }
 {
     let names = fragment_names(alloc, definitions)?;
-    Seen::of(alloc, &names)
+    seen_names(alloc, &names)
 }
 
 /// Spreads of no fragment in a definition.

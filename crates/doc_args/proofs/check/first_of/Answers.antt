@@ -2,8 +2,8 @@
 use Rattle.std.proofs.Common.{map, drop, sym, ◌∙◌}
 use Rattle.schema_types.specs.ArgumentRules as rules
 use Rattle.schema_types.specs.DocumentRules.{argument_rules}
-use Rattle.schema_types.specs.declared.fault.Rule.TheVariants as R
-use Rattle.schema_types.proofs.LeastSteps.{holds, breaks}
+use Rattle.schema_rules.specs.declared.fault.Rule.TheVariants as R
+use Rattle.gql_graph.proofs.LeastSteps.{holds, breaks}
 use Rattle.doc_sites.specs.SitesView.{definition_of}
 use Rattle.doc_args.proofs.check.first_of.Goals as goal
 

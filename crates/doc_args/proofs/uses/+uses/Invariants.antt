@@ -4,7 +4,7 @@ use Rattle.std.specs.Prelude.{option_copied}
 use Rattle.gql_ast.specs.Value.{members_of, vals_of, val_depth, vals_depth, members_depth}
 use Rattle.gql_ast.specs.ValueView.{value_of, argument_of}
 use Rattle.schema_types.specs.ArgumentRules as rules
-use Rattle.schema_types.specs.Located.{members_nodes, values_nodes}
+use Rattle.schema_trees.specs.Located.{members_nodes, values_nodes}
 use Rattle.doc_args.specs.UseView.{fields_of_name, place_of, use_of}
 use Rattle.doc_args.proofs.uses.+uses.Given as goal
 

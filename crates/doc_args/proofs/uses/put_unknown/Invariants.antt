@@ -1,6 +1,6 @@
 -- What is put and what is left are the whole.
 use Rattle.std.proofs.Common.{◌≡◌, ◌++◌, map, drop}
-use Rattle.schema_types.specs.Rules.{each}
+use Rattle.gql_graph.specs.Rules.{each}
 use Rattle.doc_sites.specs.SitesView.{argument_of}
 use Rattle.doc_args.specs.UseView.{use_of, uses_unknown}
 use Rattle.doc_args.proofs.uses.put_unknown.Given as goal

@@ -1,7 +1,7 @@
 -- What is collected and what is left are the whole.
 use Rattle.std.proofs.Common.{◌≡◌, ◌++◌, map, drop}
 use Rattle.schema_types.specs.ArgumentRules as rules
-use Rattle.schema_types.specs.Rules.{each}
+use Rattle.gql_graph.specs.Rules.{each}
 use Rattle.doc_args.specs.CallView.{call_of}
 use Rattle.doc_args.specs.UseView.{use_of}
 use Rattle.doc_args.proofs.uses.uses_of.Given as goal

@@ -1,12 +1,13 @@
 -- One more definition, and all of them.
 use Rattle.std.proofs.Common.{List, [], map, refl, arith}
 use Rattle.schema_types.specs.NameRules.{fragments}
-use Rattle.schema_types.specs.Rules.{each}
+use Rattle.gql_graph.specs.Rules.{each}
 use Rattle.schema_types.specs.Sites.{DefinitionAt}
-use Rattle.schema_types.specs.Types.{Text}
-use Rattle.schema_types.proofs.Graphs.{tells_held}
+use Rattle.gql_graph.specs.Texts.{Text}
+use Rattle.gql_graph.proofs.Graphs.{tells_held}
 use Rattle.doc_sites.specs.SitesView.{definition_of}
-use Rattle.doc_fields.specs.Fragments.{leading, on_fragment, spreads_in, spreads_of}
+use Rattle.doc_sites.specs.Definitions.{on_fragment}
+use Rattle.doc_fields.specs.Fragments.{leading, spreads_in, spreads_of}
 use Rattle.doc_fields.proofs.Steps.{pairs_step, pairs_all, next_among}
 use Rattle.doc_fields.proofs.spreads.spreads_of_each.Goals as goal
 

@@ -1,10 +1,11 @@
 -- What is put and what is left are the whole.
 use Rattle.std.proofs.Common.{◌≡◌, ◌++◌, List, map, drop}
-use Rattle.schema_types.specs.Graphs.{Holds}
-use Rattle.schema_types.specs.Rules.{each}
-use Rattle.schema_types.specs.Types.{Text}
+use Rattle.gql_graph.specs.Graphs.{Holds}
+use Rattle.gql_graph.specs.Rules.{each}
+use Rattle.gql_graph.specs.Texts.{Text}
 use Rattle.doc_sites.specs.SitesView.{definition_of}
-use Rattle.doc_fields.specs.Fragments.{leading, on_fragment, spreads_in}
+use Rattle.doc_sites.specs.Definitions.{on_fragment}
+use Rattle.doc_fields.specs.Fragments.{leading, spreads_in}
 use Rattle.doc_fields.proofs.spreads.spreads_of_each.Given as goal
 
 abbrev pub invariant-definitions : goal.invariant-definitions

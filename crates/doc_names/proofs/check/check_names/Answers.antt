@@ -1,11 +1,7 @@
--- The fault stands at the place of the node.
-use Rattle.std.proofs.Common.{sym, ◌∙◌}
+-- The definitions are those of the documents.
+use Rattle.std.proofs.Common.{map, ap, ◌∙◌}
+use Rattle.doc_sites.specs.SitesView.{definition_of}
 use Rattle.doc_names.proofs.check.check_names.Goals as goal
 
-pub returns-in-Some-clause-fault : goal.returns-in-Some-clause-fault
-returns-in-Some-clause-fault c = record {
-  rule = c.in-Some.rule;
-  node = c.in-Some.at;
-  first = sym c.in_ok-rule.ensures ∙ c.in-Some.is;
-  fault = c.fault_at.ensures;
-}
+pub check_names_of-requires : goal.check_names_of-requires
+check_names_of-requires c = ap (map definition_of) c.deref.ensures.value ∙ c.in_ok-definitions.ensures

@@ -4,9 +4,9 @@ use Rattle.doc_sites.specs.SitesView.{definition_of}
 use Rattle.schema_types.specs.DocumentRules.{name_rules}
 use Rattle.schema_types.specs.NameRules as names
 use Rattle.schema_types.specs.Sites.{DefinitionAt}
-use Rattle.schema_types.specs.Types.{Defs}
-use Rattle.schema_types.specs.declared.fault.Rule.TheVariants as R
-use Rattle.schema_types.proofs.LeastSteps.{breaks, holds}
+use Rattle.schema_tables.specs.Types.{Defs}
+use Rattle.schema_rules.specs.declared.fault.Rule.TheVariants as R
+use Rattle.gql_graph.proofs.LeastSteps.{breaks, holds}
 use Rattle.doc_names.proofs.check.first_broken.Goals as goal
 
 pub returns-in-Some : goal.returns-in-Some

@@ -2,7 +2,7 @@
 use Rattle.std.proofs.Common.{◌≡◌, ◌++◌, map, drop}
 use Rattle.std.specs.List.{filter_map}
 use Rattle.doc_sites.specs.SitesView.{site_of}
-use Rattle.schema_types.specs.LocatedView.{name_of}
+use Rattle.schema_trees.specs.LocatedView.{name_of}
 use Rattle.schema_types.specs.NameRules as names
 use Rattle.doc_names.proofs.named.conditions_at.Given as goal
 

@@ -3,7 +3,7 @@ use Rattle.std.proofs.Common.{◌≡◌, ◌+◌, ◌-◌, ◌<◌, length, drop
 use Rattle.gql_ast.specs.declared.place.FilePlace.{FilePlace}
 use Rattle.gql_ast.specs.declared.place.Placed.{Placed}
 use Rattle.gql_ast.specs.declared.document.Document.{Document}
-use Rattle.schema_types.specs.Checked as checked
+use Rattle.schema_rules.specs.Checked as checked
 use Rattle.schema_types.specs.DocumentRules.{places_of}
 use Rattle.doc_sites.proofs.PlaceSteps.{place_here, place_behind}
 use Rattle.doc_sites.proofs.places.fault_at.Goals as goal

@@ -1,6 +1,6 @@
 -- The node stands behind the documents that are passed.
 use Rattle.std.proofs.Common.{◌≡◌, drop}
-use Rattle.schema_types.specs.Checked.{node_place}
+use Rattle.schema_rules.specs.Checked.{node_place}
 use Rattle.schema_types.specs.DocumentRules.{places_of}
 use Rattle.doc_sites.proofs.places.fault_at.Given as goal
 

@@ -6,8 +6,8 @@ use Rattle.std.specs.Cmp.Lexicographic.{slice_cmp}
 use Rattle.std.specs.Ordering.{nat_cmp}
 use Rattle.std.specs.Prelude.{List, ℕ}
 use Rattle.schema_types.specs.ArgumentRules.{input_def_named}
-use Rattle.schema_types.specs.Types.{Text}
-use Rattle.schema_types.specs.declared.definitions.InputDef.{InputDef}
+use Rattle.gql_graph.specs.Texts.{Text}
+use Rattle.schema_tables.specs.declared.definitions.InputDef.{InputDef}
 use Rattle.doc_args.proofs.Steps.{input_next, option_map-cond}
 use Rattle.doc_args.proofs.index.Inputs.of.Goals as goal
 use denote.Ref.{Bor}

@@ -5,7 +5,7 @@ use Rattle.std.specs.Cmp.Lexicographic.{slice_cmp}
 use Rattle.std.specs.Ordering.{nat_cmp}
 use Rattle.std.specs.Prelude.{option_copied}
 use Rattle.schema_types.specs.ArgumentRules.{input_def_named}
-use Rattle.schema_types.specs.Types.{Text}
+use Rattle.gql_graph.specs.Texts.{Text}
 use Rattle.doc_args.proofs.index.Inputs.of.Given as goal
 
 abbrev pub decreases-inputs : goal.decreases-inputs

@@ -4,7 +4,7 @@ use Rattle.std.specs.BTreeMap.{get_by}
 use Rattle.std.specs.Cmp.Lexicographic.{slice_cmp}
 use Rattle.std.specs.Ordering.{nat_cmp}
 use Rattle.schema_types.specs.ArgumentRules.{variable_named}
-use Rattle.schema_types.specs.Types.{Text}
+use Rattle.gql_graph.specs.Texts.{Text}
 use Rattle.doc_sites.specs.SitesView.{variable_of}
 use Rattle.doc_args.proofs.index.Variables.of.Given as goal
 

@@ -1,7 +1,7 @@
 -- What is noted and what is left are the whole.
 use Rattle.std.proofs.Common.{◌≡◌, map, drop}
 use Rattle.doc_sites.specs.SitesView.{definition_of}
-use Rattle.schema_types.specs.Leasts.{noted}
+use Rattle.gql_graph.specs.Leasts.{noted}
 use Rattle.schema_types.specs.NameRules as names
 use Rattle.doc_names.proofs.rules.conditions.conditions_wrong.Given as goal
 

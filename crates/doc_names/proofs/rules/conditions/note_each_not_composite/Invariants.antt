@@ -1,9 +1,9 @@
 -- What is noted and what is left are the whole.
 use Rattle.std.proofs.Common.{◌≡◌, map, drop}
-use Rattle.schema_types.specs.Leasts.{noted}
-use Rattle.schema_types.specs.LocatedView.{name_of}
+use Rattle.gql_graph.specs.Leasts.{noted}
+use Rattle.schema_trees.specs.LocatedView.{name_of}
 use Rattle.schema_types.specs.NameRules.{not_composite}
-use Rattle.schema_types.specs.Rules.{each}
+use Rattle.gql_graph.specs.Rules.{each}
 use Rattle.doc_names.proofs.rules.conditions.note_each_not_composite.Given as goal
 
 abbrev pub invariant-conditions : goal.invariant-conditions

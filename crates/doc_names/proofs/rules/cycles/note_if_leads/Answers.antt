@@ -1,13 +1,13 @@
 -- One after a place that is noted, one of a lower rank, and one that is searched from.
 use Rattle.std.proofs.Common.{◌≡◌, ◌<◌, Bool, true, ap, sym, ◌∙◌, arith}
-use Rattle.schema_types.specs.Leasts.{noted}
-use Rattle.schema_types.specs.Reached.{leads}
-use Rattle.schema_types.specs.Rules.{wrong}
-use Rattle.schema_types.specs.Types.{Text}
-use Rattle.schema_types.proofs.LeastSteps.{kept_least}
-use Rattle.doc_names.specs.Ranks.{rank_in}
+use Rattle.gql_graph.specs.Leasts.{noted}
+use Rattle.gql_graph.specs.Reached.{leads}
+use Rattle.gql_graph.specs.Rules.{wrong}
+use Rattle.gql_graph.specs.Texts.{Text}
+use Rattle.gql_graph.proofs.LeastSteps.{kept_least}
+use Rattle.gql_graph.specs.Ranks.{rank_in}
 use Rattle.doc_names.proofs.CycleSteps.{reached_alone}
-use Rattle.doc_names.proofs.RankSteps.{not_leading}
+use Rattle.gql_graph.proofs.RankSteps.{not_leading}
 use Rattle.doc_names.proofs.rules.cycles.note_if_leads.Goals as goal
 
 pub returns-then-is_at_most : goal.returns-then-is_at_most
@@ -24,6 +24,5 @@ returns-then-rank c = λ next t s.
 
 pub returns : goal.returns
 returns c = λ next t s.
-    let r = c.in_ok-reached.ensures next t in
     c.note_if.ensures ∙ ap (λ (b : Bool). noted c.args.least.now.at (wrong b c.args.spread.now.at))
-    (c.contains.ensures r.0 r.1 ∙ r.2 c.args.to.now ∙ reached_alone next c.args.steps c.args.spread.now.name.now c.args.to.now)
+    (c.in_ok-leads_back.ensures next t ∙ reached_alone next c.args.steps c.args.spread.now.name.now c.args.to.now)

@@ -1,11 +1,11 @@
 -- What is noted and what is left are the whole.
 use Rattle.std.proofs.Common.{◌≡◌, List, map, drop}
-use Rattle.schema_types.specs.Graphs.{Tells}
-use Rattle.schema_types.specs.Leasts.{noted}
-use Rattle.schema_types.specs.LocatedView.{name_of}
-use Rattle.schema_types.specs.Types.{Text}
+use Rattle.gql_graph.specs.Graphs.{Tells}
+use Rattle.gql_graph.specs.Leasts.{noted}
+use Rattle.schema_trees.specs.LocatedView.{name_of}
+use Rattle.gql_graph.specs.Texts.{Text}
 use Rattle.doc_names.specs.Cycles.{leading_back}
-use Rattle.doc_names.specs.Ranks.{rank_in, NeverRises}
+use Rattle.gql_graph.specs.Ranks.{rank_in, NeverRises}
 use Rattle.doc_names.proofs.rules.cycles.note_leading_back.Given as goal
 
 abbrev pub invariant-spreads : goal.invariant-spreads

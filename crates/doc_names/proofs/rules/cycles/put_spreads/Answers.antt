@@ -3,10 +3,10 @@ use Rattle.std.proofs.Common.{◌≡◌, OnOk, List, [], ◌∷◌, ◌++◌, ma
 use Rattle.doc_sites.specs.SitesView.{definition_of, fragment_of, site_of}
 use Rattle.doc_sites.specs.declared.site.DefinitionAt.{DefinitionAt}
 use Rattle.doc_sites.specs.declared.site.Site.{Site}
-use Rattle.schema_types.specs.Graphs.{Holds}
+use Rattle.gql_graph.specs.Graphs.{Holds}
 use Rattle.schema_types.specs.NameRules.{names_of_all, spreads_in}
-use Rattle.schema_types.specs.Types.{Text}
-use Rattle.doc_names.specs.Cycles.{spreading}
+use Rattle.gql_graph.specs.Texts.{Text}
+use Rattle.doc_sites.specs.Definitions.{spreading}
 use denote.Ref.{Bor}
 use Rattle.doc_names.proofs.rules.cycles.put_spreads.Goals as goal
 

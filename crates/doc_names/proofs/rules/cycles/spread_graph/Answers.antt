@@ -3,11 +3,11 @@ use Rattle.std.proofs.Common.{List, [], refl, map, arith}
 use Rattle.doc_sites.specs.SitesView.{definition_of}
 use Rattle.doc_sites.specs.declared.site.DefinitionAt.{DefinitionAt}
 use Rattle.schema_types.specs.NameRules.{fragments, spread_by}
-use Rattle.schema_types.specs.Rules.{each}
-use Rattle.schema_types.specs.Types.{Text}
-use Rattle.schema_types.proofs.Graphs.{pairs_end, pairs_next, tells_held}
-use Rattle.doc_names.specs.Cycles.{spreading}
-use Rattle.doc_names.proofs.CycleSteps.{next_seen}
+use Rattle.gql_graph.specs.Rules.{each}
+use Rattle.gql_graph.specs.Texts.{Text}
+use Rattle.gql_graph.proofs.Graphs.{pairs_end, pairs_next, tells_held}
+use Rattle.doc_sites.specs.Definitions.{spreading}
+use Rattle.doc_sites.proofs.DefinitionSteps.{next_seen}
 use Rattle.doc_names.proofs.rules.cycles.spread_graph.Goals as goal
 
 pub definitions-init : goal.definitions-init

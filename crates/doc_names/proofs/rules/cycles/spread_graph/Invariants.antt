@@ -1,10 +1,10 @@
 -- What is put and what is left are the whole.
 use Rattle.std.proofs.Common.{◌≡◌, ◌++◌, List, drop}
 use Rattle.doc_sites.specs.SitesView.{definition_of}
-use Rattle.schema_types.specs.Graphs.{Holds}
-use Rattle.schema_types.specs.Rules.{each}
-use Rattle.schema_types.specs.Types.{Text}
-use Rattle.doc_names.specs.Cycles.{spreading}
+use Rattle.gql_graph.specs.Graphs.{Holds}
+use Rattle.gql_graph.specs.Rules.{each}
+use Rattle.gql_graph.specs.Texts.{Text}
+use Rattle.doc_sites.specs.Definitions.{spreading}
 use Rattle.doc_names.proofs.rules.cycles.spread_graph.Given as goal
 
 abbrev pub invariant-definitions : goal.invariant-definitions

@@ -1,20 +1,21 @@
 -- One more definition, and all of them.
 use Rattle.std.proofs.Common.{ℕ, List, map, ap, sym, ◌∙◌, arith}
 use Rattle.doc_sites.specs.SitesView.{definition_of}
-use Rattle.schema_types.specs.Leasts.{noted}
-use Rattle.schema_types.specs.NameRules.{fragments}
+use Rattle.gql_graph.specs.Leasts.{noted}
+use Rattle.schema_types.specs.NameRules.{fragments, spread_by}
 use Rattle.schema_types.specs.Sites.{FragmentAt}
-use Rattle.schema_types.proofs.LeastSteps.{each_next}
+use Rattle.gql_graph.proofs.LeastSteps.{each_next}
 use Rattle.doc_names.specs.Cycles.{leads_back_in}
-use Rattle.doc_names.specs.Definitions.{on_fragment}
-use Rattle.doc_names.proofs.NameSteps.{noted_end, over_fragments}
+use Rattle.doc_sites.specs.Definitions.{on_fragment}
+use Rattle.doc_names.proofs.NameSteps.{noted_end}
+use Rattle.doc_sites.proofs.DefinitionSteps.{over_fragments}
 use Rattle.doc_names.proofs.rules.cycles.spreads_on_cycles.Goals as goal
 
 pub definitions-preserved : goal.definitions-preserved
 definitions-preserved c =
     let fs : List FragmentAt = fragments (map definition_of c.args.definitions.now) in
     each_next definition_of (on_fragment (leads_back_in fs)) c.args.definitions.now c.definitions.definition-index c.definition-item.result _ _ _ (omega arith) c.definition-item.is
-    (c.in_ok-note_cycles_in.ensures fs c.in_ok-graph.ensures c.in_ok-steps.ensures c.in_ok-ranks.ensures) c.definitions.invariant
+    (c.in_ok-note_cycles_in.ensures fs c.in_ok-graph.ensures c.in_ok-steps.ensures (c.in_ok-ranks.ensures (spread_by fs) c.in_ok-graph.ensures)) c.definitions.invariant
 
 pub returns : goal.returns
 returns c =

@@ -1,11 +1,11 @@
 -- What is noted and what is left are the whole.
 use Rattle.std.proofs.Common.{◌≡◌, map, drop}
 use Rattle.doc_sites.specs.SitesView.{definition_of}
-use Rattle.schema_types.specs.Leasts.{noted}
+use Rattle.gql_graph.specs.Leasts.{noted}
 use Rattle.schema_types.specs.NameRules.{fragments}
-use Rattle.schema_types.specs.Rules.{each}
+use Rattle.gql_graph.specs.Rules.{each}
 use Rattle.doc_names.specs.Cycles.{leads_back_in}
-use Rattle.doc_names.specs.Definitions.{on_fragment}
+use Rattle.doc_sites.specs.Definitions.{on_fragment}
 use Rattle.doc_names.proofs.rules.cycles.spreads_on_cycles.Given as goal
 
 abbrev pub invariant-definitions : goal.invariant-definitions

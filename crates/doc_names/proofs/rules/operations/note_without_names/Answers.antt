@@ -1,11 +1,12 @@
 -- One more of the list, and all of them.
 use Rattle.std.proofs.Common.{ℕ, List, map, ap, sym, ◌∙◌, arith}
 use Rattle.doc_sites.specs.SitesView.{definition_of}
-use Rattle.schema_types.specs.Leasts.{noted}
+use Rattle.gql_graph.specs.Leasts.{noted}
 use Rattle.schema_types.specs.NameRules as names
-use Rattle.schema_types.proofs.LeastSteps.{each_next}
-use Rattle.doc_names.specs.Definitions.{on_operation}
-use Rattle.doc_names.proofs.NameSteps.{noted_end, over_operations}
+use Rattle.gql_graph.proofs.LeastSteps.{each_next}
+use Rattle.doc_sites.specs.Definitions.{on_operation}
+use Rattle.doc_names.proofs.NameSteps.{noted_end}
+use Rattle.doc_sites.proofs.DefinitionSteps.{over_operations}
 use Rattle.doc_names.proofs.rules.operations.note_without_names.Goals as goal
 
 pub definitions-preserved : goal.definitions-preserved

@@ -1,10 +1,10 @@
 -- What is noted and what is left are the whole.
 use Rattle.std.proofs.Common.{◌≡◌, map, drop}
 use Rattle.doc_sites.specs.SitesView.{definition_of}
-use Rattle.schema_types.specs.Leasts.{noted}
+use Rattle.gql_graph.specs.Leasts.{noted}
 use Rattle.schema_types.specs.NameRules as names
-use Rattle.schema_types.specs.Rules.{each}
-use Rattle.doc_names.specs.Definitions.{on_operation}
+use Rattle.gql_graph.specs.Rules.{each}
+use Rattle.doc_sites.specs.Definitions.{on_operation}
 use Rattle.doc_names.proofs.rules.operations.note_without_names.Given as goal
 
 abbrev pub invariant-definitions : goal.invariant-definitions

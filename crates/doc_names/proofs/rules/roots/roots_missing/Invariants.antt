@@ -1,8 +1,8 @@
 -- What is noted and what is left are the whole.
 use Rattle.std.proofs.Common.{◌≡◌, map, drop}
 use Rattle.doc_sites.specs.SitesView.{definition_of}
-use Rattle.schema_types.specs.Leasts.{noted}
-use Rattle.schema_types.specs.Rules.{each}
+use Rattle.gql_graph.specs.Leasts.{noted}
+use Rattle.gql_graph.specs.Rules.{each}
 use Rattle.doc_names.proofs.NameSteps.{no_root_in}
 use Rattle.doc_names.proofs.rules.roots.roots_missing.Given as goal
 

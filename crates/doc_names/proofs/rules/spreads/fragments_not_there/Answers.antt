@@ -2,9 +2,9 @@
 use Rattle.std.proofs.Common.{List, map, arith}
 use Rattle.doc_sites.specs.SitesView.{definition_of}
 use Rattle.schema_types.specs.NameRules.{fragment_names, names_of_all, not_there, sites_of, spreads_in}
-use Rattle.schema_types.specs.Rules.{each}
-use Rattle.schema_types.specs.Types.{Text}
-use Rattle.schema_types.proofs.LeastSteps.{each_next}
+use Rattle.gql_graph.specs.Rules.{each}
+use Rattle.gql_graph.specs.Texts.{Text}
+use Rattle.gql_graph.proofs.LeastSteps.{each_next}
 use Rattle.doc_names.proofs.rules.spreads.fragments_not_there.Goals as goal
 
 pub definitions-preserved : goal.definitions-preserved

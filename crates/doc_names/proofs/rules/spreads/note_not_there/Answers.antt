@@ -1,9 +1,9 @@
 -- One more of the list.
 use Rattle.std.proofs.Common.{Bool, not, get_or, ap, ◌∙◌, arith}
-use Rattle.schema_types.specs.Leasts.{noted}
-use Rattle.schema_types.specs.LocatedView.{name_of}
+use Rattle.gql_graph.specs.Leasts.{noted}
+use Rattle.schema_trees.specs.LocatedView.{name_of}
 use Rattle.schema_types.specs.NameRules.{not_there}
-use Rattle.schema_types.specs.Rules.{wrong}
+use Rattle.gql_graph.specs.Rules.{wrong}
 use Rattle.doc_names.proofs.NameSteps.{no_name, noted_at}
 use Rattle.doc_names.proofs.rules.spreads.note_not_there.Goals as goal
 

@@ -1,11 +1,11 @@
 -- What is noted and what is left are the whole.
 use Rattle.std.proofs.Common.{◌≡◌, List, map, drop}
-use Rattle.schema_types.specs.Leasts.{noted}
-use Rattle.schema_types.specs.LocatedView.{name_of}
+use Rattle.gql_graph.specs.Leasts.{noted}
+use Rattle.schema_trees.specs.LocatedView.{name_of}
 use Rattle.schema_types.specs.NameRules.{not_there}
-use Rattle.schema_types.specs.Rules.{each}
-use Rattle.schema_types.specs.Seen.{Knows}
-use Rattle.schema_types.specs.Types.{Text}
+use Rattle.gql_graph.specs.Rules.{each}
+use Rattle.gql_graph.specs.Seen.{Knows}
+use Rattle.gql_graph.specs.Texts.{Text}
 use Rattle.doc_names.proofs.rules.spreads.note_not_there.Given as goal
 
 abbrev pub invariant-spreads : goal.invariant-spreads

@@ -1,0 +1,24 @@
+-- One more definition, and all of them.
+use Rattle.std.proofs.Common.{[], ◌++◌, map, refl, ◌∙◌, arith}
+use Rattle.doc_sites.specs.SitesView.{definition_of}
+use Rattle.doc_args.specs.UsesByName.{named_in}
+use Rattle.doc_args.proofs.Steps.{collect_next, collect_end, gathered_all}
+use Rattle.doc_args.proofs.fragments.gather.Goals as goal
+
+pub definitions-init : goal.definitions-init
+definitions-init c = (λ n. [], c.new-gathered.ensures, λ n. refl)
+
+pub definitions-preserved : goal.definitions-preserved
+definitions-preserved c =
+    let s = c.definitions.invariant in (
+      λ n. s.0 n ++ named_in c.args.schema.now (definition_of c.definition-item.result) n,
+      c.in_ok-put_definition.ensures s.0 s.1,
+      λ n.
+          collect_next definition_of (λ d. named_in c.args.schema.now d n) c.args.definitions.now c.definitions.definition-index c.definition-item.result (s.0 n) _ _ (omega arith) c.definition-item.is refl (s.2 n),
+    )
+
+pub returns : goal.returns
+returns c = λ n.
+    let s = c.definitions.invariant in
+    s.1 n ∙ collect_end definition_of (λ d. named_in c.args.schema.now d n) c.args.definitions.now c.definitions.definition-index (s.0 n) _ (omega arith) (s.2 n)
+    ∙ gathered_all c.args.schema.now (map definition_of c.args.definitions.now) n

@@ -1,9 +1,0 @@
--- One more of the list.
-use Rattle.std.proofs.Common.{arith}
-use Rattle.schema_types.specs.ArgumentRules as rules
-use Rattle.doc_args.specs.CallView.{call_of}
-use Rattle.schema_types.proofs.LeastSteps.{each_next}
-use Rattle.doc_args.proofs.literals.note_unfit_among.Goals as goal
-
-pub calls-preserved : goal.calls-preserved
-calls-preserved c = each_next call_of (rules.arguments_unfit c.args.schema.now) c.args.calls.now c.calls.call-index c.call-item.result _ _ _ (omega arith) c.call-item.is c.in_ok-note_unfit.ensures c.calls.invariant

@@ -1,0 +1,10 @@
+-- One more of the list.
+use Rattle.std.proofs.Common.{arith}
+use Rattle.schema_types.specs.ArgumentRules as rules
+use Rattle.gql_graph.specs.Rules.{each}
+use Rattle.doc_sites.specs.SitesView.{definition_of}
+use Rattle.gql_graph.proofs.LeastSteps.{each_next}
+use Rattle.doc_args.proofs.rules.arguments.arguments_wrong.Goals as goal
+
+pub definitions-preserved : goal.definitions-preserved
+definitions-preserved c = each_next definition_of (λ d. each rules.arguments_of_call_wrong (rules.calls_of c.args.schema.now d)) c.args.definitions.now c.definitions.definition-index c.definition-item.result _ _ _ (omega arith) c.definition-item.is c.in_ok-note_wrong_in.ensures c.definitions.invariant

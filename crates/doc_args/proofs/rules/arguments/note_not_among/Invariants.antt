@@ -1,0 +1,11 @@
+-- What is noted and what is left are the whole.
+use Rattle.std.proofs.Common.{◌≡◌, map, drop}
+use Rattle.schema_types.specs.ArgumentRules as rules
+use Rattle.gql_graph.specs.Rules.{each}
+use Rattle.gql_graph.specs.Leasts.{noted}
+use Rattle.schema_trees.specs.LocatedView.{name_of}
+use Rattle.doc_args.proofs.rules.arguments.note_not_among.Given as goal
+
+abbrev pub invariant-names : goal.invariant-names
+invariant-names l =
+    noted l.least.at (each (rules.not_taken (rules.inputs l.inputs)) (map name_of (drop l.name-index l.names))) ≡ noted l.initial.least.at (each (rules.not_taken (rules.inputs l.inputs)) (map name_of l.names))

@@ -1,0 +1,11 @@
+-- What is collected and what is left are the whole.
+use Rattle.std.proofs.Common.{◌≡◌, ◌++◌, map, drop}
+use Rattle.gql_graph.specs.Rules.{each}
+use Rattle.schema_trees.specs.LocatedView.{name_of}
+use Rattle.doc_sites.specs.SitesView.{directive_of}
+use Rattle.doc_args.specs.Directives.{once_name}
+use Rattle.doc_args.proofs.rules.directives.names_once.Given as goal
+
+abbrev pub invariant-directives : goal.invariant-directives
+invariant-directives l =
+    map name_of l.names.items ++ each (once_name l.schema) (map directive_of (drop l.directive-index l.directives)) ≡ each (once_name l.schema) (map directive_of l.directives)

@@ -1,0 +1,11 @@
+-- What is noted and what is left are the whole.
+use Rattle.std.proofs.Common.{◌≡◌, map, drop}
+use Rattle.schema_types.specs.ArgumentRules as rules
+use Rattle.gql_graph.specs.Rules.{each}
+use Rattle.gql_graph.specs.Leasts.{noted}
+use Rattle.doc_args.specs.CallView.{call_of}
+use Rattle.doc_args.proofs.rules.literals.note_unfit_among.Given as goal
+
+abbrev pub invariant-calls : goal.invariant-calls
+invariant-calls l =
+    noted l.least.at (each (rules.arguments_unfit l.schema) (map call_of (drop l.call-index l.calls))) ≡ noted l.initial.least.at (each (rules.arguments_unfit l.schema) (map call_of l.calls))

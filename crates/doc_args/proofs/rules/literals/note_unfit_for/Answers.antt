@@ -1,0 +1,13 @@
+-- One more of the list.
+use Rattle.std.proofs.Common.{Option, ap, ◌∙◌, arith}
+use Rattle.gql_ast.specs.ValueView.{value_of}
+use Rattle.schema_types.specs.ArgumentRules as rules
+use Rattle.schema_tables.specs.declared.definitions.InputDef.{InputDef}
+use Rattle.doc_sites.specs.SitesView.{argument_of}
+use Rattle.gql_graph.proofs.LeastSteps.{each_next}
+use Rattle.doc_args.proofs.Steps.{noted_if_not}
+use Rattle.doc_args.proofs.rules.literals.note_unfit_for.Goals as goal
+
+pub arguments-preserved : goal.arguments-preserved
+arguments-preserved c = each_next argument_of (rules.argument_unfit c.args.schema.now (rules.inputs c.args.inputs.now)) c.args.arguments.now c.arguments.argument-index c.argument-item.result _ _ _ (omega arith) c.argument-item.is
+    (noted_if_not _ _ c.in_ok-is_good.is_good _ _ c.note_if.ensures (c.in_ok-is_good.ensures ∙ ap (λ (i : Option InputDef). rules.is_good_for c.args.schema.now i (value_of c.argument-item.result.value.of.now)) (c.find-input.ensures c.args.inputs.now c.in_ok-table.ensures))) c.arguments.invariant

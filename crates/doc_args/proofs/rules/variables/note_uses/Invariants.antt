@@ -1,0 +1,13 @@
+-- What is noted and what is left are the whole.
+use Rattle.std.proofs.Common.{◌≡◌, [], List, map, drop}
+use Rattle.schema_types.specs.ArgumentRules as rules
+use Rattle.gql_graph.specs.Rules.{each}
+use Rattle.gql_graph.specs.Leasts.{noted}
+use Rattle.schema_types.specs.Sites.{VariableAt}
+use Rattle.doc_args.specs.Named.{NamesVariables}
+use Rattle.doc_args.specs.UseView.{use_of}
+use Rattle.doc_args.proofs.rules.variables.note_uses.Given as goal
+
+abbrev pub invariant-uses : goal.invariant-uses
+invariant-uses l =
+    (vs : List VariableAt) → NamesVariables l.table vs → noted l.least.at (each (rules.use_wrong vs []) (map use_of (drop l.one-index l.uses))) ≡ noted l.initial.least.at (each (rules.use_wrong vs []) (map use_of l.uses))

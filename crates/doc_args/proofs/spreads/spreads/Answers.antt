@@ -1,0 +1,29 @@
+-- One more definition, and all of them.
+use Rattle.std.proofs.Common.{List, [], refl, map, arith}
+use Rattle.doc_sites.specs.SitesView.{definition_of}
+use Rattle.doc_sites.specs.declared.site.DefinitionAt.{DefinitionAt}
+use Rattle.schema_types.specs.NameRules.{fragments, spread_by}
+use Rattle.gql_graph.specs.Rules.{each}
+use Rattle.gql_graph.specs.Texts.{Text}
+use Rattle.gql_graph.proofs.Graphs.{pairs_end, pairs_next, tells_held}
+use Rattle.doc_args.specs.Spreads.{spreading}
+use Rattle.doc_args.proofs.Steps.{next_seen}
+use Rattle.doc_args.proofs.spreads.spreads.Goals as goal
+
+pub definitions-init : goal.definitions-init
+definitions-init c = ([], c.new-graph.ensures, refl)
+
+pub definitions-preserved : goal.definitions-preserved
+definitions-preserved c =
+    let s = c.definitions.invariant in
+    pairs_next (λ d. spreading (definition_of d)) c.put_fragment.new.graph s.0 _ c.args.definitions.now c.definitions.definition-index c.definition-item.result (omega arith) c.definition-item.is
+    (c.in_ok-put_fragment.ensures s.0 s.1) s.2
+
+pub returns : goal.returns
+returns c =
+    let s = c.definitions.invariant in
+    let of : DefinitionAt → List (Text × List Text) = λ d. spreading (definition_of d) in
+    let all : List (Text × List Text) = each of c.args.definitions.now in
+    tells_held c.definitions.graph all (spread_by (fragments (map definition_of c.args.definitions.now)))
+    (pairs_end of c.definitions.graph s.0 all c.args.definitions.now c.definitions.definition-index (omega arith) s.1 s.2)
+    (next_seen c.args.definitions.now)

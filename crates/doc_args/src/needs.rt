@@ -1,0 +1,216 @@
+//! What fragments need of the operations that reach them: the variables used in a fragment and in all
+//! that it reaches, without local ones. Of uses of one variable at places of one type the first counts.
+ghost use Rattle.std.specs.Prelude.{◌≡◌, ◌<◌, ◌++◌, ◌∷◌, [], true, List, None, map, length, option_map, IfOk, IfSome, IsTrue, OnOk};
+ghost use Rattle.gql_ast.specs.TypeView.{ty_of};
+ghost use Rattle.gql_plain.specs.Order.{has_text};
+ghost use Rattle.schema_types.specs.ArgumentRules as rules;
+ghost use Rattle.gql_graph.specs.Graphs.{Tells};
+ghost use Rattle.schema_rules.specs.Rules.{same_type};
+ghost use Rattle.gql_graph.specs.Texts.{Text};
+ghost use Rattle.doc_args.specs.UsesByName.{Gathers};
+ghost use Rattle.doc_args.specs.Needs.{Covers, CoversKnown, HasNeed, IsSameNeed, SumsUp, needed};
+ghost use Rattle.doc_args.specs.UseView.{place_of, use_of};
+
+use crate::order::order_of;
+use crate::uses::{Place, Use};
+use crate::uses_by_name::UsesByName;
+use gql_ast::TypeTree;
+use gql_graph::graph::Graph;
+use gql_plain::NoMemory;
+use std::alloc::Global;
+use std::collections::BTreeMap;
+
+/// How many uses are kept of a fragment at most. Of one that needs more nothing is known.
+const MOST: usize = 32;
+
+/// What fragments need, by their names, where it is known.
+#[derive(Drop)]
+pub(crate) struct Needs<'a> {
+    by_name: BTreeMap<&'a str, Vec<Use<'a>>>,
+}
+
+impl<'a> Needs<'a> {
+    /// What fragments of these names need, and those that they lead to. It is known where a fragment
+    /// does not lead back to itself or to one that does, and needs no more than is kept.
+    pub(crate) fn of(
+        alloc: Global,
+        graph: &Graph<'a>,
+        gathered: &UsesByName<'a>,
+        names: &[&'a str],
+    ) -> Result<Needs<'a>, NoMemory>
+        ensures { (next : Text → List Text) → Tells graph.now next → (uses : Text → List rules.Use) → Gathers gathered.now uses
+            → IfOk result (λ needs. SumsUp needs next uses) }
+    {
+        let order = order_of(alloc, graph, names)?;
+        let mut needs = Needs::new(alloc);
+        'names: for name in &order {
+            needs.sum_up(alloc, graph, gathered, name)?;
+        }
+        Ok(needs)
+    }
+
+    /// What fragments of a name need, where that is known; takes no memory.
+    pub(crate) fn find(&self, name: &str) -> Option<&[Use<'a>]>
+        ensures { option_map (λ us. map use_of us.now) result ≡ needed self.now name.now }
+    {
+        match self.by_name.get(name) {
+            Some(uses) => Some(uses.as_slice()),
+            None => None,
+        }
+    }
+
+    /// Nothing is known; takes no memory.
+    fn new(alloc: Global) -> Needs<'a>
+        ensures { (n : Text) → needed result n ≡ None }
+    {
+        Needs {
+            by_name: BTreeMap::new(alloc),
+        }
+    }
+
+    /// Sums up what fragments of a name need, where that is known of those that they spread.
+    fn sum_up(
+        &mut self,
+        alloc: Global,
+        graph: &Graph<'a>,
+        gathered: &UsesByName<'a>,
+        name: &'a str,
+    ) -> Result<(), NoMemory>
+        ensures { (next : Text → List Text) → Tells graph.now next → (uses : Text → List rules.Use) → Gathers gathered.now uses
+            → SumsUp self.old next uses → OnOk result (SumsUp self.new next uses) }
+    {
+        if self.by_name.contains_key(name) {
+            return Ok(());
+        }
+        let mut all = Vec::new(alloc);
+        let has_room = put_each(&mut all, gathered.uses(name))?;
+        if !has_room {
+            return Ok(());
+        }
+        let is_known = self.put_needs_of(&mut all, graph.next(name))?;
+        if !is_known {
+            return Ok(());
+        }
+        drop(self.by_name.insert(name, all)?);
+        Ok(())
+    }
+
+    /// Puts what fragments of these names need. Says whether that is known, and is no more than is
+    /// kept.
+    fn put_needs_of(&self, all: &mut Vec<Use<'a>>, names: &[&str]) -> Result<bool, NoMemory>
+        ensures { IfOk result (λ is_known. is_known ≡ true → Covers (map use_of all.new.items) (map use_of all.old.items)
+            × ((m : Text) → has_text (map (λ n. n.now) names.now) m ≡ true → CoversKnown (map use_of all.new.items) (needed self.now m))) }
+    {
+        'names: for name in names {
+            let is_known = put_known(all, self.find(name))?;
+            if !is_known {
+                return Ok(false);
+            }
+        }
+        Ok(true)
+    }
+}
+
+/// Puts what is needed, where that is known. Says whether it is, and is no more than is kept.
+fn put_known<'a>(all: &mut Vec<Use<'a>>, needs: Option<&[Use<'a>]>) -> Result<bool, NoMemory>
+    ensures { IfOk result (λ is_known. is_known ≡ true → Covers (map use_of all.new.items) (map use_of all.old.items)
+        × CoversKnown (map use_of all.new.items) (option_map (λ us. map use_of us.now) needs.entry)) }
+{
+    match needs {
+        Some(uses) => {
+            let has_room = put_each(all, uses)?;
+            Ok(has_room)
+        }
+        None => Ok(false),
+    }
+}
+
+/// Puts uses. Says whether they are no more than are kept.
+fn put_each<'a>(all: &mut Vec<Use<'a>>, uses: &[Use<'a>]) -> Result<bool, NoMemory>
+    ensures { IfOk result (λ has_room. has_room ≡ true → Covers (map use_of all.new.items) (map use_of all.old.items ++ map use_of uses.now)) }
+{
+    'uses: for one in uses {
+        put(all, one)?;
+        if all.len() > MOST {
+            return Ok(false);
+        }
+    }
+    Ok(true)
+}
+
+/// Puts a use. Of two that are the same but for their places the first counts.
+fn put<'a>(all: &mut Vec<Use<'a>>, one: &Use<'a>) -> Result<(), NoMemory>
+    ensures { OnOk result (Covers (map use_of all.new.items) (map use_of all.old.items ++ use_of one.now ∷ [])) }
+{
+    match position_of(all, one) {
+        Some(at) => {
+            if all[at].name.at <= one.name.at {
+                return Ok(());
+            }
+            all[at] = *one;
+            Ok(())
+        }
+        None => {
+            all.push(*one)?;
+            Ok(())
+        }
+    }
+}
+
+/// Where a use stands that is the same but for its place.
+fn position_of(all: &[Use<'_>], one: &Use<'_>) -> Option<usize>
+    ensures { IfSome result (HasNeed all.now one.now) }
+{
+    'uses: for at in 0..all.len() {
+        if is_same_need(&all[at], one) {
+            return Some(at);
+        }
+    }
+    None
+}
+
+/// Whether two uses are the same but for their places.
+fn is_same_need(one: &Use<'_>, other: &Use<'_>) -> bool
+    ensures { IsTrue result → IsSameNeed (use_of one.now) (use_of other.now) }
+{
+    if one.name.name != other.name.name {
+        return false;
+    }
+    is_same_place(&one.place, &other.place)
+}
+
+/// Whether two places have one type, and both have a default or neither.
+fn is_same_place(one: &Option<Place<'_>>, other: &Option<Place<'_>>) -> bool
+    ensures { IsTrue result → option_map place_of one.now ≡ option_map place_of other.now }
+{
+    match one {
+        Some(one) => match other {
+            Some(other) => one.has_default == other.has_default && same_type(one.of, other.of),
+            None => false,
+        },
+        None => other.is_none(),
+    }
+}
+
+/// Whether two types are the same.
+fn same_type(one: &TypeTree, other: &TypeTree) -> bool
+    ensures { result ≡ same_type (ty_of one.now) (ty_of other.now) }
+{
+    match one {
+        TypeTree::Named(a) => match other {
+            TypeTree::Named(b) => a.as_str() == b.as_str(),
+            TypeTree::List(_) => false,
+            TypeTree::NonNull(_) => false,
+        },
+        TypeTree::List(a) => match other {
+            TypeTree::Named(_) => false,
+            TypeTree::List(b) => same_type(a.tree(), b.tree()),
+            TypeTree::NonNull(_) => false,
+        },
+        TypeTree::NonNull(a) => match other {
+            TypeTree::Named(_) => false,
+            TypeTree::List(_) => false,
+            TypeTree::NonNull(b) => same_type(a.tree(), b.tree()),
+        },
+    }
+}

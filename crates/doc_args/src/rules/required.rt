@@ -1,0 +1,154 @@
+//! V13, required arguments (GraphQL, October 2021, section 5.4.2.1): an argument of a non-null type
+//! without default is given, and not as `null`. `{ node { id } }` breaks it at `node`, where
+//! `node(id: ID!)` is wanted.
+ghost use Rattle.std.specs.Prelude.{◌≡◌, ◌++◌, ◌&&◌, List, map, not, IfOk, OnOk};
+ghost use Rattle.std.specs.List.{list_any};
+ghost use Rattle.gql_ast.specs.ValueView.{value_of};
+ghost use Rattle.gql_plain.specs.Order.{has_text};
+ghost use Rattle.schema_types.specs.ArgumentRules as rules;
+ghost use Rattle.schema_tables.specs.Given.{must_be_given};
+ghost use Rattle.gql_graph.specs.Leasts.{noted};
+ghost use Rattle.schema_trees.specs.LocatedView.{name_of};
+ghost use Rattle.schema_rules.specs.Rules.{each, names_of};
+ghost use Rattle.gql_graph.specs.Seen.{Knows};
+ghost use Rattle.gql_graph.specs.Texts.{Text};
+ghost use Rattle.doc_sites.specs.SitesView.{argument_of, definition_of};
+ghost use Rattle.doc_args.specs.CallView.{call_of, takes_of};
+ghost use Rattle.doc_args.specs.GivenNames.{given_name, given_names};
+
+use crate::call::{Call, Takes};
+use crate::calls::calls_of;
+use doc_sites::{ArgumentAt, DefinitionAt};
+use gql_ast::{TypeTree, ValueTree};
+use gql_graph::least::Least;
+use gql_graph::seen::Seen;
+use gql_plain::NoMemory;
+use schema_trees::located::NameAt;
+use schema_trees::repeats::seen_names;
+use schema_types::{InputDef, InputDefs, Schema};
+use std::alloc::Global;
+
+/// V13: an argument of a non-null type without a default is given, and not as `null` (GraphQL,
+/// October 2021, section 5.4.2.1).
+pub(crate) fn arguments_missing(
+    alloc: Global,
+    schema: &Schema,
+    least: &mut Least,
+    definitions: &[DefinitionAt<'_>],
+) -> Result<(), NoMemory>
+    ensures { OnOk result (least.new.at ≡ noted least.old.at (rules.arguments_missing schema.now (map definition_of definitions.now))) }
+{
+    'definitions: for definition in definitions {
+        note_incomplete_in(alloc, schema, least, definition)?;
+    }
+    Ok(())
+}
+
+/// Fields and directives in a definition that lack an argument.
+fn note_incomplete_in(
+    alloc: Global,
+    schema: &Schema,
+    least: &mut Least,
+    definition: &DefinitionAt<'_>,
+) -> Result<(), NoMemory>
+    ensures { OnOk result (least.new.at ≡ noted least.old.at (each rules.argument_missing (rules.calls_of schema.now (definition_of definition.now)))) }
+{
+    let calls = calls_of(alloc, schema, definition)?;
+    note_incomplete(alloc, least, &calls)
+}
+
+/// Fields and directives that lack an argument.
+fn note_incomplete(alloc: Global, least: &mut Least, calls: &[Call<'_, '_>]) -> Result<(), NoMemory>
+    ensures { OnOk result (least.new.at ≡ noted least.old.at (each rules.argument_missing (map call_of calls.now))) }
+{
+    'calls: for call in calls {
+        let is_wrong = is_incomplete(alloc, &call.takes, call.arguments)?;
+        least.note_if(is_wrong, call.name.at);
+    }
+    Ok(())
+}
+
+/// Whether an argument is left out.
+fn is_incomplete(
+    alloc: Global,
+    takes: &Takes<'_>,
+    arguments: &[ArgumentAt<'_>],
+) -> Result<bool, NoMemory>
+    ensures { IfOk result (λ b. b ≡ rules.is_incomplete (takes_of takes.now) (map argument_of arguments.now)) }
+{
+    match takes {
+        Takes::Inputs(inputs) => leaves_out_any(alloc, inputs, arguments),
+        Takes::Nothing => Ok(false),
+        Takes::Free => Ok(false),
+        Takes::Unknown => Ok(false),
+    }
+}
+
+/// Whether one of these is left out.
+fn leaves_out_any(
+    alloc: Global,
+    inputs: &InputDefs,
+    arguments: &[ArgumentAt<'_>],
+) -> Result<bool, NoMemory>
+    ensures { IfOk result (λ b. b ≡ list_any (rules.leaves_out (map argument_of arguments.now)) inputs.now) }
+{
+    let given = given_set(alloc, arguments)?;
+    'inputs: for input in &inputs.items {
+        if is_left_out(&given, input) {
+            return Ok(true);
+        }
+    }
+    Ok(false)
+}
+
+/// Whether an argument has to be given and is none of these.
+fn is_left_out(given: &Seen<'_>, input: &InputDef) -> bool
+    ensures { (ns : List Text) → Knows given.now.names ns → result ≡ (must_be_given input.now && not (has_text ns input.now.name)) }
+{
+    must_be_given(input) && !given.contains(input.name.as_str())
+}
+
+/// Whether an argument has to be given.
+fn must_be_given(input: &InputDef) -> bool
+    ensures { result ≡ must_be_given input.now }
+{
+    matches!(input.of, TypeTree::NonNull(_)) && input.default.is_none()
+}
+
+/// The set of the names of arguments that are given, and not as `null`.
+fn given_set<'a>(alloc: Global, arguments: &[ArgumentAt<'a>]) -> Result<Seen<'a>, NoMemory>
+    ensures { IfOk result (λ seen. Knows seen.names (names_of (given_names (map argument_of arguments.now)))) }
+{
+    let names = given_names(alloc, arguments)?;
+    let seen = seen_names(alloc, &names)?;
+    Ok(seen)
+}
+
+/// The names of arguments that are given, and not as `null`.
+fn given_names<'a>(alloc: Global, arguments: &[ArgumentAt<'a>]) -> Result<Vec<NameAt<'a>>, NoMemory>
+    ensures { IfOk result (λ ns. map name_of ns.items ≡ given_names (map argument_of arguments.now)) }
+{
+    let mut names = Vec::new(alloc);
+    'arguments: for argument in arguments {
+        put_given(&mut names, argument)?;
+    }
+    Ok(names)
+}
+
+/// Puts the name of an argument that is given, and not as `null`.
+fn put_given<'a>(names: &mut Vec<NameAt<'a>>, argument: &ArgumentAt<'a>) -> Result<(), NoMemory>
+    ensures { OnOk result (map name_of names.new.items ≡ map name_of names.old.items ++ given_name (argument_of argument.now)) }
+{
+    if is_null(argument.value.of) {
+        return Ok(());
+    }
+    names.push(argument.name)?;
+    Ok(())
+}
+
+/// Whether a value is `null`.
+fn is_null(value: &ValueTree) -> bool
+    ensures { result ≡ rules.is_null (value_of value.now) }
+{
+    matches!(value, ValueTree::Null)
+}

@@ -1,0 +1,29 @@
+-- One more definition, and all of them.
+use Rattle.std.proofs.Common.{List, [], map, refl, arith}
+use Rattle.schema_types.specs.NameRules.{fragments}
+use Rattle.gql_graph.specs.Rules.{each}
+use Rattle.schema_types.specs.Sites.{DefinitionAt}
+use Rattle.gql_graph.specs.Texts.{Text}
+use Rattle.gql_graph.proofs.Graphs.{tells_held}
+use Rattle.doc_sites.specs.SitesView.{definition_of}
+use Rattle.doc_sites.specs.Definitions.{on_fragment}
+use Rattle.doc_fields.specs.Fragments.{leading, condition_in, conditions_of}
+use Rattle.doc_fields.proofs.Steps.{pairs_step, pairs_all, next_among}
+use Rattle.doc_fields.proofs.rules.conditions.conditions.Goals as goal
+
+pub definitions-init : goal.definitions-init
+definitions-init c = ([], c.new-graph.ensures, refl)
+
+pub definitions-preserved : goal.definitions-preserved
+definitions-preserved c =
+    let s = c.definitions.invariant in
+    pairs_step definition_of (on_fragment (leading condition_in)) c.put_condition_at.new.graph s.0 _ c.args.definitions.now c.definitions.definition-index c.definition-item.result (omega arith) c.definition-item.is
+    (c.in_ok-put_condition_at.ensures s.0 s.1) s.2
+
+pub returns : goal.returns
+returns c =
+    let s = c.definitions.invariant in
+    let ds : List DefinitionAt = map definition_of c.args.definitions.now in
+    let all : List (Text × List Text) = each (on_fragment (leading condition_in)) ds in
+    tells_held c.definitions.graph all (conditions_of (fragments ds))
+    (pairs_all definition_of (on_fragment (leading condition_in)) c.definitions.graph s.0 all c.args.definitions.now c.definitions.definition-index (omega arith) s.1 s.2) (next_among condition_in ds)

@@ -1,0 +1,14 @@
+-- What is put and what is left are the whole.
+use Rattle.std.proofs.Common.{◌≡◌, ◌++◌, List, map, drop}
+use Rattle.gql_graph.specs.Graphs.{Holds}
+use Rattle.gql_graph.specs.Rules.{each}
+use Rattle.gql_graph.specs.Texts.{Text}
+use Rattle.doc_sites.specs.SitesView.{definition_of}
+use Rattle.doc_sites.specs.Definitions.{on_fragment}
+use Rattle.doc_fields.specs.Fragments.{leading, condition_in}
+use Rattle.doc_fields.proofs.rules.conditions.conditions.Given as goal
+
+abbrev pub invariant-definitions : goal.invariant-definitions
+invariant-definitions l =
+    (pairs : List (Text × List Text)) × Holds l.graph pairs
+    × (pairs ++ each (on_fragment (leading condition_in)) (map definition_of (drop l.definition-index l.definitions)) ≡ each (on_fragment (leading condition_in)) (map definition_of l.definitions))

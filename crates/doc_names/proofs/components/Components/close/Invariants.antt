@@ -1,6 +1,0 @@
--- One node fewer waits.
-use Rattle.std.proofs.Common.{length}
-use Rattle.doc_names.proofs.components.Components.close.Given as goal
-
-abbrev pub decreases-waiting : goal.decreases-waiting
-decreases-waiting l = length l.self.waiting.items
