@@ -10,8 +10,8 @@ use Rattle.gql_syntax.specs.Texts.{IsParseFault}
 use Rattle.plan_project.proofs.Codes.{parse_fault_coded}
 use Rattle.plan_project.specs.Projects.{AreDocuments, IsDocumentsFault}
 use Rattle.plan_project.specs.Verdicts.{Files, texts_of, AreOnlyDocuments, AreNoDocuments}
-use Rattle.schema_types.specs.Types.{Text}
-use Rattle.schema_types.specs.declared.fault.ProjectFault.{ProjectFault}
+use Rattle.gql_graph.specs.Texts.{Text}
+use Rattle.schema_rules.specs.declared.fault.ProjectFault.{ProjectFault}
 
 -- what an answer is, where it is the one of a tree
 pub only_of : {A E : Type 0} (P : A → Type 0) (r : Result A E) (x : A) (e : E) → ((p : A) → P p → (r ≡ Err e) ⊎ (r ≡ Ok p)) → r ≡ Ok x → (p : A) → P p → p ≡ x

@@ -14,16 +14,16 @@ use Rattle.gql_syntax.proofs.OneFault.{no_parse_fault, one_parse_fault}
 use Rattle.gql_syntax.specs.FirstFault.{Grammar}
 use Rattle.gql_syntax.specs.Texts.{IsParseFault}
 use Rattle.plan_project.proofs.DocumentLaws.{only_of}
-use Rattle.plan_project.specs.Projects.{AreDocuments, AreTrees, document_rules, syntax_rule, IsSyntaxOf, IsDocumentsFault, IsTextFault}
+use Rattle.plan_project.specs.Projects.{AreDocuments, AreTrees, IsAcceptedProject, document_rules, syntax_rule, IsSyntaxOf, IsDocumentsFault, IsTextFault}
 use Rattle.plan_project.specs.Verdicts.{IsTheProject, IsTheFault, IsRefusal, Files, texts_of, AreTheProject, HaveTheFault, AreOnlyDocuments, AreNoDocuments, IsFaultOf}
 use Rattle.plan_project.specs.declared.compiling.CompileFault.{CompileFault}
 use Rattle.plan_project.specs.declared.compiling.CompileFault.TheVariants.{Refused, NoMemory}
-use Rattle.schema_types.specs.Checked.{IsSound, Breaks, node_place, fault_at}
+use Rattle.schema_rules.specs.Checked.{IsSound, Breaks, node_place, fault_at}
 use Rattle.schema_types.specs.DocumentRules.{Meet, BreakRule, places_of}
-use Rattle.schema_types.specs.Types.{Text, Defs}
-use Rattle.schema_types.specs.declared.fault.ProjectFault.{ProjectFault}
-use Rattle.schema_types.specs.declared.fault.Rule.{Rule}
-use Rattle.schema_types.specs.declared.fault.Rule.TheVariants as R
+use Rattle.schema_tables.specs.Types.{Text, Defs}
+use Rattle.schema_rules.specs.declared.fault.ProjectFault.{ProjectFault}
+use Rattle.schema_rules.specs.declared.fault.Rule.{Rule}
+use Rattle.schema_rules.specs.declared.fault.Rule.TheVariants as R
 
 -- ---- faults of texts
 
@@ -235,3 +235,9 @@ project_of_files files schema rest defs ps e h = subst (λ fs. AreTheProject fs 
 pub fault_of_files : (files : Files) (schema : Text × Text) (rest : Files) (fault : CompileFault) → files ≡ schema ∷ rest
     → IsRefusal schema.1 (texts_of rest) fault → HaveTheFault files fault
 fault_of_files files schema rest fault e h = subst (λ fs. HaveTheFault fs fault) (sym e) h
+
+-- ---- the project
+
+-- the texts' project is accepted
+pub accepted_project : (schema : Text) (texts : List Text) (defs : Defs) (ps : List (Placed Document)) → IsTheProject schema texts defs ps → IsAcceptedProject defs ps
+accepted_project schema texts own ps h = record { schema = schema; texts = texts; accepted = h.is }

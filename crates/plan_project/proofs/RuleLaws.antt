@@ -3,13 +3,13 @@ use Rattle.std.proofs.Common.{List, ◌++◌, ◌∙◌}
 use Rattle.gql_ast.specs.declared.document.Document.{Document}
 use Rattle.gql_ast.specs.declared.place.Placed.{Placed}
 use Rattle.plan_project.specs.Projects.{document_rules}
-use Rattle.schema_types.proofs.LeastSteps.{first_before, first_after}
+use Rattle.gql_graph.proofs.LeastSteps.{first_before, first_after}
 use Rattle.schema_types.specs.DocumentRules.{Rules, name_rules, field_rules, argument_rules, trees_of, Meet, BreakRule, AreFaulty}
 use Rattle.schema_types.specs.Sites.{DefinitionAt, all_definitions}
-use Rattle.schema_types.specs.Types.{Defs}
-use Rattle.schema_types.specs.declared.fault.ProjectFault.{ProjectFault}
-use Rattle.schema_types.specs.declared.fault.RuleFault.{RuleFault}
-use Rattle.schema_types.specs.declared.fault.RuleFault.TheVariants as F
+use Rattle.schema_tables.specs.Types.{Defs}
+use Rattle.schema_rules.specs.declared.fault.ProjectFault.{ProjectFault}
+use Rattle.schema_rules.specs.declared.fault.RuleFault.{RuleFault}
+use Rattle.schema_rules.specs.declared.fault.RuleFault.TheVariants as F
 
 module _ (defs : Defs) (ps : List (Placed Document)) where
   abbrev ds : List DefinitionAt

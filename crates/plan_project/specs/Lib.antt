@@ -1,2 +1,3 @@
 pub mod Projects
 pub mod Verdicts
+pub mod Lookups

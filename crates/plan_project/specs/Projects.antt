@@ -11,13 +11,13 @@ use Rattle.gql_parse.specs.Trees.{IsDocument}
 use Rattle.gql_sdl.specs.Schemas.{schemas}
 use Rattle.gql_sdl.specs.Trees.{IsSchema}
 use Rattle.gql_syntax.specs.Texts.{IsParseFault}
-use Rattle.schema_types.specs.Checked.{IsSound, Breaks}
+use Rattle.schema_rules.specs.Checked.{IsSound, Breaks}
 use Rattle.schema_types.specs.DocumentRules.{Rules, name_rules, field_rules, argument_rules, Meet, BreakRule}
 use Rattle.schema_types.specs.Sites.{DefinitionAt}
-use Rattle.schema_types.specs.Types.{Text, Defs}
-use Rattle.schema_types.specs.declared.fault.ProjectFault.{ProjectFault}
-use Rattle.schema_types.specs.declared.fault.Rule.{Rule}
-use Rattle.schema_types.specs.declared.fault.Rule.TheVariants as R
+use Rattle.schema_tables.specs.Types.{Text, Defs}
+use Rattle.schema_rules.specs.declared.fault.ProjectFault.{ProjectFault}
+use Rattle.schema_rules.specs.declared.fault.Rule.{Rule}
+use Rattle.schema_rules.specs.declared.fault.Rule.TheVariants as R
 
 -- the bytes of documents are these trees; the first has the number `n`
 abbrev pub AreDocuments : (n : ℕ) → List Text → List (Placed Document) → Type 0
@@ -43,6 +43,12 @@ pub record IsAccepted (schema : Text) (texts : List Text) (defs : Defs) (ps : Li
   pub says : defs ≡ tree.tree.definitions
   pub sound : IsSound defs
   pub meet : Meet document_rules defs ps
+
+-- some texts are this project
+pub record IsAcceptedProject (defs : Defs) (ps : List (Placed Document)) : Type 0 where
+  pub schema : Text
+  pub texts : List Text
+  pub accepted : IsAccepted schema texts defs ps
 
 -- ---- the first fault
 

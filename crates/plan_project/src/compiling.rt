@@ -5,19 +5,11 @@ ghost use Rattle.plan_project.specs.Verdicts.{AreTheProject, HaveTheFault, IsThe
 use crate::checking::check_documents;
 use crate::file::ProjectFile;
 use crate::parsing::{fault_of, parse_documents};
-use gql_ast::Documents;
+use crate::project::Project;
 use gql_plain::NoMemory;
 use gql_sdl::parse_schema;
 use schema_types::{ProjectFault, RuleFault, Schema};
 use std::alloc::Global;
-
-/// An accepted project: what its schema says, and its documents as they were checked, in the order of
-/// the files.
-#[derive(Drop)]
-pub struct Project {
-    pub schema: Schema,
-    pub documents: Documents,
-}
 
 /// Why there is no project.
 #[derive(Clone, Copy, Debug, Drop)]
@@ -38,7 +30,7 @@ pub enum CompileFault {
 pub fn compile(alloc: Global, files: &[ProjectFile]) -> Result<Project, CompileFault>
     requires least { 2 ≤ length files.now }
     requires most { length files.now < 2 ^ 32 }
-    ensures project { IfOk result (λ p. AreTheProject files.now p.schema p.documents) }
+    ensures project { IfOk result (λ p. AreTheProject files.now p.0 p.1) }
     ensures fault { IfErr result (HaveTheFault files.now) }
 {
     compile_files(alloc, &files[0], &files[1..])
@@ -51,7 +43,7 @@ fn compile_files(
     documents: &[ProjectFile],
 ) -> Result<Project, CompileFault>
     requires { length documents.now < 2 ^ 32 - 1 }
-    ensures project { IfOk result (λ p. IsTheProject schema.now.1 (texts_of documents.now) p.schema p.documents) }
+    ensures project { IfOk result (λ p. IsTheProject schema.now.1 (texts_of documents.now) p.0 p.1) }
     ensures fault { IfErr result (IsRefusal schema.now.1 (texts_of documents.now)) }
 {
     let tree = match parse_schema(alloc, 0, schema.as_bytes()) {
@@ -68,10 +60,10 @@ fn compile_files(
         Err(RuleFault::NoMemory) => return Err(CompileFault::NoMemory),
     };
     match check_documents(alloc, &schema, &trees) {
-        Ok(()) => Ok(Project {
-            schema,
-            documents: trees,
-        }),
+        Ok(()) => match Project::new(alloc, schema, trees) {
+            Ok(project) => Ok(project),
+            Err(NoMemory) => Err(CompileFault::NoMemory),
+        },
         Err(RuleFault::Rule(fault)) => Err(CompileFault::Refused(fault)),
         Err(RuleFault::NoMemory) => Err(CompileFault::NoMemory),
     }

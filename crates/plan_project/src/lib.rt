@@ -5,7 +5,12 @@
 mod checking;
 mod compiling;
 pub mod file;
+mod listing;
+pub mod operations;
 mod parsing;
+pub mod project;
 
-pub use compiling::{CompileFault, Project, compile};
+pub use compiling::{CompileFault, compile};
 pub use file::ProjectFile;
+pub use operations::{Compiled, CompiledFragment};
+pub use project::Project;

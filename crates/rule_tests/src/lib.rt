@@ -12,10 +12,12 @@ mod projects;
 #[cfg(test)]
 mod rows;
 #[cfg(test)]
+mod schema_rows;
+#[cfg(test)]
 mod schemas;
 #[cfg(test)]
 mod sites;
 #[cfg(test)]
 mod texts;
 #[cfg(test)]
-mod variables;
+mod value_rows;

@@ -22,7 +22,7 @@ fn first_fragment(alloc: Global, document: &Placed<Document>) -> Result<String, 
 /// The documents of a project in their order.
 fn documents_in(alloc: Global, project: &Project) -> Result<String, Fail> {
     let mut all = String::new(alloc);
-    for document in project.documents.as_slice() {
+    for document in project.documents().as_slice() {
         all.push_str(first_fragment(alloc, document)?.as_str())?;
     }
     Ok(all)
@@ -40,6 +40,54 @@ fn verdict(alloc: Global, schema: &str, first: &str, second: &str) -> Result<Str
         Ok(project) => documents_in(alloc, &project),
         Err(CompileFault::Refused(fault)) => shown(alloc, &fault),
         Err(CompileFault::NoMemory) => Ok(format!(in alloc; "no memory")?),
+    }
+}
+
+/// What is kept of the operation of a name; nothing where there is none.
+fn operation(alloc: Global, project: &Project, name: &str) -> Result<String, Fail> {
+    match project.operation(name) {
+        Some(found) => Ok(format!(in alloc;
+            "{} {:?} {} {}",
+            found.name.as_str(),
+            found.kind,
+            found.root.as_str(),
+            found.variables.len()
+        )?),
+        None => Ok(String::new(alloc)),
+    }
+}
+
+/// What is kept of the fragment of a name; nothing where there is none.
+fn fragment(alloc: Global, project: &Project, name: &str) -> Result<String, Fail> {
+    let Some(found) = project.fragment(name) else {
+        return Ok(String::new(alloc));
+    };
+    let mut text = format!(in alloc; "{} {}", found.name.as_str(), found.on.as_str())?;
+    for local in found.locals.as_slice() {
+        text.push_str(" $")?;
+        text.push_str(local.as_str())?;
+    }
+    for object in found.types.as_slice() {
+        text.push_str(" ")?;
+        text.push_str(object.as_str())?;
+    }
+    Ok(text)
+}
+
+/// The operation and the fragment of a name, between `/`, in the project that these texts are.
+fn look_up(alloc: Global, first: &str, second: &str, name: &str) -> Result<String, Fail> {
+    let files = [
+        file(alloc, "s.graphql", SCHEMA)?,
+        file(alloc, "d.graphql", first)?,
+        file(alloc, "e.graphql", second)?,
+    ];
+    match compile(alloc, &files) {
+        Ok(project) => {
+            let operation = operation(alloc, &project, name)?;
+            let fragment = fragment(alloc, &project, name)?;
+            Ok(format!(in alloc; "{}/{}", operation.as_str(), fragment.as_str())?)
+        }
+        Err(_) => Ok(format!(in alloc; "no project")?),
     }
 }
 
@@ -62,6 +110,30 @@ fn accepted_documents_are_kept_in_order(rt: HostRuntime) -> Result<(), Fail> {
         file(alloc, "s.graphql", SCHEMA)?.name().as_str(),
         "s.graphql"
     );
+    Ok(())
+}
+
+/// A name, and what is found of it, a row.
+const FOUND: &str = "Q;Q Query Query 2/\n\
+    A;A Subscription Subscription 0/A Named User\n\
+    B;/B Any $x $y Cat User\n\
+    User;/\n\
+    C;/";
+
+#[test]
+fn operations_and_fragments_are_found(rt: HostRuntime) -> Result<(), Fail> {
+    let alloc = rt.alloc();
+    let first = "fragment B on Any@argumentDefinitions(x:{type:\"Int\"},y:{type:\"Int\"}){...A}";
+    let second = "query Q($of:Int!,$no:Int){pick(of:$of)any{...B}}fragment A on Named{name} \
+        subscription A{on}";
+    for row in FOUND.lines() {
+        let (name, wanted) = parts(row);
+        assert_eq!(rt;
+            look_up(alloc, first, second, name)?.as_str(),
+            wanted,
+            "at {row}"
+        );
+    }
     Ok(())
 }
 
@@ -158,7 +230,7 @@ fn counted(alloc: Global, files: &[ProjectFile]) -> Result<String, Fail> {
         return Ok(format!(in alloc; "no project")?);
     }
     match compile(alloc, files) {
-        Ok(project) => Ok(format!(in alloc; "{}", project.documents.as_slice().len())?),
+        Ok(project) => Ok(format!(in alloc; "{}", project.documents().as_slice().len())?),
         Err(CompileFault::Refused(fault)) => shown(alloc, &fault),
         Err(CompileFault::NoMemory) => Ok(format!(in alloc; "no memory")?),
     }

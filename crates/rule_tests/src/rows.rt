@@ -51,7 +51,7 @@ directive @include(unless: Int!) repeatable on QUERY";
 const QUERIES: &str = "type Query { name: String }";
 
 /// The line and the column after a text.
-fn place_after(text: &str) -> (u32, u32) {
+pub(crate) fn place_after(text: &str) -> (u32, u32) {
     let mut line = 1_u32;
     let mut column = 1_u32;
     for character in text.chars() {

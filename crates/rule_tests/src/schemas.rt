@@ -64,7 +64,7 @@ fn possible_types_are_sorted(rt: HostRuntime) -> Result<(), Fail> {
 }
 
 /// The fault of a text as the file with this number; nothing where the schema meets all rules.
-fn fault_of(alloc: Global, file: u32, text: &str) -> Result<String, Fail> {
+pub(crate) fn fault_of(alloc: Global, file: u32, text: &str) -> Result<String, Fail> {
     let tree = parse_schema(alloc, file, short(text.as_bytes()))?;
     match Schema::build(alloc, &tree) {
         Ok(_) => Ok(String::new(alloc)),

@@ -2,8 +2,8 @@
 use crate::texts::{documents, schema};
 use doc_sites::{ArgumentAt, DirectiveAt, Site, definitions_at, fault_at};
 use gql_plain::NoMemory;
+use schema_trees::located::NameAt;
 use schema_types::Rule;
-use schema_types::located::NameAt;
 use std::alloc::Global;
 use std::test::Fail;
 

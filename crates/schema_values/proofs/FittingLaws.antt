@@ -15,9 +15,9 @@ use Rattle.gql_plain.specs.Tree as t
 use Rattle.gql_plain.specs.Tree.{Tree, Trees, members_of}
 use Rattle.schema_types.specs.Environments as env
 use Rattle.schema_types.specs.Environments.{Values, evaluated, items_evaluated, pairs_evaluated, with_new_pair, suits_meaning, has_key, gives_each_required, suits_as_object}
-use Rattle.schema_types.specs.Fits as lit
-use Rattle.schema_types.specs.Fits.{Meaning, built_in, one_of, fields, anything, meaning_of, fits_meaning, item_of, is_list_type, is_non_null, is_required, has_member, gives_required, takes_object, takes_list, input_type, types_agree}
-use Rattle.schema_types.specs.Types.{Text, Defs, base_of, input_named}
+use Rattle.schema_tables.specs.Fits as lit
+use Rattle.schema_tables.specs.Fits.{Meaning, built_in, one_of, fields, anything, meaning_of, fits_meaning, item_of, is_list_type, is_non_null, is_required, has_member, gives_required, takes_object, takes_list, input_type, types_agree}
+use Rattle.schema_tables.specs.Types.{Text, Defs, base_of, input_named}
 use Rattle.schema_values.specs.Fittings.{is_constant, are_constant, have_constants, LiteralsFit, AgreeingTypesFit}
 
 no : {A : Type 0} → false ≡ true → A

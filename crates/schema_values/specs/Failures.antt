@@ -2,7 +2,7 @@
 use Rattle.std.specs.Prelude.{◌≡◌, List, Option, Some}
 use Rattle.gql_ast.specs.declared.variable.VariableDef.{VariableDef}
 use Rattle.schema_types.specs.Environments.{Failure, Values, first_failure, missing, unfit}
-use Rattle.schema_types.specs.Types.{Defs}
+use Rattle.schema_tables.specs.Types.{Defs}
 use Rattle.schema_values.specs.declared.env.VarFault.{VarFault}
 use Rattle.schema_values.specs.declared.env.VarFault.TheVariants as F
 

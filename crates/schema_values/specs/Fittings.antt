@@ -4,8 +4,8 @@ use Rattle.gql_ast.specs.Ty.{Ty}
 use Rattle.gql_ast.specs.Value.{Val, Vals, Members, variable, int, text, truth, null, enum, list, object, no_vals, val, no_members, member}
 use Rattle.gql_plain.specs.Tree.{Tree}
 use Rattle.schema_types.specs.Environments.{Values, evaluated, fits}
-use Rattle.schema_types.specs.Fits.{literal_fits, types_agree}
-use Rattle.schema_types.specs.Types.{Defs}
+use Rattle.schema_tables.specs.Fits.{literal_fits, types_agree}
+use Rattle.schema_tables.specs.Types.{Defs}
 
 -- whether no variable stands in a value
 abbrev mutual

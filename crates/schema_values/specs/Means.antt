@@ -3,11 +3,11 @@ use Rattle.std.specs.Prelude.{◌≡◌, Bool, true, not, ◌&&◌, ◌||◌, Li
 use Rattle.gql_ast.specs.declared.member.InputTree.{InputTree}
 use Rattle.gql_plain.specs.Order.{sorted_texts}
 use Rattle.gql_plain.specs.Tree.{Members}
-use Rattle.schema_types.specs.declared.definitions.InputDef.{InputDef}
+use Rattle.schema_tables.specs.declared.definitions.InputDef.{InputDef}
 use Rattle.schema_types.specs.Environments.{has_key}
-use Rattle.schema_types.specs.Fits.{meaning_of, built_in, one_of, fields, anything}
-use Rattle.schema_types.specs.Given.{must_be_given}
-use Rattle.schema_types.specs.Types.{Text, Defs, inputs_of, input_def}
+use Rattle.schema_tables.specs.Fits.{meaning_of, built_in, one_of, fields, anything}
+use Rattle.schema_tables.specs.Given.{must_be_given}
+use Rattle.schema_tables.specs.Types.{Text, Defs, inputs_of, input_def}
 use Rattle.schema_values.specs.declared.suited.Meaning.{Meaning}
 use Rattle.schema_values.specs.declared.suited.Meaning.TheVariants as M
 

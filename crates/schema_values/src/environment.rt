@@ -12,8 +12,8 @@ use crate::pairs::first_of_each;
 use crate::suited::fits;
 use gql_ast::{ValueTree, VariableDef, VariableDefs};
 use gql_plain::{Name, NoMemory, Pairs, Plain, Words};
+use schema_tables::type_forms::is_non_null;
 use schema_types::Schema;
-use schema_types::type_forms::is_non_null;
 use std::alloc::Global;
 
 /// The environment of an operation with these variables: each has the value that is given, else its
@@ -79,11 +79,11 @@ fn check_one(schema: &Schema, variable: &VariableDef, given: &Pairs) -> Result<(
 fn all_values(alloc: Global, defined: &VariableDefs, given: &Pairs) -> Result<Pairs, NoMemory>
     ensures { IfOk result (λ values. values ≡ environments.environment defined.now given.now) }
 {
-    first_of_each(alloc, values_given(alloc, defined, given)?)
+    first_of_each(alloc, values_or_defaults(alloc, defined, given)?)
 }
 
 /// The value of each variable, in written order.
-fn values_given(
+fn values_or_defaults(
     alloc: Global,
     defined: &VariableDefs,
     given: &Pairs,
@@ -93,13 +93,13 @@ fn values_given(
     let mut values = Vec::new(alloc);
     'variables: for variable in &defined.items {
         let name = variable.name.copy()?;
-        values.push((name, value_given(alloc, variable, given)?))?;
+        values.push((name, value_or_default(alloc, variable, given)?))?;
     }
     Ok(values)
 }
 
 /// The value of a variable: the one that is given, else its default, else null.
-fn value_given(alloc: Global, variable: &VariableDef, given: &Pairs) -> Result<Plain, NoMemory>
+fn value_or_default(alloc: Global, variable: &VariableDef, given: &Pairs) -> Result<Plain, NoMemory>
     ensures { IfOk result (λ plain. tree_of plain ≡ environments.value_or_default (member_at given.now variable.now.name) variable.now.default) }
 {
     match given.get(variable.name.as_str()) {

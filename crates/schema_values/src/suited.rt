@@ -6,14 +6,14 @@ ghost use Rattle.gql_plain.specs.Order.{sorted_texts};
 ghost use Rattle.gql_plain.specs.Shown.{tree_of};
 ghost use Rattle.gql_plain.specs.Tree.{trees_of, members_of};
 ghost use Rattle.schema_types.specs.Environments as environments;
-ghost use Rattle.schema_types.specs.Fits.{fields, meaning_of};
-ghost use Rattle.schema_types.specs.Given.{must_be_given};
-ghost use Rattle.schema_types.specs.Types as types;
+ghost use Rattle.schema_tables.specs.Fits.{fields, meaning_of};
+ghost use Rattle.schema_tables.specs.Given.{must_be_given};
+ghost use Rattle.schema_tables.specs.Types as types;
 ghost use Rattle.schema_values.specs.Means.{Means, gives_each};
 
 use gql_ast::TypeTree;
 use gql_plain::{Ids, Pairs, Plain, Plains};
-use schema_types::type_forms::{base_of, is_built_in_scalar, is_non_null, item_of};
+use schema_tables::type_forms::{base_of, is_built_in_scalar, is_non_null, item_of};
 use schema_types::{InputDef, InputDefs, Schema};
 
 /// What a named type takes.
@@ -28,7 +28,7 @@ pub(crate) enum Meaning<'a> {
 }
 
 /// What a named type takes.
-fn taken_by<'a>(schema: &'a Schema, name: &str) -> Meaning<'a>
+fn find_meaning<'a>(schema: &'a Schema, name: &str) -> Meaning<'a>
     ensures { Means schema.now name.now result }
 {
     if is_built_in_scalar(name) {
@@ -52,9 +52,9 @@ pub fn fits(schema: &Schema, value: &Plain, of: &TypeTree) -> bool
         Plain::Null => !is_non_null(of),
         Plain::List(items) => match item_of(of) {
             Some(item) => items_fit(schema, items, item),
-            None => matches!(taken_by(schema, base_of(of)), Meaning::Anything),
+            None => matches!(find_meaning(schema, base_of(of)), Meaning::Anything),
         },
-        Plain::Tree(pairs) => match taken_by(schema, base_of(of)) {
+        Plain::Tree(pairs) => match find_meaning(schema, base_of(of)) {
             Meaning::Fields(inputs) => {
                 gives_each_required(inputs, pairs) && members_fit(schema, pairs, base_of(of))
             }
@@ -105,7 +105,7 @@ fn members_fit(schema: &Schema, pairs: &Pairs, of: &str) -> bool
 fn single_fits(schema: &Schema, value: &Plain, name: &str) -> bool
     ensures { result ≡ environments.suits_meaning (tree_of value.now) (meaning_of schema.now name.now) }
 {
-    match taken_by(schema, name) {
+    match find_meaning(schema, name) {
         Meaning::BuiltIn => suits_built_in(value, name),
         Meaning::OneOf(names) => is_among(value, names),
         Meaning::Fields(_) => false,

@@ -1,12 +1,15 @@
-use Rattle.std.proofs.Common.{subst, sym}
+use Rattle.std.proofs.Common.{List, subst, sym}
+use Rattle.gql_ast.specs.declared.document.Document.{Document}
+use Rattle.gql_ast.specs.declared.place.Placed.{Placed}
 use Rattle.gql_sdl.specs.Schemas.{schemas}
 use Rattle.plan_project.proofs.Codes.{parse_fault_coded}
-use Rattle.plan_project.proofs.ProjectLaws.{schema_refused, documents_refused, only_trees, found_in_schema, found_in_rules, found_project}
+use Rattle.plan_project.proofs.ProjectLaws.{schema_refused, documents_refused, only_trees, found_in_schema, found_in_rules, found_project, accepted_project}
 use Rattle.plan_project.proofs.compiling.compile_files.Goals as goal
 use Rattle.plan_project.specs.Projects.{document_rules}
-use Rattle.plan_project.specs.Verdicts.{IsTheFault, texts_of}
-use Rattle.schema_types.specs.Checked.{Breaks, IsRuleFault}
+use Rattle.plan_project.specs.Verdicts.{IsTheProject, IsTheFault, texts_of}
+use Rattle.schema_rules.specs.Checked.{Breaks, IsRuleFault}
 use Rattle.schema_types.specs.DocumentRules.{AreFaulty, BreakRule}
+use Rattle.schema_tables.specs.Types.{Defs}
 
 pub fault_of-requires : goal.fault_of-requires
 fault_of-requires c = parse_fault_coded schemas 0 c.as_bytes.result.now c.in-Err.fault c.in-Err.ensures.fault
@@ -28,12 +31,21 @@ returns-in-Err-Rule-clause-fault c =
     subst (IsTheFault c.args.schema.now.1 (texts_of c.args.documents.now)) (sym c.in-Err-Rule.fault-is)
     (found_in_schema c.args.schema.now.1 (texts_of c.args.documents.now) c.in-Ok.tree c.in-Ok-parse_documents.trees trees c.in-Err-Rule.fault breaks)
 
-pub returns-in-Ok-check_documents-clause-project : goal.returns-in-Ok-check_documents-clause-project
-returns-in-Ok-check_documents-clause-project c =
+pub new-requires : goal.new-requires
+new-requires c =
     let trees = only_trees c.as_bytes.result.now c.args.schema.now.1 (texts_of c.args.documents.now) c.parse_schema.result c.in-Ok.tree c.in-Ok-parse_documents.trees
     c.as_bytes.ensures.value c.in-Ok.is c.in-Ok.ensures.found c.parse_schema.ensures.only c.in-Ok-parse_documents.ensures.found in
-    found_project c.args.schema.now.1 (texts_of c.args.documents.now) c.in-Ok.tree c.in-Ok-parse_documents.trees trees c.in-Ok-build.schema
-    c.in-Ok-build.ensures.built c.in-Ok-build.ensures.sound c.in-Ok-check_documents.ensures.met
+    accepted_project c.args.schema.now.1 (texts_of c.args.documents.now) c.in-Ok-build.schema c.in-Ok-parse_documents.trees
+    (found_project c.args.schema.now.1 (texts_of c.args.documents.now) c.in-Ok.tree c.in-Ok-parse_documents.trees trees c.in-Ok-build.schema
+    c.in-Ok-build.ensures.built c.in-Ok-build.ensures.sound c.in-Ok-check_documents.ensures.met)
+
+pub returns-in-Ok-new-clause-project : goal.returns-in-Ok-new-clause-project
+returns-in-Ok-new-clause-project c =
+    let trees = only_trees c.as_bytes.result.now c.args.schema.now.1 (texts_of c.args.documents.now) c.parse_schema.result c.in-Ok.tree c.in-Ok-parse_documents.trees
+    c.as_bytes.ensures.value c.in-Ok.is c.in-Ok.ensures.found c.parse_schema.ensures.only c.in-Ok-parse_documents.ensures.found in
+    subst (λ (p : Defs × List (Placed Document)). IsTheProject c.args.schema.now.1 (texts_of c.args.documents.now) p.0 p.1) (sym c.in-Ok-new.ensures)
+    (found_project c.args.schema.now.1 (texts_of c.args.documents.now) c.in-Ok.tree c.in-Ok-parse_documents.trees trees c.in-Ok-build.schema
+    c.in-Ok-build.ensures.built c.in-Ok-build.ensures.sound c.in-Ok-check_documents.ensures.met)
 
 pub returns-in-Err-Rule-check_documents-clause-fault : goal.returns-in-Err-Rule-check_documents-clause-fault
 returns-in-Err-Rule-check_documents-clause-fault c =

@@ -4,7 +4,7 @@ use Rattle.gql_ast.specs.TypeView.{ty_of}
 use Rattle.gql_plain.specs.Shown.{tree_of}
 use Rattle.gql_plain.specs.Tree.{members_of}
 use Rattle.schema_types.specs.Environments.{fits}
-use Rattle.schema_types.specs.Types.{inputs_of, input_def, input_named}
+use Rattle.schema_tables.specs.Types.{inputs_of, input_def, input_named}
 use Rattle.schema_values.proofs.Fitting.{object_fits, object_lacks, pair_unknown, pair_unfit}
 use Rattle.schema_values.proofs.suited.+fits.Goals as goal
 use Rattle.schema_values.specs.Means.{Means}

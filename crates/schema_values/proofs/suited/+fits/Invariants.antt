@@ -4,8 +4,8 @@ use Rattle.gql_ast.specs.declared.member.InputTree.{InputTree}
 use Rattle.gql_plain.specs.Shown.{shown, shown_members}
 use Rattle.gql_plain.specs.Tree.{trees_of, members_of}
 use Rattle.schema_types.specs.Environments.{items_fit, members_fit}
-use Rattle.schema_types.specs.Fits.{fields}
-use Rattle.schema_types.specs.Types.{inputs_of}
+use Rattle.schema_tables.specs.Fits.{fields}
+use Rattle.schema_tables.specs.Types.{inputs_of}
 use Rattle.schema_values.proofs.suited.+fits.Given as goal
 
 abbrev pub invariant-items_fit-items : goal.invariant-items_fit-items

@@ -1,6 +1,6 @@
 use Rattle.std.proofs.Common.{◌≡◌, map, take}
 use Rattle.gql_plain.specs.Shown.{shown_members}
-use Rattle.schema_values.proofs.environment.values_given.Given as goal
+use Rattle.schema_values.proofs.environment.values_or_defaults.Given as goal
 use Rattle.schema_values.specs.Listed.{given_or_default}
 
 abbrev pub invariant-variables : goal.invariant-variables

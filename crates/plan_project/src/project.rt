@@ -1,0 +1,104 @@
+//! Accepted projects.
+ghost use Rattle.std.specs.Prelude.{◌≡◌, option_copied, IfOk, IfSome};
+ghost use Rattle.plan_project.specs.Lookups as lookups;
+ghost use Rattle.plan_project.specs.Projects.{IsAcceptedProject};
+
+use crate::listing::{fragments_of, operations_of};
+use crate::operations::{Compiled, CompiledFragment};
+use gql_ast::Documents;
+use gql_plain::NoMemory;
+use schema_types::Schema;
+use std::alloc::Global;
+use std::collections::BTreeMap;
+use std::marker::Model;
+
+/// An accepted project: what its schema says, and its documents as they were checked, in the order of
+/// the files. No look-up takes memory.
+#[derive(Drop)]
+pub struct Project {
+    schema: Schema,
+    documents: Documents,
+    operations: BTreeMap<String, Compiled>,
+    fragments: BTreeMap<String, CompiledFragment>,
+}
+
+impl Model for Project {
+    ghost use Rattle.std.specs.Prelude.{List};
+    ghost use Rattle.std.specs.BTreeMap.{get_by_text};
+    ghost use Rattle.std.specs.Coded.{coded×, coded_list};
+    ghost use Rattle.gql_ast.specs.contracts.document.Document as document_row;
+    ghost use Rattle.gql_ast.specs.contracts.place.Placed as placed_row;
+    ghost use Rattle.gql_ast.specs.contracts.schema.SchemaDef as definition_row;
+    ghost use Rattle.gql_ast.specs.declared.document.Document.{Document};
+    ghost use Rattle.gql_ast.specs.declared.place.Placed.{Placed};
+    ghost use Rattle.plan_project.specs.Lookups.{Finds, operation, fragment};
+    ghost use Rattle.plan_project.specs.Projects.{IsAcceptedProject};
+    ghost use Rattle.schema_tables.specs.Types.{Defs};
+
+    ghost Value = { Defs × List (Placed Document) };
+
+    ghost coded = { coded× (coded_list definition_row.the_row.coded) (coded_list (placed_row.the_row document_row.the_row).coded) };
+
+    ghost view = { λ p. (p.schema, p.documents) };
+
+    ghost invariant = { λ p. IsAcceptedProject p.schema p.documents
+        × Finds (operation p.schema p.documents) (get_by_text p.operations) × Finds (fragment p.schema p.documents) (get_by_text p.fragments) };
+}
+
+impl Project {
+    /// The project of a schema and of documents that were checked together.
+    pub(crate) fn new(
+        alloc: Global,
+        schema: Schema,
+        documents: Documents,
+    ) -> Result<Project, NoMemory>
+        requires { IsAcceptedProject schema documents }
+        ensures { IfOk result (λ p. p ≡ (schema, documents)) }
+    {
+        let operations = operations_of(alloc, &schema, documents.as_slice())?;
+        let fragments = fragments_of(alloc, &schema, documents.as_slice())?;
+        Ok(Project {
+            schema,
+            documents,
+            operations,
+            fragments,
+        })
+    }
+
+    /// The schema.
+    pub fn schema(&self) -> &Schema
+        ensures { result.now ≡ self.now.0 }
+    {
+        &self.schema
+    }
+
+    /// The documents, in the order of their files.
+    pub fn documents(&self) -> &Documents
+        ensures { result.now ≡ self.now.1 }
+    {
+        &self.documents
+    }
+
+    /// What is kept of the operation of a name; `None` where the documents have none.
+    pub fn operation(&self, name: &str) -> Option<&Compiled>
+        ensures found { option_copied result ≡ lookups.operation self.now.0 self.now.1 name.now }
+        ensures rooted { IfSome (option_copied result) (lookups.HasRoot self.now.0) }
+    {
+        self.operations.get(name)
+    }
+
+    /// What is kept of the fragment of a name; `None` where the documents have none.
+    pub fn fragment(&self, name: &str) -> Option<&CompiledFragment>
+        ensures found { option_copied result ≡ lookups.fragment self.now.0 self.now.1 name.now }
+        ensures composite { IfSome (option_copied result) (lookups.IsOnComposite self.now.0) }
+    {
+        self.fragments.get(name)
+    }
+
+    /// The schema and the documents.
+    pub fn into_parts(self) -> (Schema, Documents)
+        ensures { result ≡ self }
+    {
+        (self.schema, self.documents)
+    }
+}
