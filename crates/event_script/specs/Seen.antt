@@ -13,6 +13,9 @@ use Rattle.store_model.specs.declared.event.Part.{Part}
 use Rattle.store_model.specs.declared.event.Target.{Target}
 use Rattle.event_script.specs.declared.fault.LineFault.{LineFault}
 use Rattle.event_script.specs.declared.fault.LineFault.TheVariants.{NotJson, EventShape, UpdateShape, LineTooLong, NoMemory}
+use Rattle.event_script.specs.declared.text.TextFault.{TextFault}
+use Rattle.event_script.specs.declared.text.TextFault.TheVariants as T
+use Rattle.serde_json.specs.declared.value.Value.{Value}
 use Rattle.event_script.specs.declared.commands.Place.{Place}
 use Rattle.event_script.specs.declared.commands.Edges.{Edges}
 
@@ -38,9 +41,9 @@ command_under name (J.array ds) = None
 command_under name (J.object ms) = events.command_named name ms
 
 -- the commands that are given as updates; none where they are left out
-abbrev pub updates_given : Option J.Data → Option (List Command)
-updates_given None = Some []
-updates_given (Some d) = events.commands_of d
+abbrev pub updates_of : Option J.Data → Option (List Command)
+updates_of None = Some []
+updates_of (Some d) = events.commands_of d
 
 abbrev pub part_seen : Part → events.Part
 part_seen p = record { fragment = p.fragment; id = p.id; args = p.args }
@@ -82,6 +85,12 @@ abbrev pub whole_part_of : J.Members → Option events.Part
 whole_part_of ms =
     option_and_then (λ fragment. option_and_then (λ id. option_map (λ args. record { fragment = fragment; id = id; args = args })
     (events.object_at (codes "args") ms)) (events.id_at (codes "id") ms)) (events.text_at (codes "fragment") ms)
+
+-- a text is read as the answer says; want of memory says nothing
+abbrev pub Reads : Result Value TextFault → Option J.Data → Type 0
+Reads (Ok v) read = read ≡ Some (view v)
+Reads (Err T.NotJson) read = read ≡ None
+Reads (Err T.NoMemory) read = Unit {0}
 
 -- the line is what the answer says of it; want of memory says nothing
 abbrev pub Says : Result Event LineFault → events.Line → Type 0

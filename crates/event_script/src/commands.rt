@@ -4,7 +4,7 @@ ghost use Rattle.serde_json.specs.Find.{get_member};
 ghost use Rattle.serde_json.specs.View.{view, members_view, items_view};
 ghost use Rattle.store_model.specs.Events as events;
 ghost use Rattle.store_model.specs.declared.command.Command.TheVariants as commands;
-ghost use Rattle.event_script.specs.Seen.{place_seen, edges_seen, only_member, command_under, updates_given};
+ghost use Rattle.event_script.specs.Seen.{place_seen, edges_seen, only_member, command_under, updates_of};
 
 use crate::members::{field_name_at, has_only, id_at, member_at, other_id_at, text_at};
 use crate::values::{id_or_null_at, ids_at, object_at, plain_at, plain_or_null, whole_at};
@@ -374,7 +374,7 @@ fn commands_of(alloc: Global, value: &Value) -> Result<Option<Commands>, NoMemor
 
 /// The commands of an event's `updates`; none where they are left out.
 pub fn updates_at(alloc: Global, members: &Map<String, Value>) -> Result<Option<Commands>, NoMemory>
-    ensures { IfOk result (λ updates. updates ≡ updates_given (get_member (codes "updates") (members_view members.now.entries))) }
+    ensures { IfOk result (λ updates. updates ≡ updates_of (get_member (codes "updates") (members_view members.now.entries))) }
 {
     match member_at(members, "updates") {
         Some(value) => commands_of(alloc, value),

@@ -5,10 +5,12 @@ mod commands;
 pub mod event;
 pub mod fault;
 mod members;
+mod numbers;
 mod rows;
+mod text;
 mod values;
 
-pub use event::read_event;
+pub use event::{LineReader, read_event};
 pub use fault::LineFault;
 pub use store_model::{Answer, Command, Commands, EdgeEdit, Event, Part, Target};
 

@@ -52,7 +52,7 @@ fn has(members: &Map<String, Value>, key: &str) -> bool
 }
 
 /// The handle that a response is given to; None where one of both is missing.
-fn answered(alloc: Global, members: &Map<String, Value>) -> Result<Option<Words>, NoMemory>
+fn answer_handle(alloc: Global, members: &Map<String, Value>) -> Result<Option<Words>, NoMemory>
     ensures { IfOk result (λ handle. handle ≡ option_map handle_of (events.answer_of (members_view members.now.entries))) }
 {
     if !has(members, "response") {
@@ -62,7 +62,7 @@ fn answered(alloc: Global, members: &Map<String, Value>) -> Result<Option<Words>
 }
 
 /// The handle that a response is given to, where both stand; None where just one of them does.
-fn optional_answered(
+fn optional_answer_handle(
     alloc: Global,
     members: &Map<String, Value>,
 ) -> Result<Option<Option<Words>>, NoMemory>
@@ -73,7 +73,7 @@ fn optional_answered(
     if !has(members, "handle") && !has(members, "response") {
         return Ok(Some(None));
     }
-    match answered(alloc, members)? {
+    match answer_handle(alloc, members)? {
         Some(handle) => Ok(Some(Some(handle))),
         None => Ok(None),
     }
@@ -109,7 +109,7 @@ fn payload_of(alloc: Global, members: Map<String, Value>) -> Result<Event, LineF
     if !has_only(&members, &["do", "handle", "response", "updates"]) {
         return Err(LineFault::EventShape);
     }
-    let Some(handle) = answered(alloc, &members)? else {
+    let Some(handle) = answer_handle(alloc, &members)? else {
         return Err(LineFault::EventShape);
     };
     let Some(updates) = updates_at(alloc, &members)? else {
@@ -149,7 +149,7 @@ fn begin_of(alloc: Global, members: Map<String, Value>) -> Result<Event, LineFau
     let Some(layer) = name_at(alloc, &members, "layer")? else {
         return Err(LineFault::EventShape);
     };
-    let Some(handle) = optional_answered(alloc, &members)? else {
+    let Some(handle) = optional_answer_handle(alloc, &members)? else {
         return Err(LineFault::EventShape);
     };
     let Some(updates) = updates_at(alloc, &members)? else {
@@ -174,7 +174,7 @@ fn finish_of(alloc: Global, members: Map<String, Value>) -> Result<Event, LineFa
     let Some(layer) = name_at(alloc, &members, "layer")? else {
         return Err(LineFault::EventShape);
     };
-    let Some(handle) = optional_answered(alloc, &members)? else {
+    let Some(handle) = optional_answer_handle(alloc, &members)? else {
         return Err(LineFault::EventShape);
     };
     let Some(updates) = updates_at(alloc, &members)? else {

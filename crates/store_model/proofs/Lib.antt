@@ -9,6 +9,7 @@ pub mod EventRows
 pub mod AlikeReaches
 pub mod AlikeReads
 pub mod AlikeSays
+pub mod FactRowOrder
 pub mod FactRows
 pub mod Deep
 pub mod Flips

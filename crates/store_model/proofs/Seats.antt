@@ -6,12 +6,13 @@ use Rattle.std.proofs.lemmas.Slice.Eq.{bytes_eq-Decides}
 use Rattle.std.specs.Cmp.{IsTotalOrder, nat_cmp_total}
 use Rattle.std.specs.List.{list_any}
 use Rattle.std.specs.Ordering.{is_lt, match_ordering, ordering_then, ordering_reverse}
+use Rattle.store_record.specs.Equal.{field_eq}
 use Rattle.store_model.proofs.Least.{Each, each_append, each_so, or_right}
 use Rattle.store_model.proofs.Seated.{of_among, each_among}
 use Rattle.store_model.specs.Alike.{Among}
 use Rattle.store_model.specs.FactOrder.{text_cmp, fact_cmp}
 use Rattle.store_model.specs.Says.{Put}
-use Rattle.store_model.specs.Verdicts.{step_cmp, path_cmp, lesser_of, least, put_cmp, same_field, same_place, where_so, Seat, seat_of, seat_at, with_one, places, seats_at, seats, NotBefore, SecondIs, IsSeat, IsSaidOnce, HaveSameMembers}
+use Rattle.store_model.specs.Verdicts.{step_cmp, path_cmp, lesser_of, least, put_cmp, same_place, where_so, Seat, seat_of, seat_at, with_one, places, seats_at, seats, NotBefore, SecondIs, IsSeat, IsSaidOnce, HaveSameMembers}
 use Rattle.store_model.specs.declared.payload_fault.PathStep.{PathStep}
 use Rattle.store_model.specs.declared.payload_fault.PathStep.TheVariants.{Key, Index}
 
@@ -193,21 +194,21 @@ module _ (puts : List Put) (p : Put) where
   abbrev here : List Put
   here = where_so (same_place p) puts
 
-  second_is : (f : Put) → same_place p f ≡ true → (r : Option Put) → IsLeast put_cmp puts_total r (where_so (λ q. not (same_field q.fact.value f.fact.value)) here) → SecondIs puts f r
+  second_is : (f : Put) → same_place p f ≡ true → (r : Option Put) → IsLeast put_cmp puts_total r (where_so (λ q. not (field_eq q.fact.value f.fact.value)) here) → SecondIs puts f r
   second_is f place None none =
-      each_so (λ q. same_place p q ≡ true → not (same_field q.fact.value f.fact.value) ≡ true → ⊥) (λ q. same_place f q ≡ true → same_field q.fact.value f.fact.value ≡ true) puts
-      (λ q h e. is_true (same_field q.fact.value f.fact.value) (h (place_as p f q place ∙ e)))
-      (each_where (same_place p) (λ q. not (same_field q.fact.value f.fact.value) ≡ true → ⊥) puts (each_where (λ q. not (same_field q.fact.value f.fact.value)) (λ q. ⊥) here none))
+      each_so (λ q. same_place p q ≡ true → not (field_eq q.fact.value f.fact.value) ≡ true → ⊥) (λ q. same_place f q ≡ true → field_eq q.fact.value f.fact.value ≡ true) puts
+      (λ q h e. is_true (field_eq q.fact.value f.fact.value) (h (place_as p f q place ∙ e)))
+      (each_where (same_place p) (λ q. not (field_eq q.fact.value f.fact.value) ≡ true → ⊥) puts (each_where (λ q. not (field_eq q.fact.value f.fact.value)) (λ q. ⊥) here none))
   second_is f place (Some t) h =
-      let in_here = among_where (λ q. not (same_field q.fact.value f.fact.value)) t here h.0 in
+      let in_here = among_where (λ q. not (field_eq q.fact.value f.fact.value)) t here h.0 in
       let in_puts = among_where (same_place p) t puts in_here.0 in
       record {
         there = in_puts.0;
         place = sym (place_as p f t place) ∙ in_puts.1;
-        differs = not_false (same_field t.fact.value f.fact.value) in_here.1;
-        least = each_so (λ q. same_place p q ≡ true → not (same_field q.fact.value f.fact.value) ≡ true → NotBefore q t) (λ q. same_place f q ≡ true → same_field q.fact.value f.fact.value ≡ false → NotBefore q t) puts
-            (λ q k e d. k (place_as p f q place ∙ e) (not_true (same_field q.fact.value f.fact.value) d))
-            (each_where (same_place p) (λ q. not (same_field q.fact.value f.fact.value) ≡ true → NotBefore q t) puts (each_where (λ q. not (same_field q.fact.value f.fact.value)) (λ q. NotBefore q t) here h.1));
+        differs = not_false (field_eq t.fact.value f.fact.value) in_here.1;
+        least = each_so (λ q. same_place p q ≡ true → not (field_eq q.fact.value f.fact.value) ≡ true → NotBefore q t) (λ q. same_place f q ≡ true → field_eq q.fact.value f.fact.value ≡ false → NotBefore q t) puts
+            (λ q k e d. k (place_as p f q place ∙ e) (not_true (field_eq q.fact.value f.fact.value) d))
+            (each_where (same_place p) (λ q. not (field_eq q.fact.value f.fact.value) ≡ true → NotBefore q t) puts (each_where (λ q. not (field_eq q.fact.value f.fact.value)) (λ q. NotBefore q t) here h.1));
       }
 
   seat_is : (r : Option Put) → IsLeast put_cmp puts_total r here → Each (IsSeat puts) (seat_of here r)
@@ -217,7 +218,7 @@ module _ (puts : List Put) (p : Put) where
         record {
           there = in_puts.0;
           least = each_so (λ q. same_place p q ≡ true → NotBefore q f) (λ q. same_place f q ≡ true → NotBefore q f) puts (λ q k e. k (place_as p f q in_puts.1 ∙ e)) (each_where (same_place p) (λ q. NotBefore q f) puts h.1);
-          second = second_is f in_puts.1 (least put_cmp (where_so (λ q. not (same_field q.fact.value f.fact.value)) here)) (least_is put_cmp puts_total (where_so (λ q. not (same_field q.fact.value f.fact.value)) here));
+          second = second_is f in_puts.1 (least put_cmp (where_so (λ q. not (field_eq q.fact.value f.fact.value)) here)) (least_is put_cmp puts_total (where_so (λ q. not (field_eq q.fact.value f.fact.value)) here));
         },
         tt,
       )
@@ -235,13 +236,13 @@ seats_are puts = each_seat puts (places puts)
 module _ (ps qs : List Put) (once : IsSaidOnce ps) (same : HaveSameMembers ps qs) where
   same_second : (f : Put) (r u : Option Put) → SecondIs ps f r → SecondIs qs f u → r ≡ u
   same_second f None None a b = refl
-  same_second f None (Some u) a b = absurd (true≢false (sym (of_among (λ q. same_place f q ≡ true → same_field q.fact.value f.fact.value ≡ true) u ps a (same.1 u b.there) b.place) ∙ b.differs))
-  same_second f (Some r) None a b = absurd (true≢false (sym (of_among (λ q. same_place f q ≡ true → same_field q.fact.value f.fact.value ≡ true) r qs b (same.0 r a.there) a.place) ∙ a.differs))
+  same_second f None (Some u) a b = absurd (true≢false (sym (of_among (λ q. same_place f q ≡ true → field_eq q.fact.value f.fact.value ≡ true) u ps a (same.1 u b.there) b.place) ∙ b.differs))
+  same_second f (Some r) None a b = absurd (true≢false (sym (of_among (λ q. same_place f q ≡ true → field_eq q.fact.value f.fact.value ≡ true) r qs b (same.0 r a.there) a.place) ∙ a.differs))
   same_second f (Some r) (Some u) a b =
       ap Some (once r u a.there (same.1 u b.there) (sym (place_as f r u a.place) ∙ b.place)
       (tie put_cmp puts_total r u
-      (of_among (λ q. same_place f q ≡ true → same_field q.fact.value f.fact.value ≡ false → NotBefore q u) r qs b.least (same.0 r a.there) a.place a.differs)
-      (of_among (λ q. same_place f q ≡ true → same_field q.fact.value f.fact.value ≡ false → NotBefore q r) u ps a.least (same.1 u b.there) b.place b.differs)))
+      (of_among (λ q. same_place f q ≡ true → field_eq q.fact.value f.fact.value ≡ false → NotBefore q u) r qs b.least (same.0 r a.there) a.place a.differs)
+      (of_among (λ q. same_place f q ≡ true → field_eq q.fact.value f.fact.value ≡ false → NotBefore q r) u ps a.least (same.1 u b.there) b.place b.differs)))
 
   pub same_seat : (s t : Seat) → IsSeat ps s → IsSeat qs t → same_place s.first t.first ≡ true → s ≡ t
   same_seat s t a b place =

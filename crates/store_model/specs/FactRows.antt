@@ -3,14 +3,15 @@ use Rattle.std.specs.Prelude.{◌≡◌, true, List, [], ◌∷◌, ◌++◌, ma
 use Rattle.std.specs.FinMap.Entries.{put as put_entry}
 use Rattle.std.specs.List.{AllByRecursion}
 use Rattle.std.specs.List.Sorted.{IsStrictlySortedBy}
+use Rattle.std.specs.Map.{keys_of}
 use Rattle.std.specs.declared.cmp.Ordering.TheVariants.{Less}
-use Rattle.gql_plain.specs.Order.{member_at}
+use Rattle.gql_plain.specs.Order.{AreInOrder, member_at}
 use Rattle.gql_plain.specs.declared.plain.Plain.TheVariants.{Text as Words}
 use Rattle.gql_plain.specs.Names.{is_name}
 use Rattle.store_record.specs.Keys.{Text}
 use Rattle.store_record.specs.declared.field.Field.{Field}
 use Rattle.store_record.specs.declared.field.Field.TheVariants.{Leaf}
-use Rattle.store_model.specs.FactOrder.{text_cmp}
+use Rattle.store_model.specs.FactOrder.{text_cmp, fact_cmp}
 use Rattle.store_record.specs.declared.record.Record.{Record}
 use Rattle.store_model.specs.Records.{Records, typename, live, with_record, record_of}
 use Rattle.store_model.specs.declared.facts.Fact.{Fact}
@@ -40,6 +41,14 @@ pub record IsFactRow (r : FactRow) : Type 0 where
 pub record AreFactRows (rows : List FactRow) : Type 0 where
   pub order : IsStrictlySortedBy (λ a b. text_cmp a.id b.id) rows
   pub each : AllByRecursion IsFactRow rows
+
+-- the fields of each row in byte order of their keys, as those of a record are
+abbrev pub HaveFieldsInOrder : List FactRow → Type 0
+HaveFieldsInOrder rows = AllByRecursion (λ r. AreInOrder (keys_of r.fields)) rows
+
+-- the facts of rows rise by id and then by key
+abbrev pub FactsAreInOrder : Type 0
+FactsAreInOrder = (rows : List FactRow) → AreFactRows rows → HaveFieldsInOrder rows → IsStrictlySortedBy fact_cmp (facts_of rows)
 
 -- the row stands after each fact of the list
 abbrev pub IsRowAfter : FactRow → List Fact → Type 0

@@ -5,12 +5,9 @@ use Rattle.std.specs.List.{AllByRecursion, list_any}
 use Rattle.std.specs.Ordering.{nat_cmp, match_ordering, ordering_then, is_lt}
 use Rattle.std.specs.declared.cmp.Ordering.{Ordering}
 use Rattle.std.specs.declared.cmp.Ordering.TheVariants.{Less, Equal, Greater}
-use Rattle.gql_plain.specs.Equal.{tree_eq}
-use Rattle.gql_plain.specs.Shown.{tree_of}
 use Rattle.serde_json.specs.Data as J
+use Rattle.store_record.specs.Equal.{field_eq}
 use Rattle.store_record.specs.Keys.{Text}
-use Rattle.store_record.specs.declared.field.Field.{Field}
-use Rattle.store_record.specs.declared.field.Field.TheVariants.{Leaf, Link, Links}
 use Rattle.store_model.specs.Alike.{Among}
 use Rattle.store_model.specs.FactOrder.{text_cmp, fact_cmp, handle_cmp}
 use Rattle.store_model.specs.Items.{Collect}
@@ -64,29 +61,6 @@ least cmp (a ∷ rest) = Some (lesser_of cmp a (least cmp rest))
 
 -- ---- what stands at one id and key
 
-abbrev pub same_text : Option Text → Option Text → Bool
-same_text None None = true
-same_text None (Some j) = false
-same_text (Some i) None = false
-same_text (Some i) (Some j) = bytes_eq i j
-
-abbrev pub same_texts : List (Option Text) → List (Option Text) → Bool
-same_texts [] [] = true
-same_texts [] (j ∷ js) = false
-same_texts (i ∷ is) [] = false
-same_texts (i ∷ is) (j ∷ js) = same_text i j && same_texts is js
-
-abbrev pub same_field : Field → Field → Bool
-same_field (Leaf a) (Leaf b) = tree_eq (tree_of a) (tree_of b)
-same_field (Leaf a) (Link j) = false
-same_field (Leaf a) (Links js) = false
-same_field (Link i) (Leaf b) = false
-same_field (Link i) (Link j) = bytes_eq i j
-same_field (Link i) (Links js) = false
-same_field (Links is) (Leaf b) = false
-same_field (Links is) (Link j) = false
-same_field (Links is) (Links js) = same_texts is js
-
 abbrev pub put_cmp : Put → Put → Ordering
 put_cmp a b = path_cmp a.path b.path
 
@@ -105,7 +79,7 @@ pub record Seat : Type 0 where
   pub second : Option Put
 
 abbrev pub seat_from : List Put → Put → Seat
-seat_from puts first = record { first = first; second = least put_cmp (where_so (λ q. not (same_field q.fact.value first.fact.value)) puts) }
+seat_from puts first = record { first = first; second = least put_cmp (where_so (λ q. not (field_eq q.fact.value first.fact.value)) puts) }
 
 abbrev pub seat_of : List Put → Option Put → List Seat
 seat_of puts None = []
@@ -176,14 +150,14 @@ abbrev pub NotBefore : Put → Put → Type 0
 NotBefore q p = put_cmp q p ≡ Less → ⊥
 
 abbrev pub HaveOneValue : List Put → Put → Type 0
-HaveOneValue puts first = AllByRecursion (λ q. same_place first q ≡ true → same_field q.fact.value first.fact.value ≡ true) puts
+HaveOneValue puts first = AllByRecursion (λ q. same_place first q ≡ true → field_eq q.fact.value first.fact.value ≡ true) puts
 
 -- of the values that differ from the first, the one at the least path
 pub record IsSecond (puts : List Put) (first second : Put) : Type 0 where
   pub there : Among second puts
   pub place : same_place first second ≡ true
-  pub differs : same_field second.fact.value first.fact.value ≡ false
-  pub least : AllByRecursion (λ q. same_place first q ≡ true → same_field q.fact.value first.fact.value ≡ false → NotBefore q second) puts
+  pub differs : field_eq second.fact.value first.fact.value ≡ false
+  pub least : AllByRecursion (λ q. same_place first q ≡ true → field_eq q.fact.value first.fact.value ≡ false → NotBefore q second) puts
 
 abbrev pub SecondIs : List Put → Put → Option Put → Type 0
 SecondIs puts first None = HaveOneValue puts first

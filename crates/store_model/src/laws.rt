@@ -1,6 +1,7 @@
-//! The laws of likeness, of seats, of entries and of retention (this project's own). F and G are what stands below
+//! The laws of likeness, of seats, of rows, of entries and of retention (this project's own). F and G are what stands below
 //! a field: selections of a document, steps of a plan.
 ghost use Rattle.store_model.specs.Enough.{LooksAreEnough};
+ghost use Rattle.store_model.specs.FactRows.{FactsAreInOrder};
 ghost use Rattle.store_model.specs.Laws.{ReadsAreAlike, ReachesAreAlike, ResponsesAreAlike, DepthsAreEnough};
 ghost use Rattle.store_model.specs.Retention.{ReadsAreRetained};
 ghost use Rattle.store_model.specs.Smaller.{FoundIsSmaller};
@@ -30,6 +31,11 @@ pub fn responses_are_alike<F, G>()
 /// differ from it again the one at the least path.
 pub fn seats_are_right()
     ensures { SeatsAreRight }
+{}
+
+/// Law: the facts of rows rise by id and then by key, so no id and key stand there twice.
+pub fn facts_are_in_order()
+    ensures { FactsAreInOrder }
 {}
 
 /// Law: what a sweep leaves gives each read of a retained operation, and in turn of its pointers, as before.

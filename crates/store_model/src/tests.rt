@@ -1,5 +1,8 @@
+ghost use Rattle.std.specs.Prelude.{◌≡◌, IfOk};
+ghost use Rattle.store_model.specs.FactRows.{IsFactRow};
+
 use crate::{
-    Command, Commands, EdgeEdit, Entry, FactList, FactRow, Facts, HandleFact, HandleFacts,
+    Command, Commands, EdgeEdit, Entry, Fact, FactList, FactRow, Facts, HandleFact, HandleFacts,
     PathStep, PathSteps,
 };
 use gql_plain::{NoMemory, OptIds, Pairs, Plain, Words};
@@ -7,7 +10,9 @@ use std::alloc::Global;
 use std::test::Fail;
 use store_record::{Field, Fields};
 
-fn word(alloc: Global, text: &str) -> Result<Words, NoMemory> {
+fn word(alloc: Global, text: &str) -> Result<Words, NoMemory>
+    ensures { IfOk result (λ w. w ≡ text.now) }
+{
     Words::new(alloc, text)
 }
 
@@ -63,12 +68,29 @@ fn link(alloc: Global) -> Result<Command, NoMemory> {
     })
 }
 
+fn no_link(alloc: Global) -> Result<Command, NoMemory> {
+    Ok(Command::Link {
+        id: word(alloc, "4")?,
+        field: word(alloc, "friend")?,
+        args: Pairs::new(alloc),
+        to: None,
+    })
+}
+
+/// 5 and a null.
+fn two_ids(alloc: Global) -> Result<OptIds, NoMemory> {
+    let mut ids = OptIds::new(alloc);
+    ids.push(Some(word(alloc, "5")?))?;
+    ids.push(None)?;
+    Ok(ids)
+}
+
 fn links(alloc: Global) -> Result<Command, NoMemory> {
     Ok(Command::Links {
         id: word(alloc, "4")?,
         field: word(alloc, "friends")?,
         args: Pairs::new(alloc),
-        to: OptIds::new(alloc),
+        to: two_ids(alloc)?,
     })
 }
 
@@ -93,6 +115,7 @@ fn put_field_commands(alloc: Global, commands: &mut Commands) -> Result<(), NoMe
 
 fn put_link_commands(alloc: Global, commands: &mut Commands) -> Result<(), NoMemory> {
     commands.push(link(alloc)?)?;
+    commands.push(no_link(alloc)?)?;
     commands.push(links(alloc)?)?;
     Ok(())
 }
@@ -130,6 +153,7 @@ fn entries_are_copied_whole(rt: HostRuntime) -> Result<(), Fail> {
         "set",
         "add",
         "link",
+        "link",
         "links",
         "create",
         "delete",
@@ -138,18 +162,48 @@ fn entries_are_copied_whole(rt: HostRuntime) -> Result<(), Fail> {
         "delete_edge",
     ];
     let copy = entry.copy()?;
-    assert_eq!(rt; copy.commands.len(), 9);
+    assert_eq!(rt; copy.commands.len(), 10);
     for (command, name) in copy.commands.as_slice().iter().zip(names) {
         assert_eq!(rt; name_of(command), name);
     }
     Ok(())
 }
 
-fn row(alloc: Global) -> Result<FactRow, NoMemory> {
-    let mut fields = Fields::new(alloc);
-    fields.put(word(alloc, "best")?, Field::Link(word(alloc, "5")?))?;
-    Ok(FactRow {
+fn fact(alloc: Global, value: Field) -> Result<Fact, NoMemory> {
+    Ok(Fact {
         id: word(alloc, "4")?,
+        key: word(alloc, "best")?,
+        value,
+    })
+}
+
+#[test]
+fn facts_are_copied_whole(rt: HostRuntime) -> Result<(), Fail> {
+    let alloc = rt.alloc();
+    let link = Field::Link(word(alloc, "5")?);
+    for value in [
+        Field::Leaf(Plain::Null),
+        link,
+        Field::Links(two_ids(alloc)?),
+    ] {
+        let fact = fact(alloc, value)?;
+        let copy = fact.copy()?;
+        assert_eq!(rt; copy.key.as_str(), "best");
+        assert!(rt; copy.value == fact.value);
+    }
+    Ok(())
+}
+
+/// A row of a user with one field.
+fn row(alloc: Global, id: &str) -> Result<FactRow, NoMemory>
+    ensures id { IfOk result (λ r. r.id ≡ id.now) }
+    ensures row { IfOk result (λ r. IsFactRow r) }
+{
+    let mut fields = Fields::new(alloc);
+    let link = Field::Link(word(alloc, "5")?);
+    fields.put(word(alloc, "best")?, link)?;
+    Ok(FactRow {
+        id: word(alloc, id)?,
         type_name: word(alloc, "User")?,
         fields,
     })
@@ -158,7 +212,7 @@ fn row(alloc: Global) -> Result<FactRow, NoMemory> {
 #[test]
 fn rows_are_copied_whole(rt: HostRuntime) -> Result<(), Fail> {
     let alloc = rt.alloc();
-    let row = row(alloc)?;
+    let row = row(alloc, "4")?;
     let copy = row.copy()?;
     assert_eq!(rt; copy.type_name.as_str(), "User");
     assert!(rt; matches!(copy.fields.get("best"), Some(Field::Link(id)) if id.as_str() == "5"));
@@ -166,10 +220,19 @@ fn rows_are_copied_whole(rt: HostRuntime) -> Result<(), Fail> {
 }
 
 #[test]
-fn no_facts_are_copied_as_none(rt: HostRuntime) -> Result<(), Fail> {
+fn lists_of_rows_are_copied_whole(rt: HostRuntime) -> Result<(), Fail> {
     let alloc = rt.alloc();
-    let facts = FactList::new(alloc);
+    let mut facts = FactList::new(alloc);
     assert_eq!(rt; facts.copy()?.rows().len(), 0);
+    let first = row(alloc, "4")?;
+    facts.push_row(first)?;
+    let second = row(alloc, "5")?;
+    facts.push_row(second)?;
+    let copy = facts.copy()?;
+    for (row, id) in copy.rows().iter().zip(["4", "5"]) {
+        assert_eq!(rt; row.id.as_str(), id);
+    }
+    assert_eq!(rt; copy.rows().len(), 2);
     Ok(())
 }
 

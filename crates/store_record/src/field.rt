@@ -2,8 +2,9 @@
 ghost use Rattle.std.specs.Prelude.{◌≡◌, ◌==◌, [], length, option_copied, IfOk, OnOk, OnErr};
 ghost use Rattle.std.specs.Cmp.Lexicographic.{slice_cmp};
 ghost use Rattle.std.specs.FinMap.Entries.{put};
+ghost use Rattle.std.specs.Map.{keys_of};
 ghost use Rattle.std.specs.Ordering.{nat_cmp};
-ghost use Rattle.gql_plain.specs.Order.{member_at};
+ghost use Rattle.gql_plain.specs.Order.{AreInOrder, member_at};
 
 use gql_plain::{Id, NoMemory, OptIds, Plain, SharedText, Words};
 use std::alloc::Global;
@@ -186,9 +187,10 @@ impl Fields {
         self.entries.is_empty()
     }
 
-    /// The keys and fields; takes no memory.
+    /// The keys and fields, in byte order of the keys; takes no memory.
     pub fn as_slice(&self) -> &[SharedField]
-        ensures { result.now ≡ self.now }
+        ensures items { result.now ≡ self.now }
+        ensures in_order { AreInOrder (keys_of result.now) }
     {
         self.entries.as_slice()
     }

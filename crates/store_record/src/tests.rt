@@ -10,13 +10,16 @@ team team {"size":null}
 friends(after:"c1",first:2) friends {"first":2,"after":"c1"}
 friends(a:[1,null],z:{"b":"x","c":true}) friends {"z":{"c":true,"b":"x"},"m":null,"a":[1,null]}"#;
 
-/// A key of a connection `K_friends`, the name of its one filter or `-`, and its arguments.
+/// A key of a connection `K_friends`, the names of its filters or `-`, and its arguments.
 const HANDLE_KEYS: &str = r#"__K_friends_connection - {"after":2}
 __K_friends_connection - {"first":2,"last":1,"before":null}
 __K_friends_connection(order:2) - {"order":2}
 __K_friends_connection(order:2) order {"first":2,"order":2}
 __K_friends_connection(first:2) first {"first":2,"order":2}
-__K_friends_connection name {"first":2,"order":2}"#;
+__K_friends_connection name {"first":2,"order":2}
+__K_friends_connection(first:2,order:[1,2]) order,first {"name":1,"order":[1,2],"first":2}
+__K_friends_connection , {"first":2,"order":2}
+__K_friends_connection(a:1,order:2) - {"order":2,"first":2,"a":1}"#;
 
 /// The pairs of an object; none where the text is no object of whole numbers.
 fn pairs_in(alloc: Global, text: &str) -> Pairs {
@@ -33,12 +36,15 @@ fn words(alloc: Global, text: &str) -> Result<Words, NoMemory> {
     Words::new(alloc, text)
 }
 
-fn filters_in(alloc: Global, name: &str) -> Result<Option<Ids>, NoMemory> {
-    if name == "-" {
+/// The names between commas, or None of a `-`.
+fn filters_in(alloc: Global, text: &str) -> Result<Option<Ids>, NoMemory> {
+    if text == "-" {
         return Ok(None);
     }
     let mut names = Vec::new(alloc);
-    names.push(words(alloc, name)?)?;
+    for name in text.split(',').filter(|name| !name.is_empty()) {
+        names.push(words(alloc, name)?)?;
+    }
     Ok(Some(Ids::sorted(names)?))
 }
 
@@ -76,6 +82,7 @@ fn a_generated_id_has_its_parent_key_and_index(rt: HostRuntime) -> Result<(), Fa
         ("4", "tags", Some(0), "client:4:tags:0"),
         ("4", "tags", Some(10), "client:4:tags:10"),
         ("client:4:address", "x", None, "client:4:address:x"),
+        ("client:4:tags:1", "x", Some(12), "client:4:tags:1:x:12"),
     ] {
         let parent = words(alloc, parent)?;
         let id = client_id(alloc, &parent, &words(alloc, key)?, index)?;
@@ -121,7 +128,7 @@ fn fields_stand_in_byte_order_and_have_equal_copies(rt: HostRuntime) -> Result<(
 fn slots_have_equal_copies(rt: HostRuntime) -> Result<(), Fail> {
     let alloc = rt.alloc();
     let mut record = Record::new(alloc, words(alloc, "User")?);
-    assert!(rt; record.fields.is_empty());
+    assert!(rt; record.copy()?.fields.is_empty());
     record.fields = three_fields(alloc)?;
     let slot = Slot::Alive(Shared::new(alloc, record.copy()?)?).copy()?;
     assert!(rt; matches!(&slot, Slot::Alive(shared) if *shared.get() == record));

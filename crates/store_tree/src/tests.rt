@@ -1,4 +1,5 @@
 use crate::Tree;
+use crate::item::digest;
 use gql_plain::{Counts, NoMemory, Words};
 use std::alloc::Global;
 use std::rc::Rc;
@@ -44,39 +45,75 @@ fn agrees(alloc: Global, tree: &Tree<u64>, numbers: &[u64]) -> Result<bool, NoMe
     Ok(true)
 }
 
+/// The tree of the numbers below the count, each put in so far from the one before.
+fn tree_of(
+    alloc: Global,
+    count: u64,
+    step: u64,
+    steps: &mut Counts,
+) -> Result<Tree<u64>, NoMemory> {
+    let mut tree = Tree::new();
+    for place in 0..count {
+        let number = place.wrapping_mul(step) % count.max(1);
+        tree = with_number(alloc, &tree, number, steps)?;
+    }
+    Ok(tree)
+}
+
+/// The tree without the multiples of three below the count, taken out in the same order.
+fn without_thirds(
+    alloc: Global,
+    tree: &Tree<u64>,
+    count: u64,
+    step: u64,
+) -> Result<Tree<u64>, NoMemory> {
+    let mut tree = tree.version()?;
+    for place in 0..count {
+        let number = place.wrapping_mul(step) % count.max(1);
+        if number % 3 == 0 {
+            tree = without_number(alloc, &tree, number, &mut Counts::new())?;
+        }
+    }
+    Ok(tree)
+}
+
+/// The numbers below the count.
+fn numbers_below(alloc: Global, count: u64) -> Result<Vec<u64>, NoMemory> {
+    let mut numbers = Vec::new(alloc);
+    for number in 0..count {
+        numbers.push(number)?;
+    }
+    Ok(numbers)
+}
+
+/// Those of the numbers below the count that three does not divide.
+fn not_thirds(alloc: Global, count: u64) -> Result<Vec<u64>, NoMemory> {
+    let mut numbers = Vec::new(alloc);
+    for number in 0..count {
+        if number % 3 != 0 {
+            numbers.push(number)?;
+        }
+    }
+    Ok(numbers)
+}
+
 #[test]
 fn trees_agree_with_sorted_lists(rt: HostRuntime) -> Result<(), Fail> {
     let alloc = rt.alloc();
-    // All numbers below the count, each so far from the one before: ascending, descending, mixed.
-    for (count, step) in [
-        (10_000, 1),
-        (10_000, 9_999),
-        (10_000, 7_919),
-        (8, 3),
-        (1, 1),
-    ] {
+    // Ascending, descending, mixed.
+    for (count, step) in [(3_000, 1), (3_000, 2_999), (3_000, 1_319), (8, 3), (1, 1)] {
         let mut steps = Counts::new();
-        let mut tree = Tree::new();
-        let mut all = Vec::new(alloc);
-        let mut kept = Vec::new(alloc);
-        for place in 0..count {
-            let number = u64::wrapping_mul(place, step) % count;
-            tree = with_number(alloc, &tree, number, &mut steps)?;
-            all.push(place)?;
-            if place % 3 != 0 {
-                kept.push(place)?;
-            }
-        }
-        assert!(rt; agrees(alloc, &tree, &all)?, "{count} by {step}");
+        let tree = tree_of(alloc, count, step, &mut steps)?;
         assert!(rt; steps.nodes >= count);
-        for place in 0..count {
-            let number = u64::wrapping_mul(place, step) % count;
-            if number % 3 == 0 {
-                tree = without_number(alloc, &tree, number, &mut steps)?;
-            }
-        }
-        assert!(rt; agrees(alloc, &tree, &kept)?, "{count} by {step}");
-        assert!(rt; tree.get("client:node:00003").is_none());
+        assert!(rt;
+            agrees(alloc, &tree, &numbers_below(alloc, count)?)?,
+            "{count} by {step}"
+        );
+        let rest = without_thirds(alloc, &tree, count, step)?;
+        assert!(rt;
+            agrees(alloc, &rest, &not_thirds(alloc, count)?)?,
+            "{count} by {step}"
+        );
     }
     Ok(())
 }
@@ -111,34 +148,170 @@ fn old_versions_stay(rt: HostRuntime) -> Result<(), Fail> {
     Ok(())
 }
 
+/// The tree with a value at the key.
+fn with_key(alloc: Global, tree: &Tree<u64>, key: &str, value: u64) -> Result<Tree<u64>, NoMemory> {
+    let key = Words::new(alloc, key)?;
+    let value = Rc::new(alloc, value)?;
+    tree.insert(alloc, key, value, &mut Counts::new())
+}
+
+fn without_key(alloc: Global, tree: &Tree<u64>, key: &str) -> Result<Tree<u64>, NoMemory> {
+    tree.remove(alloc, key, &mut Counts::new())
+}
+
+/// Whether the tree holds so many keys, and the value at `a`.
+fn holds(tree: &Tree<u64>, len: u64, found: Option<u64>) -> bool {
+    tree.len() == len && tree.get("a").copied() == found
+}
+
 #[test]
 fn a_value_is_replaced(rt: HostRuntime) -> Result<(), Fail> {
     let alloc = rt.alloc();
-    let mut steps = Counts::new();
     let empty: Tree<u64> = Tree::new();
-    let one = empty.insert(
+    let one = with_key(alloc, &empty, "a", 1)?;
+    let two = with_key(alloc, &one, "a", 2)?;
+    let none = without_key(alloc, &two, "a")?;
+    let same = without_key(alloc, &two, "b")?;
+    assert!(rt; holds(&empty, 0, None));
+    assert!(rt; holds(&one, 1, Some(1)));
+    assert!(rt; holds(&two, 1, Some(2)));
+    assert!(rt; holds(&none, 0, None));
+    assert!(rt; holds(&same, 1, Some(2)));
+    Ok(())
+}
+
+/// The tree with a value put in at the key of a number.
+fn put_at(
+    alloc: Global,
+    tree: Tree<u64>,
+    number: u64,
+    value: u64,
+    steps: &mut Counts,
+) -> Result<Tree<u64>, NoMemory> {
+    let value = Rc::new(alloc, value)?;
+    tree.put(alloc, key_of(alloc, number)?, value, steps)
+}
+
+/// The tree with each number below the count put in at its key, each so far from the one before.
+fn filled(alloc: Global, tree: Tree<u64>, count: u64, step: u64) -> Result<Tree<u64>, NoMemory> {
+    let mut steps = Counts::new();
+    let mut tree = tree;
+    for place in 0..count {
+        let number = place.wrapping_mul(step) % count.max(1);
+        tree = put_at(alloc, tree, number, number, &mut steps)?;
+    }
+    Ok(tree)
+}
+
+#[test]
+fn puts_agree_with_sorted_lists(rt: HostRuntime) -> Result<(), Fail> {
+    let alloc = rt.alloc();
+    // Ascending, descending and mixed, into the empty tree and then over what is there.
+    for (count, step) in [(2_000, 1), (2_000, 1_999), (2_000, 1_319), (0, 1)] {
+        let tree = filled(alloc, Tree::new(), count, step)?;
+        let numbers = numbers_below(alloc, count)?;
+        assert!(rt; agrees(alloc, &tree, &numbers)?, "{count} by {step}");
+        let tree = filled(alloc, tree, count, 1)?;
+        assert!(rt; agrees(alloc, &tree, &numbers)?, "{count} by {step}");
+    }
+    Ok(())
+}
+
+#[test]
+fn puts_leave_other_versions(rt: HostRuntime) -> Result<(), Fail> {
+    let alloc = rt.alloc();
+    let tree = filled(alloc, Tree::new(), 100, 37)?;
+    let older = tree.version()?;
+    let tree = filled(alloc, tree, 120, 1)?;
+    let tree = put_at(alloc, tree, 7, 0, &mut Counts::new())?;
+    assert!(rt; agrees(alloc, &older, &numbers_below(alloc, 100)?)?);
+    assert_eq!(rt; tree.len(), 120);
+    assert!(rt; tree.get("client:node:00007").copied() == Some(0));
+    Ok(())
+}
+
+#[test]
+fn puts_make_no_node_where_no_version_holds_it(rt: HostRuntime) -> Result<(), Fail> {
+    let alloc = rt.alloc();
+    let mut steps = Counts::new();
+    let one = put_at(alloc, Tree::new(), 1, 1, &mut steps)?;
+    let two = put_at(alloc, one.version()?, 1, 2, &mut steps)?;
+    assert_eq!(rt; steps.nodes, 2);
+    let two = put_at(alloc, two, 1, 3, &mut steps)?;
+    assert_eq!(rt; steps.nodes, 2);
+    assert!(rt; one.get("client:node:00001").copied() == Some(1));
+    assert!(rt; two.get("client:node:00001").copied() == Some(3));
+    Ok(())
+}
+
+/// Two texts of 1,024 bytes that have one digest: each is `a` or `b`, ten times followed by the
+/// other one.
+fn twins(alloc: Global) -> Result<(String, String), NoMemory> {
+    let mut one = String::from_str(alloc, "a")?;
+    let mut other = String::from_str(alloc, "b")?;
+    for _ in 0..10 {
+        let before = one.clone()?;
+        one.push_str(other.as_str())?;
+        other.push_str(before.as_str())?;
+    }
+    Ok((one, other))
+}
+
+/// A tree with 2 at the second key, 1 at the first, and 0 at the empty one.
+fn twin_tree(alloc: Global, one: &str, other: &str) -> Result<Tree<u64>, NoMemory> {
+    let tree = with_key(alloc, &Tree::new(), other, 2)?;
+    let tree = with_key(alloc, &tree, one, 1)?;
+    with_key(alloc, &tree, "", 0)
+}
+
+/// The same tree, by `put`.
+fn put_twins(alloc: Global, one: &str, other: &str) -> Result<Tree<u64>, NoMemory> {
+    let mut steps = Counts::new();
+    let tree = Tree::new().put(
         alloc,
-        Words::new(alloc, "a")?,
-        Rc::new(alloc, 1)?,
-        &mut steps,
-    )?;
-    let two = one.insert(
-        alloc,
-        Words::new(alloc, "a")?,
+        Words::new(alloc, other)?,
         Rc::new(alloc, 2)?,
         &mut steps,
     )?;
-    let none = two.remove(alloc, "a", &mut steps)?;
-    let same = two.remove(alloc, "b", &mut steps)?;
-    for (tree, len, found) in [
-        (&empty, 0, None),
-        (&one, 1, Some(1)),
-        (&two, 1, Some(2)),
-        (&none, 0, None),
-        (&same, 1, Some(2)),
-    ] {
-        assert_eq!(rt; tree.len(), len);
-        assert!(rt; tree.get("a").copied() == found);
+    let tree = tree.put(
+        alloc,
+        Words::new(alloc, one)?,
+        Rc::new(alloc, 1)?,
+        &mut steps,
+    )?;
+    tree.put(
+        alloc,
+        Words::new(alloc, "")?,
+        Rc::new(alloc, 0)?,
+        &mut steps,
+    )
+}
+
+/// Whether the tree holds three keys in byte order with their values.
+fn holds_twins(alloc: Global, tree: &Tree<u64>, one: &str, other: &str) -> Result<bool, NoMemory> {
+    let keys = tree.keys(alloc)?;
+    if keys.len() != 3 {
+        return Ok(false);
     }
+    for ((key, wanted), value) in keys.as_slice().iter().zip(["", one, other]).zip([0, 1, 2]) {
+        if key.as_str() != wanted || tree.get(wanted).copied() != Some(value) {
+            return Ok(false);
+        }
+    }
+    Ok(true)
+}
+
+#[test]
+fn keys_of_one_digest_stay_apart(rt: HostRuntime) -> Result<(), Fail> {
+    let alloc = rt.alloc();
+    let (one, other) = twins(alloc)?;
+    let (one, other) = (one.as_str(), other.as_str());
+    assert_eq!(rt; digest(one), digest(other));
+    let tree = twin_tree(alloc, one, other)?;
+    assert!(rt; holds_twins(alloc, &tree, one, other)?);
+    assert!(rt; holds_twins(alloc, &put_twins(alloc, one, other)?, one, other)?);
+    let rest = without_key(alloc, &tree, one)?;
+    assert!(rt; rest.get(one).is_none());
+    assert!(rt; rest.get(other).copied() == Some(2));
     Ok(())
 }

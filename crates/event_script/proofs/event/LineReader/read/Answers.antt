@@ -1,7 +1,7 @@
 use Rattle.std.proofs.Common.{subst}
 use Rattle.event_script.proofs.Lines.{line_of-text, line_of-no_text}
 use Rattle.event_script.specs.Seen.{Says}
-use Rattle.event_script.proofs.event.read_event.Goals as goal
+use Rattle.event_script.proofs.event.LineReader.read.Goals as goal
 
 pub returns-in-Ok : goal.returns-in-Ok
 returns-in-Ok c =
