@@ -2,22 +2,22 @@
 use Rattle.std.specs.Prelude.{◌≡◌, ℕ, ◌+◌, ◌-◌, List, [], ◌++◌, ◌^◌, ◌<◌, ◌≤◌, min, length, option_map, IfSome, take, drop, Option, Some, None, refl}
 use Rattle.std.proofs.Common.{arith, rules, ap, sym, ◌∙◌}
 use Rattle.std.proofs.lemmas.List.{append_assoc, append-nil, drop-drop, length-drop, length-take, take-append-drop, take-append-le, take_all}
-use Rattle.relay_io.specs.Streams.{appended, prepended}
+use Rattle.relay_io.specs.Streams.{append, prepend}
 
 -- appending nothing
-pub appended-none : (told : Option (List ℕ)) → appended told [] ≡ told
-appended-none None = refl
-appended-none (Some xs) = ap Some (append-nil xs)
+pub append-none : (told : Option (List ℕ)) → append told [] ≡ told
+append-none None = refl
+append-none (Some xs) = ap Some (append-nil xs)
 
 -- appending two pieces, one after the other
-pub appended-appended : (told : Option (List ℕ)) (xs ys : List ℕ) → appended (appended told xs) ys ≡ appended told (xs ++ ys)
-appended-appended None xs ys = refl
-appended-appended (Some zs) xs ys = ap Some (append_assoc zs xs ys)
+pub append-append : (told : Option (List ℕ)) (xs ys : List ℕ) → append (append told xs) ys ≡ append told (xs ++ ys)
+append-append None xs ys = refl
+append-append (Some zs) xs ys = ap Some (append_assoc zs xs ys)
 
 -- taking two pieces, one after the other
-pub prepended-prepended : (xs ys : List ℕ) (told : Option (List ℕ)) → prepended xs (prepended ys told) ≡ prepended (xs ++ ys) told
-prepended-prepended xs ys None = refl
-prepended-prepended xs ys (Some zs) = ap Some (sym (append_assoc xs ys zs))
+pub prepend-prepend : (xs ys : List ℕ) (told : Option (List ℕ)) → prepend xs (prepend ys told) ≡ prepend (xs ++ ys) told
+prepend-prepend xs ys None = refl
+prepend-prepend xs ys (Some zs) = ap Some (sym (append_assoc xs ys zs))
 
 -- the rest of a list, as a slice to its end shows it
 pub rest_is : {A : Type 0} (n : ℕ) (xs : List A) → take (length xs - n) (drop n xs) ≡ drop n xs

@@ -57,7 +57,7 @@ abbrev pub source_after : SourceState → ℕ → SourceState
 source_after s room = record s { left = if source_fails s then s.left else drop (source_gives s room) s.left; calls = next_count s.calls; faults = if source_fails s then next_count s.faults else s.faults }
 
 pub record SinkState : Type 0 where
-  pub held : List ℕ
+  pub contents : List ℕ
   pub room : ℕ
   pub piece : ℕ
   pub failing : List ℕ
@@ -66,11 +66,11 @@ pub record SinkState : Type 0 where
 
 -- the next call is among those that fail, or the room is used up
 abbrev pub sink_fails : SinkState → Bool
-sink_fails s = next_fails s.failing s.calls || (length s.held == s.room)
+sink_fails s = next_fails s.failing s.calls || (length s.contents == s.room)
 
 -- how many of the bytes a put takes
 abbrev pub sink_takes : SinkState → List ℕ → ℕ
-sink_takes s bytes = min (min (s.room - length s.held) (length bytes)) s.piece
+sink_takes s bytes = min (min (s.room - length s.contents) (length bytes)) s.piece
 
 abbrev pub sink_after : SinkState → List ℕ → SinkState
-sink_after s bytes = record s { held = if sink_fails s then s.held else s.held ++ take (sink_takes s bytes) bytes; calls = next_count s.calls; faults = if sink_fails s then next_count s.faults else s.faults }
+sink_after s bytes = record s { contents = if sink_fails s then s.contents else s.contents ++ take (sink_takes s bytes) bytes; calls = next_count s.calls; faults = if sink_fails s then next_count s.faults else s.faults }

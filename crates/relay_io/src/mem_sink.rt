@@ -3,7 +3,7 @@ ghost use Rattle.std.specs.Prelude.{◌≡◌, ◌<◌, ◌≤◌, ℕ, List, []
 ghost use Rattle.gql_plain.specs.Counted.{next_count};
 ghost use Rattle.relay_io.specs.Causes.{Rose};
 ghost use Rattle.relay_io.specs.Memory.{sink_after, sink_fails, sink_takes};
-ghost use Rattle.relay_io.specs.Streams.{appended};
+ghost use Rattle.relay_io.specs.Streams.{append};
 
 use crate::fault::Failed;
 use crate::sink::Sink;
@@ -29,7 +29,7 @@ impl Model for MemSink {
 
     ghost Value = { SinkState };
 
-    ghost view = { λ s. record { held = s.bytes.items; room = s.room; piece = s.piece; failing = s.failing.items; calls = s.calls; faults = s.faults } };
+    ghost view = { λ s. record { contents = s.bytes.items; room = s.room; piece = s.piece; failing = s.failing.items; calls = s.calls; faults = s.faults } };
 
     ghost invariant = { λ s. (length s.bytes.items ≤ s.room) × (s.room ≤ vec_capacity s.bytes) × (0 < s.piece) };
 }
@@ -44,7 +44,7 @@ impl MemSink {
         failing: Vec<u64>,
     ) -> Result<MemSink, NoMemory>
         requires { 0 < piece }
-        ensures { IfOk result (λ s. s ≡ record { held = []; room = room; piece = piece; failing = failing.items; calls = 0; faults = 0 }) }
+        ensures { IfOk result (λ s. s ≡ record { contents = []; room = room; piece = piece; failing = failing.items; calls = 0; faults = 0 }) }
     {
         let bytes = Vec::with_capacity(alloc, room)?;
         Ok(MemSink {
@@ -58,15 +58,15 @@ impl MemSink {
     }
 
     /// What was put.
-    pub fn held(&self) -> &[u8]
-        ensures { result.now ≡ self.now.held }
+    pub fn contents(&self) -> &[u8]
+        ensures { result.now ≡ self.now.contents }
     {
         &self.bytes
     }
 }
 
 impl Sink for MemSink {
-    ghost held = { λ s. Some s.held };
+    ghost contents = { λ s. Some s.contents };
 
     ghost faults = { λ s. s.faults };
 
@@ -75,8 +75,8 @@ impl Sink for MemSink {
     fn put(&mut self, bytes: &[u8]) -> Result<usize, Failed>
         requires { 0 < length bytes.now }
         ensures bound { IfOk result (λ k. (0 < k) × (k ≤ length bytes.now)) }
-        ensures bytes { IfOk result (λ k. Some self.new.held ≡ appended (Some self.old.held) (take k bytes.now)) }
-        ensures kept { OnErr result (Some self.new.held ≡ Some self.old.held) }
+        ensures bytes { IfOk result (λ k. Some self.new.contents ≡ append (Some self.old.contents) (take k bytes.now)) }
+        ensures kept { OnErr result (Some self.new.contents ≡ Some self.old.contents) }
         ensures failed { OnErr result (Rose self.old.faults self.new.faults) }
         ensures later { self.old.faults ≤ self.new.faults }
         ensures counted { self.new.calls ≡ next_count self.old.calls }

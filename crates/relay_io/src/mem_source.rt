@@ -4,7 +4,7 @@ ghost use Rattle.std.specs.Io.KnownBytes.{IsAtEnd};
 ghost use Rattle.gql_plain.specs.Counted.{next_count};
 ghost use Rattle.relay_io.specs.Causes.{Rose};
 ghost use Rattle.relay_io.specs.Memory.{source_after, source_fails, source_gives};
-ghost use Rattle.relay_io.specs.Streams.{prepended};
+ghost use Rattle.relay_io.specs.Streams.{prepend};
 
 use crate::fault::Failed;
 use crate::source::Source;
@@ -59,7 +59,7 @@ impl Source for MemSource {
     fn read(&mut self, into: &mut [u8]) -> Result<usize, Failed>
         requires { 0 < length into.old }
         ensures bound { IfOk result (λ k. k ≤ length into.new) }
-        ensures bytes { IfOk result (λ k. Some self.old.left ≡ prepended (take k into.new) (Some self.new.left)) }
+        ensures bytes { IfOk result (λ k. Some self.old.left ≡ prepend (take k into.new) (Some self.new.left)) }
         ensures end { IfOk result (λ k. k ≡ 0 → IsAtEnd (Some self.new.left)) }
         ensures kept { OnErr result (Some self.new.left ≡ Some self.old.left) }
         ensures failed { OnErr result (Rose self.old.faults self.new.faults) }

@@ -3,7 +3,7 @@ ghost use Rattle.std.specs.Prelude.{◌≡◌, ◌<◌, ◌≤◌, ℕ, List, Op
 ghost use Rattle.std.specs.Io.KnownBytes.{IsAtEnd};
 ghost use Rattle.gql_plain.specs.Counted.{next_count};
 ghost use Rattle.relay_io.specs.Causes.{Rose};
-ghost use Rattle.relay_io.specs.Streams.{prepended};
+ghost use Rattle.relay_io.specs.Streams.{prepend};
 
 use crate::fault::Failed;
 
@@ -27,7 +27,7 @@ pub trait Source {
     fn read(&mut self, into: &mut [u8]) -> Result<usize, Failed>
         requires { 0 < length into.old }
         ensures bound { IfOk result (λ k. k ≤ length into.new) }
-        ensures bytes { IfOk result (λ k. left self.old ≡ prepended (take k into.new) (left self.new)) }
+        ensures bytes { IfOk result (λ k. left self.old ≡ prepend (take k into.new) (left self.new)) }
         ensures end { IfOk result (λ k. k ≡ 0 → IsAtEnd (left self.new)) }
         ensures kept { OnErr result (left self.new ≡ left self.old) }
         ensures failed { OnErr result (Rose (faults self.old) (faults self.new)) }

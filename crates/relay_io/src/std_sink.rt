@@ -41,7 +41,7 @@ impl<W: Write> StdSink<W> {
 }
 
 impl<W: Write> Sink for StdSink<W> {
-    ghost held = { λ _. None };
+    ghost contents = { λ _. None };
 
     ghost faults = { λ s. s.tally.faults };
 

@@ -4,6 +4,7 @@ use crate::{
     FileVault, MemSink, MemSource, MemVault, Sink, Source, StdSink, StdSource, Vault, VaultFault,
 };
 use gql_plain::Words;
+use std::alloc::Global;
 use std::cell::Cell;
 use std::fs;
 use std::io::{Error, ErrorKind, Read, Result as IoResult, Write};
@@ -38,28 +39,40 @@ fn streams_in_memory_go_on_after_a_failing_call(rt: HostRuntime) -> Result<(), F
     assert_eq!(rt; sink.put(&into)?, 2);
     assert_eq!(rt; sink.put(&into[2..])?, 1);
     assert!(rt; sink.put(&into).is_err());
-    assert_eq!(rt; sink.held(), b"abc".as_slice());
+    assert_eq!(rt; sink.contents(), b"abc".as_slice());
     Ok(())
 }
 
-// Counts the writes and the flushes, takes so many bytes a write, and may fail at each flush.
+// Counts the writes and the flushes, takes so many bytes a write, and may fail at each write or at
+// each flush.
 #[derive(Drop)]
 struct Counting<'a> {
     writes: &'a Cell<u64>,
     flushes: &'a Cell<u64>,
     takes: usize,
-    fails: bool,
+    fails: Fails,
+}
+
+// The call of a writer that fails.
+#[derive(Clone, Copy, Drop, PartialEq, Eq)]
+enum Fails {
+    No,
+    Write,
+    Flush,
 }
 
 impl<'a> Write for Counting<'a> {
     fn write(&mut self, bytes: &[u8]) -> IoResult<usize> {
         self.writes.set(self.writes.get().saturating_add(1));
+        if self.fails == Fails::Write {
+            return Err(Error::from(ErrorKind::Other));
+        }
         Ok(bytes.len().min(self.takes))
     }
 
     fn flush(&mut self) -> IoResult<()> {
         self.flushes.set(self.flushes.get().saturating_add(1));
-        if self.fails {
+        if self.fails == Fails::Flush {
             return Err(Error::from(ErrorKind::Other));
         }
         Ok(())
@@ -68,51 +81,82 @@ impl<'a> Write for Counting<'a> {
 
 #[test]
 fn a_sink_over_a_writer_writes_once_and_flushes_once(rt: HostRuntime) -> Result<(), Fail> {
-    let (writes, flushes) = (Cell::new(0), Cell::new(0));
-    for (takes, fails, wanted) in [
-        (2usize, false, Some(2usize)),
-        (0, false, None),
-        (3, true, None),
+    for (takes, fails, taken, flushed) in [
+        (2usize, Fails::No, Some(2usize), 1u64),
+        (3, Fails::No, Some(3), 1),
+        (0, Fails::No, None, 0),
+        (3, Fails::Write, None, 0),
+        (3, Fails::Flush, None, 1),
     ] {
+        let (writes, flushes) = (Cell::new(0), Cell::new(0));
         let mut sink = StdSink::new(Counting {
             writes: &writes,
             flushes: &flushes,
             takes,
             fails,
         });
-        assert_eq!(rt; sink.put(b"abc").ok(), wanted, "at {takes}");
+        assert_eq!(rt; sink.put(b"abc").ok(), taken, "at {takes}");
+        assert_eq!(rt; writes.get(), 1, "at {takes}");
+        assert_eq!(rt; flushes.get(), flushed, "at {takes}");
     }
-    assert_eq!(rt; writes.get(), 3);
-    assert_eq!(rt; flushes.get(), 2);
     Ok(())
 }
 
-// Fails at each read, with an error of this kind.
+// Gives a byte a read, so often, and then fails at each read with an error of this kind.
 #[derive(Drop)]
-struct Failing(ErrorKind);
+struct Failing {
+    bytes: usize,
+    kind: ErrorKind,
+}
 
 impl Read for Failing {
-    fn read(&mut self, _into: &mut [u8]) -> IoResult<usize> {
-        Err(Error::from(self.0))
+    fn read(&mut self, into: &mut [u8]) -> IoResult<usize> {
+        if self.bytes == 0 {
+            return Err(Error::from(self.kind));
+        }
+        let Some(first) = into.first_mut() else {
+            return Ok(0);
+        };
+        *first = b'a';
+        self.bytes -= 1;
+        Ok(1)
     }
+}
+
+// Whether a file is out of memory, or failed, where its reader gives so many bytes and then fails.
+fn fault_of(alloc: Global, bytes: usize, kind: ErrorKind) -> Option<VaultFault> {
+    read_whole(alloc, Failing { bytes, kind }, 3).err()
 }
 
 #[test]
 fn a_reader_fails_with_and_without_memory(rt: HostRuntime) -> Result<(), Fail> {
     let alloc = rt.alloc();
     let mut into = [0u8; 2];
-    let mut source = StdSource::new(Failing(ErrorKind::Other));
-    assert!(rt; source.read(&mut into).is_err());
+    for kind in [ErrorKind::Other, ErrorKind::OutOfMemory] {
+        let mut source = StdSource::new(Failing { bytes: 1, kind });
+        assert_eq!(rt; source.read(&mut into)?, 1);
+        assert!(rt; source.read(&mut into).is_err());
+    }
+    for bytes in [0usize, 1, 3] {
+        assert!(rt;
+            matches!(
+                fault_of(alloc, bytes, ErrorKind::OutOfMemory),
+                Some(VaultFault::NoMemory)
+            ),
+            "at {bytes}"
+        );
+        assert!(rt;
+            matches!(
+                fault_of(alloc, bytes, ErrorKind::Other),
+                Some(VaultFault::Failed)
+            ),
+            "at {bytes}"
+        );
+    }
     assert!(rt;
         matches!(
-            read_whole(alloc, Failing(ErrorKind::OutOfMemory), 3),
-            Err(VaultFault::NoMemory)
-        )
-    );
-    assert!(rt;
-        matches!(
-            read_whole(alloc, Failing(ErrorKind::Other), 3),
-            Err(VaultFault::Failed)
+            fault_of(alloc, 4, ErrorKind::Other),
+            Some(VaultFault::TooLong)
         )
     );
     Ok(())

@@ -11,7 +11,7 @@ use Rattle.relay_model.specs.Payload.{Said, says}
 use Rattle.relay_model.specs.Read.{read_root}
 use Rattle.relay_model.specs.Events.{Event, retain, payload, read, Line, too_long, not_json as no_json, other, event, line_of}
 use Rattle.relay_model.specs.Refusals.{Refusal, not_json, unknown_operation, unknown_handle, not_yet}
-use Rattle.relay_model.specs.Printed.{done, shown, refusal}
+use Rattle.relay_model.specs.Printed.{event_line, read_line, refusal}
 
 -- an accepted project: its schema, and its operations by their names, which differ
 pub record Project : Type 0 where
@@ -31,12 +31,12 @@ abbrev pub beginning : State
 beginning = record { entries = []; handles = [] }
 
 -- the records that the confirmed entries give
-abbrev pub folded : List (List Fact) → Records → Records
-folded [] records = records
-folded (entry ∷ entries) records = folded entries (put_all entry records)
+abbrev pub fold_entries : List (List Fact) → Records → Records
+fold_entries [] records = records
+fold_entries (entry ∷ entries) records = fold_entries entries (put_all entry records)
 
 abbrev pub base : State → Records
-base s = folded s.entries no_records
+base s = fold_entries s.entries no_records
 
 -- whether the handle is live
 abbrev pub is_live : Text → State → Bool
@@ -59,13 +59,13 @@ accept text s = record { text = text; refused = false; state = s }
 
 abbrev pub confirm : State → ℕ → Said → Step
 confirm s n said =
-    cond said.plain (accept (done (codes "payload") n) (record { entries = s.entries ++ said.facts ∷ []; handles = s.handles }))
+    cond said.plain (accept (event_line (codes "payload") n) (record { entries = s.entries ++ said.facts ∷ []; handles = s.handles }))
     (refuse n not_yet s)
 
 abbrev pub retain_with : Option Sels → State → ℕ → Text → Text → Step
 retain_with None s n handle operation = refuse n (unknown_operation operation) s
 retain_with (Some selections) s n handle operation =
-    accept (done (codes "retain") n) (record { entries = s.entries; handles = s.handles ++ (handle, selections) ∷ [] })
+    accept (event_line (codes "retain") n) (record { entries = s.entries; handles = s.handles ++ (handle, selections) ∷ [] })
 
 abbrev pub step_retain : Project → State → ℕ → Text → Text → Step
 step_retain p s n handle operation =
@@ -78,7 +78,7 @@ payload_with p (Some selections) s n handle response = confirm s n (says p.schem
 
 abbrev pub read_with : Project → Option Sels → State → ℕ → Text → Step
 read_with p None s n handle = refuse n (unknown_handle handle) s
-read_with p (Some selections) s n handle = accept (shown n (read_root p.schema (base s) selections)) s
+read_with p (Some selections) s n handle = accept (read_line n (read_root p.schema (base s) selections)) s
 
 abbrev pub step_event : Project → State → ℕ → Event → Step
 step_event p s n (retain handle operation) = step_retain p s n handle operation

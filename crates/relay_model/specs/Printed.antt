@@ -16,12 +16,12 @@ abbrev pub number : ℕ → Tree
 number n = whole (pos n)
 
 -- the answer of an event that shows nothing
-abbrev pub done : Text → ℕ → Text
-done name n = line ((codes "n", number n) ∷ (codes "ok", text name) ∷ [])
+abbrev pub event_line : Text → ℕ → Text
+event_line name n = line ((codes "n", number n) ∷ (codes "ok", text name) ∷ [])
 
 -- the answer of a read
-abbrev pub shown : ℕ → Answer → Text
-shown n answer =
+abbrev pub read_line : ℕ → Answer → Text
+read_line n answer =
     line ((codes "data", unwrap_or answer.0 null)
     ∷ (codes "missing", truth answer.1.missing)
     ∷ (codes "n", number n)

@@ -15,17 +15,17 @@ pub record Trace : Type 0 where
   pub missing : Bool
   pub seen : List Text
 
-abbrev pub still : Trace
-still = record { missing = false; seen = [] }
+abbrev pub no_trace : Trace
+no_trace = record { missing = false; seen = [] }
 
-abbrev pub lost : Trace
-lost = record { missing = true; seen = [] }
+abbrev pub loss : Trace
+loss = record { missing = true; seen = [] }
 
-abbrev pub standing : Text → Trace
-standing id = record { missing = false; seen = id ∷ [] }
+abbrev pub visit : Text → Trace
+visit id = record { missing = false; seen = id ∷ [] }
 
-abbrev pub joined : Trace → Trace → Trace
-joined a b = record { missing = a.missing || b.missing; seen = a.seen ++ b.seen }
+abbrev pub join : Trace → Trace → Trace
+join a b = record { missing = a.missing || b.missing; seen = a.seen ++ b.seen }
 
 -- data, none where it is missing
 abbrev pub Answer : Type 0
@@ -50,50 +50,50 @@ object_of fields = object (members_of (put_members [] fields))
 
 -- a leaf field: a value; another kind of field is missing
 abbrev pub leaf_at : Option Stored → Answer
-leaf_at None = (None, lost)
-leaf_at (Some (leaf value)) = (Some value, still)
-leaf_at (Some (link id)) = (None, lost)
+leaf_at None = (None, loss)
+leaf_at (Some (leaf value)) = (Some value, no_trace)
+leaf_at (Some (link id)) = (None, loss)
 
 -- the type of a record: the root's is the root type of a query
-abbrev pub typed : Schema → Text → Text
-typed schema of = cond (bytes_eq of root_type) (query_type schema) of
+abbrev pub record_type : Schema → Text → Text
+record_type schema of = cond (bytes_eq of root_type) (query_type schema) of
 
 -- an object, where the type of its record is the one that is asked for
-abbrev pub typed_at : Schema → Text → (Text → Fields × Trace) → Text → Option Stored → Answer
-typed_at schema of fields id None = (None, record { missing = true; seen = id ∷ [] })
-typed_at schema of fields id (Some (leaf (text name))) =
-    cond {A = Answer} (bytes_eq (typed schema name) of)
-    (Some (object_of (fields id).0), joined (standing id) (fields id).1)
+abbrev pub object_of_type : Schema → Text → (Text → Fields × Trace) → Text → Option Stored → Answer
+object_of_type schema of fields id None = (None, record { missing = true; seen = id ∷ [] })
+object_of_type schema of fields id (Some (leaf (text name))) =
+    cond {A = Answer} (bytes_eq (record_type schema name) of)
+    (Some (object_of (fields id).0), join (visit id) (fields id).1)
     (None, record { missing = true; seen = id ∷ [] })
-typed_at schema of fields id (Some (leaf null)) = (None, record { missing = true; seen = id ∷ [] })
-typed_at schema of fields id (Some (leaf (truth b))) = (None, record { missing = true; seen = id ∷ [] })
-typed_at schema of fields id (Some (leaf (whole n))) = (None, record { missing = true; seen = id ∷ [] })
-typed_at schema of fields id (Some (leaf (list ts))) = (None, record { missing = true; seen = id ∷ [] })
-typed_at schema of fields id (Some (leaf (object ms))) = (None, record { missing = true; seen = id ∷ [] })
-typed_at schema of fields id (Some (link j)) = (None, record { missing = true; seen = id ∷ [] })
+object_of_type schema of fields id (Some (leaf null)) = (None, record { missing = true; seen = id ∷ [] })
+object_of_type schema of fields id (Some (leaf (truth b))) = (None, record { missing = true; seen = id ∷ [] })
+object_of_type schema of fields id (Some (leaf (whole n))) = (None, record { missing = true; seen = id ∷ [] })
+object_of_type schema of fields id (Some (leaf (list ts))) = (None, record { missing = true; seen = id ∷ [] })
+object_of_type schema of fields id (Some (leaf (object ms))) = (None, record { missing = true; seen = id ∷ [] })
+object_of_type schema of fields id (Some (link j)) = (None, record { missing = true; seen = id ∷ [] })
 
 -- standing at an id: a record that is absent, or of another type, is missing
 abbrev pub stand_at : Schema → Records → Text → (Text → Fields × Trace) → Text → Answer
-stand_at schema records of fields id = typed_at schema of fields id (records id typename)
+stand_at schema records of fields id = object_of_type schema of fields id (records id typename)
 
 -- a field with a set of its own: null, or the record that it links to; another kind of field is missing
 abbrev pub object_at : (Text → Answer) → Option Stored → Answer
-object_at stand None = (None, lost)
-object_at stand (Some (leaf null)) = (Some null, still)
-object_at stand (Some (leaf (truth b))) = (None, lost)
-object_at stand (Some (leaf (whole n))) = (None, lost)
-object_at stand (Some (leaf (text s))) = (None, lost)
-object_at stand (Some (leaf (list ts))) = (None, lost)
-object_at stand (Some (leaf (object ms))) = (None, lost)
+object_at stand None = (None, loss)
+object_at stand (Some (leaf null)) = (Some null, no_trace)
+object_at stand (Some (leaf (truth b))) = (None, loss)
+object_at stand (Some (leaf (whole n))) = (None, loss)
+object_at stand (Some (leaf (text s))) = (None, loss)
+object_at stand (Some (leaf (list ts))) = (None, loss)
+object_at stand (Some (leaf (object ms))) = (None, loss)
 object_at stand (Some (link id)) = stand id
 
 -- one field before those that follow it
 abbrev pub before : Text → Answer → Fields × Trace → Fields × Trace
-before key answer rest = (member_of key answer.0 ++ rest.0, joined answer.1 rest.1)
+before key answer rest = (member_of key answer.0 ++ rest.0, join answer.1 rest.1)
 
 -- the fields of a set, at the record of an id that has this type
 abbrev pub fields_at : Schema → Records → Sels → Text → Text → Fields × Trace
-fields_at schema records end of id = ([], still)
+fields_at schema records end of id = ([], no_trace)
 fields_at schema records (field a n xs ds subs rest) of id =
     before n
     (cond {A = Answer} (is_set subs)

@@ -4,8 +4,8 @@ use Rattle.std.specs.Prelude.{[], Bool, Option, Some, None, unwrap_or}
 use Rattle.gql_ast.specs.TypeView.{ty_of}
 use Rattle.gql_ast.specs.declared.document.Kind.TheVariants.{Query}
 use Rattle.gql_ast.specs.declared.member.FieldTree.{FieldTree}
-use Rattle.schema_types.specs.Types as types
-use Rattle.schema_types.specs.Types.{Defs, base_of, field_on, root}
+use Rattle.schema_tables.specs.Types as types
+use Rattle.schema_tables.specs.Types.{Defs, base_of, field_on, root}
 use Rattle.relay_model.specs.Keys.{Text}
 
 abbrev pub Schema : Type 0

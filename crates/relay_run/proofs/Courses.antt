@@ -3,25 +3,25 @@ use Rattle.std.proofs.Common.{◌≡◌, ◌⊎◌, ◌↔◌, ◌≤◌, ◌+�
 use Rattle.std.specs.Io.KnownBytes.{IsAtEnd}
 use Rattle.std.proofs.lemmas.Bool.{false≢true}
 use Rattle.std.proofs.lemmas.List.{take_all}
-use Rattle.relay_io.specs.Streams.{appended, prepended}
-use Rattle.relay_io.proofs.Streaming.{appended-none}
+use Rattle.relay_io.specs.Streams.{append, prepend}
+use Rattle.relay_io.proofs.Streaming.{append-none}
 use Rattle.relay_model.specs.Keys.{Text}
 use Rattle.relay_model.specs.Machine.{Project}
 use Rattle.relay_model.specs.Printed.{project_fault}
 use Rattle.relay_run.specs.Answers.{unknown, refused, accepted, due, Ran, EndsLine, IsWhole}
-use Rattle.relay_run.specs.Output.{max_script, written, has_refusal}
+use Rattle.relay_run.specs.Output.{max_script, output_text, has_refusal}
 use Rattle.relay_run.specs.Statuses.{IsDone}
 use Rattle.relay_run.specs.Words.{Form, run}
 use Rattle.relay_run.specs.declared.status.Status.{Status}
 use Rattle.relay_run.specs.declared.status.Status.TheVariants.{DoneWithRefusals, ProjectRefused, ReadFault, WriteFault, NoMemory, ScriptTooLong}
 
-pub nothing_given : (told : Option Text) → told ≡ prepended [] told
+pub nothing_given : (told : Option Text) → told ≡ prepend [] told
 nothing_given None = refl
 nothing_given (Some xs) = refl
 
 -- no line is answered
 pub ran_unanswered : (form : Form) (p : Project) (status : Status) (left left_now : Option Text) (reads reads_now : ℕ) (held : Option Text) (puts : ℕ) (given : Text)
-    → left ≡ prepended given left_now → reads_now ≤ reads + length given + 1 → length given ≤ max_script + 1
+    → left ≡ prepend given left_now → reads_now ≤ reads + length given + 1 → length given ≤ max_script + 1
     → (length given ≡ max_script + 1 → (status ≡ ScriptTooLong) ⊎ ((status ≡ WriteFault) ⊎ (status ≡ NoMemory)))
     → (status ≡ ScriptTooLong → length given ≡ max_script + 1)
     → (IsWhole status → ⊥)
@@ -42,7 +42,7 @@ ran_unanswered form p status left left_now reads reads_now held puts given is mo
   reads_most = most;
   unread = tt;
   added = [];
-  adds = sym (appended-none held);
+  adds = sym (append-none held);
   puts_most = omega arith;
   unwritten = tt;
   ends = inr (inl refl);
@@ -63,10 +63,10 @@ not_other status other a b c form e = elim form [
 
 -- the lines are answered, as far as they are
 pub ran_answered : (buffer : ℕ) (schema : Text) (documents : List Text) (p : Project) (status : Status) (left left_now : Option Text) (reads reads_now : ℕ) (held held_now : Option Text) (puts puts_now : ℕ) (given : Text)
-    → left ≡ prepended given left_now → reads_now ≤ reads + length given + 1 → length given ≤ max_script → IsAtEnd left_now
+    → left ≡ prepend given left_now → reads_now ≤ reads + length given + 1 → length given ≤ max_script → IsAtEnd left_now
     → IsAnswered status
-    → (added : Text) × (held_now ≡ appended held added) × (puts_now ≤ puts + length added + 1) × ((status ≡ WriteFault) ⊎ EndsLine added)
-    × (more : Text) × (added ++ more ≡ written p buffer given true) × (IsDone status → more ≡ [])
+    → (added : Text) × (held_now ≡ append held added) × (puts_now ≤ puts + length added + 1) × ((status ≡ WriteFault) ⊎ EndsLine added)
+    × (more : Text) × (added ++ more ≡ output_text p buffer given true) × (IsDone status → more ≡ [])
     → (IsDone status → (status ≡ DoneWithRefusals) ↔ IsTrue (has_refusal p buffer given))
     → Ran (run buffer schema documents) (accepted p) status left left_now reads reads_now held held_now puts puts_now
 ran_answered buffer schema documents p status left left_now reads reads_now held held_now puts puts_now given is most within at_end kind w refusals = record {
@@ -90,7 +90,7 @@ ran_answered buffer schema documents p status left left_now reads reads_now held
   unwritten = tt;
   ends = w.3;
   more = w.4;
-  part = w.5 ∙ ap (λ t. written p buffer t true) (sym (take_all max_script given within));
+  part = w.5 ∙ ap (λ t. output_text p buffer t true) (sym (take_all max_script given within));
   whole = λ d. elim d [
     | inl done ↦ w.6 done
     | inr e ↦ absurd (not_other status ProjectRefused (λ d. d) (λ x. cc) (λ x. cc) kind e)
@@ -116,7 +116,7 @@ not_done status sink form d = elim form [
 -- the line of the project's fault is put, as far as it is
 pub ran_refused : (form : Form) (file : Text) (line column : ℕ) (rule : Text) (status : Status) (sink : Type 0) (left : Option Text) (reads : ℕ) (held held_now : Option Text) (puts puts_now : ℕ)
     → IsRefused status sink
-    → (added : Text) × (held_now ≡ appended held added) × (puts_now ≤ puts + length added + 1) × ((status ≡ WriteFault) ⊎ EndsLine added)
+    → (added : Text) × (held_now ≡ append held added) × (puts_now ≤ puts + length added + 1) × ((status ≡ WriteFault) ⊎ EndsLine added)
     × (more : Text) × (added ++ more ≡ project_fault file line column rule) × (status ≡ ProjectRefused → more ≡ [])
     → Ran form (refused file line column rule) status left left reads reads held held_now puts puts_now
 ran_refused form file line column rule status sink left reads held held_now puts puts_now kind w = record {
@@ -164,7 +164,7 @@ ran_unknown form status left reads held puts kind = record {
   reads_most = omega arith;
   unread = (refl, refl);
   added = [];
-  adds = sym (appended-none held);
+  adds = sym (append-none held);
   puts_most = omega arith;
   unwritten = (refl, refl);
   ends = inr (inl refl);

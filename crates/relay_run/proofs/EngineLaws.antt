@@ -2,26 +2,26 @@
 use Rattle.std.proofs.Common.{◌==◌, ◌≡◌, List, [], ◌∷◌, ◌++◌, length, Bool, true, false, ◌||◌, cond, codes, Some, is_some, String as Str, Global, suc, refl, sym, ap, ◌∙◌}
 use Rattle.std.specs.Prelude.{ℕ}
 use Rattle.relay_model.specs.Keys.{Text}
-use Rattle.relay_model.specs.Machine.{Project, State, accept, refuse, confirm, folded, base, under, is_live, max_handles, retain_with, step_retain}
+use Rattle.relay_model.specs.Machine.{Project, State, accept, refuse, confirm, fold_entries, base, under, is_live, max_handles, retain_with, step_retain}
 use Rattle.relay_model.specs.Payload.{Said}
-use Rattle.relay_model.specs.Printed.{done}
+use Rattle.relay_model.specs.Printed.{event_line}
 use Rattle.relay_model.specs.Refusals.{not_yet}
 use Rattle.relay_model.specs.Records as model
 use Rattle.relay_model.specs.Records.{Records, no_records, put_all}
 use Rattle.gql_ast.specs.Sels.{Sels}
-use Rattle.relay_run.specs.Shown.{named}
+use Rattle.relay_run.specs.Shown.{by_name}
 
-pub length-named : (es : List (Str Global × Sels)) → length (named es) ≡ length es
-length-named [] = refl
-length-named (e ∷ es) = ap (λ n. suc n) (length-named es)
+pub length-by_name : (es : List (Str Global × Sels)) → length (by_name es) ≡ length es
+length-by_name [] = refl
+length-by_name (e ∷ es) = ap (λ n. suc n) (length-by_name es)
 
-pub confirm-plain : (s : State) (n : ℕ) (said : Said) → said.plain ≡ true → confirm s n said ≡ accept (done (codes "payload") n) (record { entries = s.entries ++ said.facts ∷ []; handles = s.handles })
+pub confirm-plain : (s : State) (n : ℕ) (said : Said) → said.plain ≡ true → confirm s n said ≡ accept (event_line (codes "payload") n) (record { entries = s.entries ++ said.facts ∷ []; handles = s.handles })
 confirm-plain s n said plain =
-    ap (λ b. cond b (accept (done (codes "payload") n) (record { entries = s.entries ++ said.facts ∷ []; handles = s.handles })) (refuse n not_yet s)) plain
+    ap (λ b. cond b (accept (event_line (codes "payload") n) (record { entries = s.entries ++ said.facts ∷ []; handles = s.handles })) (refuse n not_yet s)) plain
 
-folded-push : (entries : List (List model.Fact)) (entry : List model.Fact) (records : Records) → folded (entries ++ entry ∷ []) records ≡ put_all entry (folded entries records)
-folded-push [] entry records = refl
-folded-push (e ∷ entries) entry records = folded-push entries entry (put_all e records)
+fold_entries-push : (entries : List (List model.Fact)) (entry : List model.Fact) (records : Records) → fold_entries (entries ++ entry ∷ []) records ≡ put_all entry (fold_entries entries records)
+fold_entries-push [] entry records = refl
+fold_entries-push (e ∷ entries) entry records = fold_entries-push entries entry (put_all e records)
 
 -- the records with the facts of one more entry
 pub base-confirmed : (old now : Records) (s : State) (facts entry : List model.Fact) (handles : List (Text × Sels)) → ((id key : Text) → old id key ≡ base s id key)
@@ -31,12 +31,12 @@ base-confirmed old now s facts entry handles before told same id key =
     let all : old ≡ base s = λ i a b. before a b i in
     told id key
     ∙ (λ i. put_all (same i) (all i) id key)
-    ∙ (λ i. sym (folded-push s.entries entry no_records) i id key)
+    ∙ (λ i. sym (fold_entries-push s.entries entry no_records) i id key)
 
 -- an operation starts under a handle
 pub step-started : (p : Project) (s : State) (n : ℕ) (handle operation : Text) (selections : Sels) → (is_live handle s || (length s.handles == max_handles)) ≡ false
     → under operation p.operations ≡ Some selections
-    → step_retain p s n handle operation ≡ accept (done (codes "retain") n) (record { entries = s.entries; handles = s.handles ++ (handle, selections) ∷ [] })
+    → step_retain p s n handle operation ≡ accept (event_line (codes "retain") n) (record { entries = s.entries; handles = s.handles ++ (handle, selections) ∷ [] })
 step-started p s n handle operation selections h found =
     ap (λ b. cond b (refuse n not_yet s) (retain_with (under operation p.operations) s n handle operation)) h ∙ ap (λ o. retain_with o s n handle operation) found
 
@@ -45,4 +45,4 @@ pub taken-so : (held now : List (Text × Sels)) (handle : Text) (b : Bool) → h
     → (is_some (under handle now) || (length now == max_handles)) ≡ b
 taken-so held now handle b same is = sym (is ∙ ap (λ h. is_some (under handle h) || (length h == max_handles)) same)
 
-pub ruleset lengths = (length-named)
+pub ruleset lengths = (length-by_name)

@@ -8,7 +8,7 @@ use Rattle.relay_io.specs.Files.{file_of, GivesFile, IsAbsent, IsTooLong}
 use Rattle.relay_model.specs.Keys.{Text}
 use Rattle.relay_model.specs.Machine.{Project}
 use Rattle.relay_run.specs.Answers.{IsTheProjectOf, IsTheFaultOf}
-use Rattle.relay_run.specs.Files.{Files, Given, absent, too_long, told, within, found, documents_from, given, max_file, max_all, name_of, IsFault, IsProject}
+use Rattle.relay_run.specs.Files.{Files, Contents, absent, too_long, readable, within, take_file, documents_from, contents_of, max_file, max_all, name_of, IsFault, IsProject}
 use Rattle.relay_run.specs.Reads.{GivesDocuments, GivesFiles, IsDocumentAbsent, GoesOn, IsFileClosedBy, AreClosedBy}
 use Rattle.relay_run.specs.Rules.{rule_text}
 use Rattle.relay_run.specs.Verdicts.{AreOnlyProject, HaveOnlyFault, AreProjectFiles, AreRefusedFiles}
@@ -16,11 +16,11 @@ use Rattle.relay_run.specs.Words.{Form, run}
 use Rattle.relay_run.specs.declared.files.Closed.{Closed}
 use Rattle.relay_run.specs.declared.files.Closed.TheVariants as C
 use Rattle.relay_run.specs.declared.interim.project.ProjectRefusal.TheVariants.{Fault, NotTaken}
-use Rattle.schema_types.specs.declared.fault.ProjectFault.{ProjectFault}
+use Rattle.schema_rules.specs.declared.fault.ProjectFault.{ProjectFault}
 
 -- ---- one file
 
-module _ (name : Text) (left : ℕ) (next : Text → Given) where
+module _ (name : Text) (left : ℕ) (next : Text → Contents) where
   within_is : (bytes : Text) → length bytes ≤ min max_file left → within name left bytes next ≡ next bytes
   within_is bytes h = ap (λ b. cond b (next bytes) (too_long name)) (le-leb (length bytes) (min max_file left) h)
 
@@ -31,13 +31,13 @@ module _ (name : Text) (left : ℕ) (next : Text → Given) where
       by true e = absurd (omega (arith, h, leb-true (length bytes) (min max_file left) e))
       by false e = ap (λ b. cond b (next bytes) (too_long name)) e
 
-  pub found_is : (o : Option Text) (bytes : Text) → o ≡ Some bytes → length bytes ≤ min max_file left → found name left o next ≡ next bytes
-  found_is o bytes e h = ap (λ x. found name left x next) e ∙ within_is bytes h
+  pub found_is : (o : Option Text) (bytes : Text) → o ≡ Some bytes → length bytes ≤ min max_file left → take_file name left o next ≡ next bytes
+  found_is o bytes e h = ap (λ x. take_file name left x next) e ∙ within_is bytes h
 
-  pub found_none : (o : Option Text) → o ≡ None → found name left o next ≡ absent
-  found_none o e = ap (λ x. found name left x next) e
+  pub found_none : (o : Option Text) → o ≡ None → take_file name left o next ≡ absent
+  found_none o e = ap (λ x. take_file name left x next) e
 
-  pub found_over : (o : Option Text) → IsSomeAnd o (λ bytes. min max_file left < length bytes) → found name left o next ≡ too_long name
+  pub found_over : (o : Option Text) → IsSomeAnd o (λ bytes. min max_file left < length bytes) → take_file name left o next ≡ too_long name
   found_over None h = absurd h
   found_over (Some bytes) h = over_is bytes h
 
@@ -139,7 +139,7 @@ keeps_all files schema names (first ∷ documents) left rest e h =
     (h.0, told_all files (subst (GoesOn files (max_all - length schema.1) names (plan.texts_of documents) left) e h.1), omega (arith, count, none))
   where
     told_all : (fs : Option Files) → GoesOn fs (max_all - length schema.1) names (plan.texts_of documents) left []
-        → GivesDocuments fs (max_all - length schema.1) names (λ s. told s (plan.texts_of documents))
+        → GivesDocuments fs (max_all - length schema.1) names (λ s. readable s (plan.texts_of documents))
     told_all None g = tt
     told_all (Some told_files) g = g
 
@@ -150,10 +150,10 @@ files_given files schema names (first ∷ documents) h = ap suc h.2
 -- ---- all files
 
 module _ (files : Files) (form : Form) where
-  fault_of_texts : (schema : Text) (texts : List Text) (n line column : ℕ) (rule : Text) → given form files ≡ told schema texts
+  fault_of_texts : (schema : Text) (texts : List Text) (n line column : ℕ) (rule : Text) → contents_of form files ≡ readable schema texts
       → HaveOnlyFault schema texts n line column rule → IsTheFaultOf (Some files) form (name_of form n) line column rule
   fault_of_texts schema texts n line column rule e h =
-      let P : Given → Type 0 = λ x. IsFault form x (name_of form n) line column rule
+      let P : Contents → Type 0 = λ x. IsFault form x (name_of form n) line column rule
       × ((f : Text) (l c : ℕ) (r : Text) → IsFault form x f l c r → ◌≡◌ {A = Text × ℕ × ℕ × Text} (f, l, c, r) (name_of form n, line, column, rule))
       × ((project : Project) → IsProject x project → ⊥) in
       subst P (sym e) (
@@ -162,10 +162,10 @@ module _ (files : Files) (form : Form) where
         h.none,
       )
 
-  project_of_texts : (schema : Text) (texts : List Text) (p : Project) → given form files ≡ told schema texts → AreOnlyProject schema texts p
+  project_of_texts : (schema : Text) (texts : List Text) (p : Project) → contents_of form files ≡ readable schema texts → AreOnlyProject schema texts p
       → IsTheProjectOf (Some files) form p
   project_of_texts schema texts p e h =
-      let P : Given → Type 0 = λ x. IsProject x p × ((other : Project) → IsProject x other → other ≡ p)
+      let P : Contents → Type 0 = λ x. IsProject x p × ((other : Project) → IsProject x other → other ≡ p)
       × ((file : Text) (line column : ℕ) (rule : Text) → IsFault form x file line column rule → ⊥) in
       subst P (sym e) (h.is, h.only, λ file line column rule x. h.sound x.0 line column rule x.2)
 
@@ -175,16 +175,16 @@ module _ (buffer : ℕ) (name : Text) (names : List Text) (schema : Text) where
   form_given = run buffer name names
 
   given_after : (files : Files) → file_of name files ≡ Some schema → length schema ≤ min max_file max_all
-      → given form_given files ≡ documents_from files schema [] (max_all - length schema) names
+      → contents_of form_given files ≡ documents_from files schema [] (max_all - length schema) names
   given_after files e h = found_is name max_all (λ s. documents_from files s [] (max_all - length s) names) (file_of name files) schema e h
 
   pub project_given : (files : Option Files) (texts : List Text) (p : Project) → GivesFile files name schema → length schema ≤ min max_file max_all
-      → GivesDocuments files (max_all - length schema) names (λ s. told s texts) → AreOnlyProject schema texts p → IsTheProjectOf files form_given p
+      → GivesDocuments files (max_all - length schema) names (λ s. readable s texts) → AreOnlyProject schema texts p → IsTheProjectOf files form_given p
   project_given None texts p e h g x = tt
   project_given (Some files) texts p e h g x = project_of_texts files form_given schema texts p (given_after files e h ∙ g schema) x
 
   pub fault_given : (files : Option Files) (texts : List Text) (n line column : ℕ) (rule : Text) → GivesFile files name schema → length schema ≤ min max_file max_all
-      → GivesDocuments files (max_all - length schema) names (λ s. told s texts) → HaveOnlyFault schema texts n line column rule
+      → GivesDocuments files (max_all - length schema) names (λ s. readable s texts) → HaveOnlyFault schema texts n line column rule
       → IsTheFaultOf files form_given (name_of form_given n) line column rule
   fault_given None texts n line column rule e h g x = tt
   fault_given (Some files) texts n line column rule e h g x = fault_of_texts files form_given schema texts n line column rule (given_after files e h ∙ g schema) x
@@ -198,21 +198,21 @@ module _ (buffer : ℕ) (name : Text) (names : List Text) (schema : Text × Text
   Opened here kept = (fs ≡ files) × (here ≡ kept) × GivesFile files name schema.1 × (length schema.1 ≤ min max_file max_all) × GivesFiles fs schema names kept
 
   abbrev given_documents : List Text → Type 0
-  given_documents texts = GivesDocuments files (max_all - length schema.1) names (λ s. told s texts)
+  given_documents texts = GivesDocuments files (max_all - length schema.1) names (λ s. readable s texts)
 
   pub project_opened : (here kept : plan.Files) (p : Project) → Opened here kept → AreProjectFiles here p → IsTheProjectOf files form_opened p
   project_opened here [] p o x = absurd o.4
   project_opened here (first ∷ documents) p o x =
       let texts = plan.texts_of documents in
       let only : AreOnlyProject first.1 texts p = subst (λ fs. AreProjectFiles fs p) o.1 x in
-      let told_here : given_documents texts = subst (λ f. GivesDocuments f (max_all - length schema.1) names (λ s. told s texts)) o.0 o.4.1 in
+      let told_here : given_documents texts = subst (λ f. GivesDocuments f (max_all - length schema.1) names (λ s. readable s texts)) o.0 o.4.1 in
       project_given buffer name names schema.1 files texts p o.2 o.3 told_here (subst (λ (s : Text × Text). AreOnlyProject s.1 texts p) o.4.0 only)
 
   found_opened : (first : Text × Text) (documents : plan.Files) (n line column : ℕ) (rule : Text) → (fs ≡ files) × GivesFile files name schema.1 × (length schema.1 ≤ min max_file max_all)
       × GivesFiles fs schema names (first ∷ documents) → HaveOnlyFault first.1 (plan.texts_of documents) n line column rule → IsTheFaultOf files form_opened (name_of form_opened n) line column rule
   found_opened first documents n line column rule o x =
       let texts = plan.texts_of documents in
-      let told_here : given_documents texts = subst (λ f. GivesDocuments f (max_all - length schema.1) names (λ s. told s texts)) o.0 o.3.1 in
+      let told_here : given_documents texts = subst (λ f. GivesDocuments f (max_all - length schema.1) names (λ s. readable s texts)) o.0 o.3.1 in
       fault_given buffer name names schema.1 files texts n line column rule o.1 o.2 told_here (subst (λ (s : Text × Text). HaveOnlyFault s.1 texts n line column rule) o.3.0 x)
 
   pub fault_opened : (here kept : plan.Files) (f : ProjectFault) → Opened here kept → AreRefusedFiles here (Fault f) → IsTheFaultOf files form_opened (name_of form_opened f.file) f.line f.column (rule_text f.rule)

@@ -3,12 +3,12 @@ use Rattle.std.proofs.Common.{◌≡◌, ◌⊎◌, ◌↔◌, ◌≤◌, ◌+�
 use Rattle.std.specs.Io.KnownBytes.{IsAtEnd}
 use Rattle.std.proofs.lemmas.Bool.{cases_eq}
 use Rattle.std.proofs.lemmas.List.{append-nil, take_all}
-use Rattle.relay_io.specs.Streams.{appended, prepended}
+use Rattle.relay_io.specs.Streams.{append, prepend}
 use Rattle.relay_model.specs.Keys.{Text}
 use Rattle.relay_model.specs.Machine.{Project}
 use Rattle.relay_model.specs.Printed.{project_fault}
 use Rattle.relay_run.specs.Answers.{Course, unknown, refused, accepted, IsCourse, IsTheProjectOf, IsTheFaultOf, Answering, Ran, Took, due, refuses, left_over, IsReadWhole, IsScriptFor, IsUntouched}
-use Rattle.relay_run.specs.Files.{Files, Given, absent, given, IsProject, IsFault, IsFirstAbsent}
+use Rattle.relay_run.specs.Files.{Files, Contents, absent, contents_of, IsProject, IsFault, IsFirstAbsent}
 use Rattle.relay_run.specs.Output.{max_script}
 use Rattle.relay_run.specs.Statuses.{IsDone}
 use Rattle.relay_run.specs.Words.{Form, run}
@@ -16,29 +16,29 @@ use Rattle.relay_run.specs.declared.status.Status.{Status}
 use Rattle.relay_run.specs.declared.status.Status.TheVariants.{DoneWithRefusals, ProjectRefused, ReadFault, WriteFault, NoMemory, ScriptTooLong}
 use Rattle.relay_run.proofs.Courses.{not_done}
 
-all_given : (bytes taken : Text) (after : Option Text) → Some bytes ≡ prepended taken after → IsAtEnd after → (after ≡ Some []) × (taken ≡ bytes)
+all_given : (bytes taken : Text) (after : Option Text) → Some bytes ≡ prepend taken after → IsAtEnd after → (after ≡ Some []) × (taken ≡ bytes)
 all_given bytes taken None is at_end = absurd (cc)
 all_given bytes taken (Some xs) is at_end =
     let joined : bytes ≡ taken ++ xs = cc in
     (ap Some at_end, sym (joined ∙ ap (λ x. taken ++ x) at_end ∙ append-nil taken))
 
-given_within : (bytes taken : Text) (after : Option Text) → Some bytes ≡ prepended taken after → length taken ≤ length bytes
+given_within : (bytes taken : Text) (after : Option Text) → Some bytes ≡ prepend taken after → length taken ≤ length bytes
 given_within bytes taken None is = absurd (cc)
 given_within bytes taken (Some xs) is =
     let joined : bytes ≡ taken ++ xs = cc in omega (arith, ap length joined, length-append taken xs)
 
-no_course : (given : Given) (project : Project) → given ≡ absent → IsProject given project → ⊥
-no_course given project e is = let P : Given → Type 0 = λ x. IsProject x project in subst P e is
+no_course : (given : Contents) (project : Project) → given ≡ absent → IsProject given project → ⊥
+no_course given project e is = let P : Contents → Type 0 = λ x. IsProject x project in subst P e is
 
-no_faults : (form : Form) (given : Given) (file : Text) (line column : ℕ) (rule : Text) → given ≡ absent → IsFault form given file line column rule → ⊥
-no_faults form given file line column rule e is = let P : Given → Type 0 = λ x. IsFault form x file line column rule in subst P e is
+no_faults : (form : Form) (given : Contents) (file : Text) (line column : ℕ) (rule : Text) → given ≡ absent → IsFault form given file line column rule → ⊥
+no_faults form given file line column rule e is = let P : Contents → Type 0 = λ x. IsFault form x file line column rule in subst P e is
 
 -- all of a script was read as far as the form reads it
 read_whole : (form : Form) (taken : Text) (after : Option Text) → IsAtEnd after → length taken ≤ max_script → IsReadWhole form taken after
 read_whole (run buffer schema documents) taken after at_end within = (at_end, within)
 
 -- a script that is told is read whole, and what the form leaves of it is left
-all_read : (form : Form) (bytes taken : Text) (after : Option Text) → Some bytes ≡ prepended taken after → IsReadWhole form taken after → (after ≡ Some (left_over form bytes)) × (taken ≡ bytes)
+all_read : (form : Form) (bytes taken : Text) (after : Option Text) → Some bytes ≡ prepend taken after → IsReadWhole form taken after → (after ≡ Some (left_over form bytes)) × (taken ≡ bytes)
 all_read (run buffer schema documents) bytes taken after is whole = all_given bytes taken after is whole.0
 
 script_within : (form : Form) (bytes : Text) → IsScriptFor form bytes → length bytes ≤ max_script
@@ -62,7 +62,7 @@ module _ (status : Status) (script sink : Type 0) (left left_now : Option Text) 
 
   abbrev IsWholeOf : Form → Project → Text → Type 0
   IsWholeOf form p taken =
-      (left ≡ prepended taken left_now) × IsReadWhole form taken left_now × (held_now ≡ appended held (due form (accepted p) taken true))
+      (left ≡ prepend taken left_now) × IsReadWhole form taken left_now × (held_now ≡ append held (due form (accepted p) taken true))
       × ((status ≡ DoneWithRefusals) ↔ IsTrue (refuses form (accepted p) taken))
 
   -- in a course that is accepted, where the work is done
@@ -73,11 +73,11 @@ module _ (status : Status) (script sink : Type 0) (left left_now : Option Text) 
       ap (λ e. due form (accepted p) (take max_script r.taken) e) (r.took.done done) ∙ ap (λ t. due form (accepted p) t true) (take_all max_script r.taken within) in
       let added_is : r.added ≡ due form (accepted p) r.taken true =
       sym (append-nil r.added) ∙ ap (λ m. r.added ++ m) (sym (r.whole (inl done))) ∙ r.part ∙ due_is in
-      (r.taken, (r.took.is, read_whole form r.taken left_now (r.took.end (r.took.done done)) within, r.adds ∙ ap (appended held) added_is, r.refusals done))
+      (r.taken, (r.took.is, read_whole form r.taken left_now (r.took.end (r.took.done done)) within, r.adds ∙ ap (append held) added_is, r.refusals done))
 
   abbrev IsDoneOf : Form → Project → Text → Type 0
   IsDoneOf form project bytes =
-      (left_now ≡ Some (left_over form bytes)) × (held_now ≡ appended held (due form (accepted project) bytes true))
+      (left_now ≡ Some (left_over form bytes)) × (held_now ≡ append held (due form (accepted project) bytes true))
       × ((status ≡ DoneWithRefusals) ↔ IsTrue (refuses form (accepted project) bytes))
 
   done_of : (form : Form) (p : Project) (bytes : Text) → left ≡ Some bytes → Ran form (accepted p) status left left_now reads reads_now held held_now puts puts_now → IsDone status
@@ -85,7 +85,7 @@ module _ (status : Status) (script sink : Type 0) (left left_now : Option Text) 
   done_of form p bytes told r done =
       let w = whole_of form p r done in
       let all = all_read form bytes w.0 left_now (sym told ∙ w.1.0) w.1.1 in
-      let P : Text → Type 0 = λ t. (held_now ≡ appended held (due form (accepted p) t true)) × ((status ≡ DoneWithRefusals) ↔ IsTrue (refuses form (accepted p) t)) in
+      let P : Text → Type 0 = λ t. (held_now ≡ append held (due form (accepted p) t true)) × ((status ≡ DoneWithRefusals) ↔ IsTrue (refuses form (accepted p) t)) in
       let is = subst P all.1 (w.1.2, w.1.3) in
       (all.0, is.0, is.1)
 
@@ -101,7 +101,7 @@ module _ (status : Status) (script sink : Type 0) (left left_now : Option Text) 
 
   pub owed_whole : (files : Option Files) (form : Form) (vault : Type 0) → Called files form vault → IsDone status
       → (project : Project) × IsTheProjectOf files form project
-      × (taken : Text) × (left ≡ prepended taken left_now) × IsReadWhole form taken left_now × (held_now ≡ appended held (due form (accepted project) taken true))
+      × (taken : Text) × (left ≡ prepend taken left_now) × IsReadWhole form taken left_now × (held_now ≡ append held (due form (accepted project) taken true))
       × ((status ≡ DoneWithRefusals) ↔ IsTrue (refuses form (accepted project) taken))
   owed_whole files form vault w done =
       let d = whole_in files form vault w.0 w.1 w.2 w.3 done in
@@ -109,7 +109,7 @@ module _ (status : Status) (script sink : Type 0) (left left_now : Option Text) 
 
   done_in : (files : Files) (form : Form) (vault : Type 0) (project : Project) (bytes : Text) (course : Course) → IsCourse (Some files) form course
       → Answering course status (vault ⊎ IsFirstAbsent (Some files) form) script sink → Ran form course status left left_now reads reads_now held held_now puts puts_now
-      → IsProject (given form files) project → left ≡ Some bytes → IsDone status → IsDoneOf form project bytes
+      → IsProject (contents_of form files) project → left ≡ Some bytes → IsDone status → IsDoneOf form project bytes
   done_in files form vault project bytes unknown is answering r has told done = absurd (elim answering [
     | inl e ↦ let d : ⊥ = subst IsDone e.0 done in d
     | inr e ↦ let d : ⊥ = subst IsDone e done in d
@@ -120,18 +120,18 @@ module _ (status : Status) (script sink : Type 0) (left left_now : Option Text) 
       subst P (sym (is.1 project has)) (done_of form p bytes told r done)
 
   pub owed_done : (files : Files) (form : Form) (vault : Type 0) (project : Project) (bytes : Text) → Called (Some files) form vault
-      → IsProject (given form files) project → left ≡ Some bytes → IsDone status
-      → (left_now ≡ Some (left_over form bytes)) × (held_now ≡ appended held (due form (accepted project) bytes true)) × ((status ≡ DoneWithRefusals) ↔ IsTrue (refuses form (accepted project) bytes))
+      → IsProject (contents_of form files) project → left ≡ Some bytes → IsDone status
+      → (left_now ≡ Some (left_over form bytes)) × (held_now ≡ append held (due form (accepted project) bytes true)) × ((status ≡ DoneWithRefusals) ↔ IsTrue (refuses form (accepted project) bytes))
   owed_done files form vault project bytes w has told done = done_in files form vault project bytes w.0 w.1 w.2 w.3 has told done
 
   abbrev IsComplete : Form → Project → Text → Type 0
-  IsComplete form project bytes = (status ≡ NoMemory) ⊎ (IsDone status × (left_now ≡ Some (left_over form bytes)) × (held_now ≡ appended held (due form (accepted project) bytes true)))
+  IsComplete form project bytes = (status ≡ NoMemory) ⊎ (IsDone status × (left_now ≡ Some (left_over form bytes)) × (held_now ≡ append held (due form (accepted project) bytes true)))
 
   complete_in : (files : Files) (form : Form) (vault : Type 0) (project : Project) (bytes : Text) (course : Course) → IsCourse (Some files) form course
       → Answering course status (vault ⊎ IsFirstAbsent (Some files) form) script sink → Ran form course status left left_now reads reads_now held held_now puts puts_now
-      → IsProject (given form files) project → left ≡ Some bytes → IsScriptFor form bytes → (vault → ⊥) → (script → ⊥) → (sink → ⊥) → IsComplete form project bytes
+      → IsProject (contents_of form files) project → left ≡ Some bytes → IsScriptFor form bytes → (vault → ⊥) → (script → ⊥) → (sink → ⊥) → IsComplete form project bytes
   complete_in files form vault project bytes unknown is answering r has told within a b c = elim answering [
-    | inl e ↦ absurd (elim e.1 [ inl v ↦ a v | inr none ↦ no_course (given form files) project none has ])
+    | inl e ↦ absurd (elim e.1 [ inl v ↦ a v | inr none ↦ no_course (contents_of form files) project none has ])
     | inr e ↦ inl e
   ]
   complete_in files form vault project bytes (refused f l k g) is answering r has told within a b c = absurd (is.2 project has)
@@ -153,12 +153,12 @@ module _ (status : Status) (script sink : Type 0) (left left_now : Option Text) 
   ]
 
   pub owed_complete : (files : Files) (form : Form) (vault : Type 0) (project : Project) (bytes : Text) → Called (Some files) form vault
-      → IsProject (given form files) project → left ≡ Some bytes → IsScriptFor form bytes → (vault → ⊥) → (script → ⊥) → (sink → ⊥) → IsComplete form project bytes
+      → IsProject (contents_of form files) project → left ≡ Some bytes → IsScriptFor form bytes → (vault → ⊥) → (script → ⊥) → (sink → ⊥) → IsComplete form project bytes
   owed_complete files form vault project bytes w has told within a b c = complete_in files form vault project bytes w.0 w.1 w.2 w.3 has told within a b c
 
   abbrev IsFaulty : (file : Text) → (line column : ℕ) → (rule : Text) → Type 0 → Type 0
   IsFaulty file line column rule vault =
-      ((status ≡ ProjectRefused) × (held_now ≡ appended held (project_fault file line column rule)))
+      ((status ≡ ProjectRefused) × (held_now ≡ append held (project_fault file line column rule)))
       ⊎ (((status ≡ ReadFault) × vault) ⊎ ((status ≡ WriteFault) ⊎ (status ≡ NoMemory)))
 
   abbrev Fault : Type 0
@@ -168,16 +168,16 @@ module _ (status : Status) (script sink : Type 0) (left left_now : Option Text) 
   fault_text x = project_fault x.0 x.1 x.2 x.3
 
   refused_whole : (form : Form) (x y : Fault) → x ≡ y → Ran form (refused y.0 y.1 y.2 y.3) status left left_now reads reads_now held held_now puts puts_now → status ≡ ProjectRefused
-      → held_now ≡ appended held (fault_text x)
+      → held_now ≡ append held (fault_text x)
   refused_whole form x y same r e =
       let added_is : r.added ≡ fault_text y = sym (append-nil r.added) ∙ ap (λ m. r.added ++ m) (sym (r.whole (inr e))) ∙ r.part in
-      r.adds ∙ ap (appended held) (added_is ∙ sym (ap fault_text same))
+      r.adds ∙ ap (append held) (added_is ∙ sym (ap fault_text same))
 
   faulty_in : (files : Files) (form : Form) (vault : Type 0) (file : Text) (line column : ℕ) (rule : Text) (course : Course) → IsCourse (Some files) form course
       → Answering course status (vault ⊎ IsFirstAbsent (Some files) form) script sink → Ran form course status left left_now reads reads_now held held_now puts puts_now
-      → IsFault form (given form files) file line column rule → IsFaulty file line column rule vault
+      → IsFault form (contents_of form files) file line column rule → IsFaulty file line column rule vault
   faulty_in files form vault file line column rule unknown is answering r fault = elim answering [
-    | inl e ↦ elim e.1 [ inl v ↦ inr (inl (e.0, v)) | inr none ↦ absurd (no_faults form (given form files) file line column rule none fault) ]
+    | inl e ↦ elim e.1 [ inl v ↦ inr (inl (e.0, v)) | inr none ↦ absurd (no_faults form (contents_of form files) file line column rule none fault) ]
     | inr e ↦ inr (inr (inr e))
   ]
   faulty_in files form vault file line column rule (refused f l k g) is answering r fault =
@@ -188,7 +188,7 @@ module _ (status : Status) (script sink : Type 0) (left left_now : Option Text) 
   faulty_in files form vault file line column rule (accepted p) is answering r fault = absurd (is.2 file line column rule fault)
 
   pub owed_faulty : (files : Files) (form : Form) (vault : Type 0) (file : Text) (line column : ℕ) (rule : Text) → Called (Some files) form vault
-      → IsFault form (given form files) file line column rule → IsFaulty file line column rule vault
+      → IsFault form (contents_of form files) file line column rule → IsFaulty file line column rule vault
   owed_faulty files form vault file line column rule w fault = faulty_in files form vault file line column rule w.0 w.1 w.2 w.3 fault
 
   other_than : (this other : Status) → (this ≡ other → ⊥) → status ≡ other → status ≡ this → ⊥
@@ -210,7 +210,7 @@ module _ (status : Status) (script sink : Type 0) (left left_now : Option Text) 
 
   abbrev HasFault : Option Files → Form → Type 0
   HasFault files form =
-      (file : Text) × (line : ℕ) × (column : ℕ) × (rule : Text) × IsTheFaultOf files form file line column rule × (held_now ≡ appended held (project_fault file line column rule))
+      (file : Text) × (line : ℕ) × (column : ℕ) × (rule : Text) × IsTheFaultOf files form file line column rule × (held_now ≡ append held (project_fault file line column rule))
 
   abbrev IsUnread : Type 0
   IsUnread = IsUntouched left left_now reads reads_now
@@ -231,7 +231,7 @@ module _ (status : Status) (script sink : Type 0) (left left_now : Option Text) 
       read_fault_is x = cc
 
   pub owed_refused : (files : Option Files) (form : Form) (vault : Type 0) → Called files form vault → status ≡ ProjectRefused
-      → (file : Text) × (line : ℕ) × (column : ℕ) × (rule : Text) × IsTheFaultOf files form file line column rule × (held_now ≡ appended held (project_fault file line column rule))
+      → (file : Text) × (line : ℕ) × (column : ℕ) × (rule : Text) × IsTheFaultOf files form file line column rule × (held_now ≡ append held (project_fault file line column rule))
   owed_refused files form vault w e = (refused_in files form vault w.0 w.1 w.2 w.3 e).0
 
   pub owed_unread : (files : Option Files) (form : Form) (vault : Type 0) → Called files form vault → status ≡ ProjectRefused → (left_now ≡ left) × (reads_now ≡ reads)

@@ -8,17 +8,17 @@ use Rattle.relay_model.specs.Keys.{Text}
 use Rattle.relay_model.specs.Machine.{under}
 use Rattle.relay_run.proofs.Storing.{bytes_eq-sym}
 use Rattle.relay_run.specs.Plain.{is_plain_query, named_query, with_query}
-use Rattle.relay_run.specs.Shown.{named}
-use Rattle.schema_types.specs.Types.{Defs}
+use Rattle.relay_run.specs.Shown.{by_name}
+use Rattle.schema_tables.specs.Types.{Defs}
 
 -- what stands under a name, among names that are kept
-pub lookup-named : (name : Text) (es : List (Str Global × Sels)) → lookup (λ k. bytes_eq name (string_bytes k)) es ≡ under name (named es)
-lookup-named name [] = refl
-lookup-named name (e ∷ es) = ap (λ o. cond (bytes_eq name (string_bytes e.0)) (Some e.1) o) (lookup-named name es)
+pub lookup-by_name : (name : Text) (es : List (Str Global × Sels)) → lookup (λ k. bytes_eq name (string_bytes k)) es ≡ under name (by_name es)
+lookup-by_name name [] = refl
+lookup-by_name name (e ∷ es) = ap (λ o. cond (bytes_eq name (string_bytes e.0)) (Some e.1) o) (lookup-by_name name es)
 
-pub named-append : (es fs : List (Str Global × Sels)) → named (es ++ fs) ≡ named es ++ named fs
-named-append [] fs = refl
-named-append (e ∷ es) fs = ap (λ ts. (string_bytes e.0, e.1) ∷ ts) (named-append es fs)
+pub by_name-append : (es fs : List (Str Global × Sels)) → by_name (es ++ fs) ≡ by_name es ++ by_name fs
+by_name-append [] fs = refl
+by_name-append (e ∷ es) fs = ap (λ ts. (string_bytes e.0, e.1) ∷ ts) (by_name-append es fs)
 
 is_some-cond : {A : Type 0} (b : Bool) (x : A) (o : Option A) → is_some (cond b (Some x) o) ≡ (b || is_some o)
 is_some-cond true x o = refl

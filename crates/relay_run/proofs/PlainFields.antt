@@ -21,8 +21,8 @@ use Rattle.relay_run.proofs.Saying.{drop_cons_at}
 use Rattle.relay_run.specs.Plain.{is_plain_field, is_object_type, is_leaf_type, field_names, are_plain_fields}
 use Rattle.relay_run.specs.PlainParts.{is_named_object, none_is_needed, is_plain_def, is_bare, is_plain_set}
 use Rattle.relay_run.specs.Said.{has_text}
-use Rattle.schema_types.specs.Fits.{is_required}
-use Rattle.schema_types.specs.Types.{Defs, field_def, input_def}
+use Rattle.schema_tables.specs.Fits.{is_required}
+use Rattle.schema_tables.specs.Types.{Defs, field_def, input_def}
 
 -- ---- fields
 

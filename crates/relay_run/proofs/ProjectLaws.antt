@@ -1,6 +1,6 @@
 -- What the forms that are taken add to the verdict on a project: accepted files are one project or have the fault of one document, and
 -- files that break a rule have no other fault.
-use Rattle.std.proofs.Common.{◌≡◌, ◌+◌, ◌∷◌, ℕ, suc, codes, List, [], length, refl, sym, ap, inl, inr, ◌∙◌, arith}
+use Rattle.std.proofs.Common.{◌≡◌, ◌+◌, ◌∷◌, ℕ, suc, codes, List, [], length, refl, sym, ap, subst, inl, inr, ◌∙◌, arith}
 use Rattle.gql_ast.specs.Sels.{Sels}
 use Rattle.gql_ast.specs.declared.document.Document.{Document}
 use Rattle.gql_ast.specs.declared.place.Placed.{Placed}
@@ -14,8 +14,8 @@ use Rattle.relay_run.specs.Projects.{trees_of}
 use Rattle.relay_run.specs.Rules.{rule_text}
 use Rattle.relay_run.specs.Verdicts.{AreOnlyProject, HaveOnlyFault, AreProjectFiles, AreRefusedFiles}
 use Rattle.relay_run.specs.declared.interim.project.ProjectRefusal.TheVariants.{Fault, NotTaken}
-use Rattle.schema_types.specs.Types.{Defs}
-use Rattle.schema_types.specs.declared.fault.ProjectFault.{ProjectFault}
+use Rattle.schema_tables.specs.Types.{Defs}
+use Rattle.schema_rules.specs.declared.fault.ProjectFault.{ProjectFault}
 
 -- ---- what is found
 
@@ -107,6 +107,10 @@ pub project_of_files : (files : plan.Files) (defs : Defs) (ps : List (Placed Doc
     → plain defs (trees_of ps) ≡ taken os → AreProjectFiles files (record { schema = defs; operations = os })
 project_of_files [] defs ps os h e = absurd h
 project_of_files (schema ∷ documents) defs ps os h e = found_project schema.1 (plan.texts_of documents) defs ps h os e
+
+-- the project in its parts
+pub project_in_parts : (files : plan.Files) (p parts : Defs × List (Placed Document)) → plan.AreTheProject files p.0 p.1 → parts ≡ p → plan.AreTheProject files parts.0 parts.1
+project_in_parts files p parts h e = subst (λ (x : Defs × List (Placed Document)). plan.AreTheProject files x.0 x.1) (sym e) h
 
 -- there is a document for each file after the schema
 pub documents_of_files : (files : plan.Files) (defs : Defs) (ps : List (Placed Document)) → plan.AreTheProject files defs ps → length ps + 1 ≡ length files

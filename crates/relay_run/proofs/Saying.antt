@@ -9,7 +9,7 @@ use Rattle.relay_model.specs.Keys.{Text, typename}
 use Rattle.relay_model.specs.Payload.{Said, silent, fact, both, fields_said, object_said, added_said}
 use Rattle.relay_model.specs.Records as model
 use Rattle.relay_model.specs.Schema.{Schema}
-use Rattle.relay_run.specs.Said.{allowed}
+use Rattle.relay_run.specs.Said.{flag}
 
 pub drop_cons_at : {A : Type 0} (xs : List A) (i : ℕ) (x : A) → i < length xs → x ≡ get_or xs i x → drop i xs ≡ x ∷ drop (i + 1) xs
 drop_cons_at xs i x within is = drop-cons xs i x within ∙ (λ j. sym is j ∷ drop (sym (add-one i) j) xs)
@@ -28,8 +28,8 @@ both-silent s = λ i. record { plain = and-true s.plain i; facts = append-nil s.
 pub both_assoc : (a b c : Said) → both (both a b) c ≡ both a (both b c)
 both_assoc a b c = λ i. record { plain = and_assoc a.plain b.plain c.plain i; facts = append_assoc a.facts b.facts c.facts i }
 
-pub said-allowed : (plain more : Bool) (facts : List model.Fact) → record { plain = plain && more; facts = facts } ≡ both (record { plain = plain; facts = facts }) (allowed more)
-said-allowed plain more facts = λ i. record { plain = plain && more; facts = sym (append-nil facts) i }
+pub said-flag : (plain more : Bool) (facts : List model.Fact) → record { plain = plain && more; facts = facts } ≡ both (record { plain = plain; facts = facts }) (flag more)
+said-flag plain more facts = λ i. record { plain = plain && more; facts = sym (append-nil facts) i }
 
 pub ruleset more = (both-silent)
 
@@ -45,7 +45,7 @@ told_in_turn r old first second third A B C a b told = on_ok_weaker r (λ c. sai
 -- an object is told by its link, its fields and its added field
 pub object_said-told : {E : Type 0} (r : Result ⊤ E) (schema : Schema) (subs : Sels) (of parent key : Text) (given : J.Members) (own : Text) (plain : Bool) (same : Text × Bool)
     (old first second third : Said) → (own, plain) ≡ same
-    → first ≡ both old (both (allowed plain) (both (fact parent key (model.link own)) (fact own typename (model.leaf (text of)))))
+    → first ≡ both old (both (flag plain) (both (fact parent key (model.link own)) (fact own typename (model.leaf (text of)))))
     → second ≡ both first (fields_said schema subs of own given)
     → OnOk r (third ≡ both second (added_said schema of own given subs))
     → OnOk r (third ≡ both old (object_said schema of (λ child below. fields_said schema subs of child below) subs parent key same given))

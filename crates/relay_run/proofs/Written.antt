@@ -12,7 +12,7 @@ use Rattle.relay_model.specs.Machine.{Project, State, Step, step, step_line, ste
 use Rattle.relay_model.specs.Payload.{Said, says}
 use Rattle.relay_model.specs.Read.{Answer, read_root}
 use Rattle.relay_model.specs.Order.{in_order}
-use Rattle.relay_model.specs.Printed.{line, number, done, shown, refusal, project_fault}
+use Rattle.relay_model.specs.Printed.{line, number, event_line, read_line, refusal, project_fault}
 use Rattle.relay_model.specs.Refusals.{Refusal, code_of, name_of, keys_of, not_json, not_yet, unknown_operation, unknown_handle}
 use Rattle.relay_model.specs.Script.{lines_of, cut}
 use Rattle.relay_run.specs.Answers.{EndsLine}
@@ -20,10 +20,10 @@ use Rattle.relay_run.specs.Answers.{EndsLine}
 line_ends : (members : List (Text × Tree)) → EndsLine (line members)
 line_ends members = inr (compact (object (members_of members)), refl)
 
-done_ends : (name : Text) (n : ℕ) → EndsLine (done name n)
+done_ends : (name : Text) (n : ℕ) → EndsLine (event_line name n)
 done_ends name n = line_ends ((codes "n", number n) ∷ (codes "ok", text name) ∷ [])
 
-shown_ends : (n : ℕ) (answer : Answer) → EndsLine (shown n answer)
+shown_ends : (n : ℕ) (answer : Answer) → EndsLine (read_line n answer)
 shown_ends n answer =
     line_ends ((codes "data", unwrap_or answer.0 null) ∷ (codes "missing", truth answer.1.missing) ∷ (codes "n", number n) ∷ (codes "ok", text (codes "read"))
     ∷ (codes "seen", list (trees_of (map text (in_order answer.1.seen)))) ∷ [])
@@ -40,7 +40,7 @@ cond_ends true a b x y = x
 cond_ends false a b x y = y
 
 confirm_ends : (s : State) (n : ℕ) (said : Said) → EndsLine (confirm s n said).text
-confirm_ends s n said = cond_ends said.plain (accept (done (codes "payload") n) (record { entries = s.entries ++ said.facts ∷ []; handles = s.handles })) (refuse n not_yet s) (done_ends (codes "payload") n) (refusal_ends n not_yet)
+confirm_ends s n said = cond_ends said.plain (accept (event_line (codes "payload") n) (record { entries = s.entries ++ said.facts ∷ []; handles = s.handles })) (refuse n not_yet s) (done_ends (codes "payload") n) (refusal_ends n not_yet)
 
 retain_ends : (operation_is : Option Sels) (s : State) (n : ℕ) (handle operation : Text) → EndsLine (retain_with operation_is s n handle operation).text
 retain_ends None s n handle operation = refusal_ends n (unknown_operation operation)

@@ -1,12 +1,12 @@
 -- What the answers of a run owe.
 use Rattle.std.specs.Prelude.{List, ◌≡◌, ◌⊎◌, ◌↔◌, ℕ, ◌+◌, ◌≤◌, [], ◌∷◌, ◌++◌, length, take, Bool, false, Option, Some, None, Result, Ok, Err, Vec, ⊤, IsTrue, IsFalse}
 use Rattle.std.specs.Io.KnownBytes.{IsAtEnd}
-use Rattle.relay_io.specs.Streams.{appended, prepended}
+use Rattle.relay_io.specs.Streams.{append, prepend}
 use Rattle.relay_model.specs.Keys.{Text}
 use Rattle.relay_model.specs.Machine.{Project}
 use Rattle.relay_model.specs.Printed.{project_fault}
-use Rattle.relay_run.specs.Files.{Files, given, IsProject, IsFault}
-use Rattle.relay_run.specs.Output.{max_script, written, has_refusal}
+use Rattle.relay_run.specs.Files.{Files, contents_of, IsProject, IsFault}
+use Rattle.relay_run.specs.Output.{max_script, output_text, has_refusal}
 use Rattle.relay_run.specs.Statuses.{IsDone}
 use Rattle.relay_run.specs.Words.{Form, run}
 use Rattle.relay_run.specs.declared.script.ScriptFault.{ScriptFault}
@@ -20,16 +20,16 @@ use Rattle.relay_run.specs.declared.status.Status.TheVariants.{DoneWithRefusals,
 abbrev pub IsTheProjectOf : Option Files → Form → Project → Type 0
 IsTheProjectOf None form project = ⊤
 IsTheProjectOf (Some files) form project =
-    IsProject (given form files) project × ((other : Project) → IsProject (given form files) other → other ≡ project)
-    × ((file : Text) (line column : ℕ) (rule : Text) → IsFault form (given form files) file line column rule → ⊥)
+    IsProject (contents_of form files) project × ((other : Project) → IsProject (contents_of form files) other → other ≡ project)
+    × ((file : Text) (line column : ℕ) (rule : Text) → IsFault form (contents_of form files) file line column rule → ⊥)
 
 -- the fault of the files, where they are told: they have this one and no other, and are no project
 abbrev pub IsTheFaultOf : Option Files → Form → (file : Text) → (line column : ℕ) → (rule : Text) → Type 0
 IsTheFaultOf None form file line column rule = ⊤
 IsTheFaultOf (Some files) form file line column rule =
-    IsFault form (given form files) file line column rule
-    × ((f : Text) (l c : ℕ) (r : Text) → IsFault form (given form files) f l c r → ◌≡◌ {A = Text × ℕ × ℕ × Text} (f, l, c, r) (file, line, column, rule))
-    × ((project : Project) → IsProject (given form files) project → ⊥)
+    IsFault form (contents_of form files) file line column rule
+    × ((f : Text) (l c : ℕ) (r : Text) → IsFault form (contents_of form files) f l c r → ◌≡◌ {A = Text × ℕ × ℕ × Text} (f, l, c, r) (file, line, column, rule))
+    × ((project : Project) → IsProject (contents_of form files) project → ⊥)
 
 -- ---- the script
 
@@ -64,7 +64,7 @@ IsCourse files form (accepted project) = IsTheProjectOf files form project
 
 -- what a form writes for an accepted project, where the script gave these bytes and has ended or not
 abbrev pub output_of : Form → Project → Text → Bool → Text
-output_of (run buffer schema documents) project taken ended = written project buffer taken ended
+output_of (run buffer schema documents) project taken ended = output_text project buffer taken ended
 
 -- what is due of a form where the script gave these bytes and has ended or not
 abbrev pub due : Form → Course → Text → Bool → Text
@@ -117,7 +117,7 @@ IfUnknown (accepted project) holds = ⊤
 
 -- what the script, which had `before` and has `after`, gave in a call that is answered so
 pub record Took (course : Course) (status : Status) (before after : Option Text) (taken : Text) (ended : Bool) : Type 0 where
-  pub is : before ≡ prepended taken after
+  pub is : before ≡ prepend taken after
   pub read : IsReadIn course taken
   pub end : IsTrue ended → IsAtEnd after
   pub most : length taken ≤ max_script + 1
@@ -145,7 +145,7 @@ pub record Ran (form : Form) (course : Course) (status : Status) (left left_now 
   pub reads_most : reads_now ≤ reads + length taken + 1
   pub unread : IfNotAccepted course (IsUntouched left left_now reads reads_now)
   pub added : Text
-  pub adds : held_now ≡ appended held added
+  pub adds : held_now ≡ append held added
   pub puts_most : puts_now ≤ puts + length added + 1
   pub unwritten : IfUnknown course (IsUntouched held held_now puts puts_now)
   pub ends : (status ≡ WriteFault) ⊎ EndsLine added

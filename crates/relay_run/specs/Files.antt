@@ -7,7 +7,7 @@ use Rattle.relay_model.specs.Machine.{Project}
 use Rattle.relay_run.specs.Projects.{IsPlainProject, IsNotTaken}
 use Rattle.relay_run.specs.Rules.{rule_text}
 use Rattle.relay_run.specs.Words.{Form, run, file_names}
-use Rattle.schema_types.specs.declared.fault.ProjectFault.{ProjectFault}
+use Rattle.schema_rules.specs.declared.fault.ProjectFault.{ProjectFault}
 
 abbrev pub Files : Type 0
 Files = List (Text × Text)
@@ -21,40 +21,40 @@ abbrev pub max_all : ℕ
 max_all = 2 ^ 26
 
 -- the bytes of the schema and of the documents; or, of all files, the first that is absent or too long
-pub data Given : Type 0 where
-  absent : Given
-  too_long : (file : Text) → Given
-  told : (schema : Text) → (texts : List Text) → Given
+pub data Contents : Type 0 where
+  absent : Contents
+  too_long : (file : Text) → Contents
+  readable : (schema : Text) → (texts : List Text) → Contents
 
 -- a file of which so many bytes are left of all that are taken
-abbrev pub within : (name : Text) → (left : ℕ) → Text → (Text → Given) → Given
+abbrev pub within : (name : Text) → (left : ℕ) → Text → (Text → Contents) → Contents
 within name left bytes next = cond (nat_le (length bytes) (min max_file left)) (next bytes) (too_long name)
 
-abbrev pub found : (name : Text) → (left : ℕ) → Option Text → (Text → Given) → Given
-found name left None next = absent
-found name left (Some bytes) next = within name left bytes next
+abbrev pub take_file : (name : Text) → (left : ℕ) → Option Text → (Text → Contents) → Contents
+take_file name left None next = absent
+take_file name left (Some bytes) next = within name left bytes next
 
 -- the documents of these names, after those that were read before
-abbrev pub documents_from : Files → (schema : Text) → (before : List Text) → (left : ℕ) → (names : List Text) → Given
-documents_from files schema before left [] = told schema before
+abbrev pub documents_from : Files → (schema : Text) → (before : List Text) → (left : ℕ) → (names : List Text) → Contents
+documents_from files schema before left [] = readable schema before
 documents_from files schema before left (name ∷ names) =
-    found name left (file_of name files) (λ bytes. documents_from files schema (before ++ bytes ∷ []) (left - length bytes) names)
+    take_file name left (file_of name files) (λ bytes. documents_from files schema (before ++ bytes ∷ []) (left - length bytes) names)
 
 -- what the files of a form hold
-abbrev pub given : Form → Files → Given
-given (run buffer schema documents) files =
-    found schema max_all (file_of schema files) (λ bytes. documents_from files bytes [] (max_all - length bytes) documents)
+abbrev pub contents_of : Form → Files → Contents
+contents_of (run buffer schema documents) files =
+    take_file schema max_all (file_of schema files) (λ bytes. documents_from files bytes [] (max_all - length bytes) documents)
 
 -- the first that is absent or too long is absent
 abbrev pub IsFirstAbsent : Option Files → Form → Type 0
 IsFirstAbsent None form = ⊥
-IsFirstAbsent (Some files) form = given form files ≡ absent
+IsFirstAbsent (Some files) form = contents_of form files ≡ absent
 
 -- the project that the files are
-abbrev pub IsProject : Given → Project → Type 0
+abbrev pub IsProject : Contents → Project → Type 0
 IsProject absent project = ⊥
 IsProject (too_long file) project = ⊥
-IsProject (told schema texts) project = IsPlainProject schema texts project
+IsProject (readable schema texts) project = IsPlainProject schema texts project
 
 -- the name of a file by its number: the schema is 0, documents are numbered from 1
 abbrev pub name_of : Form → ℕ → Text
@@ -81,7 +81,7 @@ abbrev pub IsFaultIn : (schema : Text) → (texts : List Text) → (n line colum
 IsFaultIn schema texts n line column rule = BreaksRule schema texts n line column rule ⊎ IsOfNoForm schema texts n line column rule
 
 -- the fault of the project: the name of the file, the line and the column in it, and the rule
-abbrev pub IsFault : Form → Given → (file : Text) → (line column : ℕ) → (rule : Text) → Type 0
+abbrev pub IsFault : Form → Contents → (file : Text) → (line column : ℕ) → (rule : Text) → Type 0
 IsFault form absent file line column rule = ⊥
 IsFault form (too_long name) file line column rule = (file ≡ name) × (line ≡ 1) × (column ≡ 1) × (rule ≡ codes "F1")
-IsFault form (told schema texts) file line column rule = (n : ℕ) × (file ≡ name_of form n) × IsFaultIn schema texts n line column rule
+IsFault form (readable schema texts) file line column rule = (n : ℕ) × (file ≡ name_of form n) × IsFaultIn schema texts n line column rule

@@ -1,6 +1,6 @@
 -- What a run writes.
 use Rattle.std.specs.Prelude.{◌≡◌, ℕ, ◌^◌, ◌++◌, Bool, true, Option}
-use Rattle.relay_io.specs.Streams.{appended}
+use Rattle.relay_io.specs.Streams.{append}
 use Rattle.relay_model.specs.Keys.{Text}
 use Rattle.relay_model.specs.Machine as machine
 use Rattle.relay_model.specs.Script.{lines_of, cut}
@@ -10,8 +10,8 @@ abbrev pub max_script : ℕ
 max_script = 2 ^ 30
 
 -- what the machine writes for the lines of these bytes of a script, which has ended or not, where so many released operations are kept
-abbrev pub written : machine.Project → (buffer : ℕ) → Text → Bool → Text
-written project buffer bytes ended = machine.output project buffer (cut (lines_of bytes ended))
+abbrev pub output_text : machine.Project → (buffer : ℕ) → Text → Bool → Text
+output_text project buffer bytes ended = machine.output project buffer (cut (lines_of bytes ended))
 
 -- whether one of these lines is refused
 abbrev pub has_refusal : machine.Project → (buffer : ℕ) → Text → Bool
@@ -19,4 +19,4 @@ has_refusal project buffer bytes = machine.some_refused project buffer (cut (lin
 
 -- what is held has grown by a part of the text, from its beginning on
 abbrev pub AddsPartOf : Option Text → Option Text → Text → Type 0
-AddsPartOf old new text = (part : Text) × (more : Text) × (new ≡ appended old part) × (part ++ more ≡ text)
+AddsPartOf old new text = (part : Text) × (more : Text) × (new ≡ append old part) × (part ++ more ≡ text)

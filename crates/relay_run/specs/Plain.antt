@@ -16,9 +16,9 @@ use Rattle.gql_ast.specs.declared.member.InputTree.{InputTree}
 use Rattle.relay_model.specs.Keys.{Text}
 use Rattle.relay_model.specs.Payload.{is_set, all_differ}
 use Rattle.relay_model.specs.Schema.{type_of, query_type}
-use Rattle.schema_types.specs.Fits.{is_required}
-use Rattle.schema_types.specs.Rules.{is_object}
-use Rattle.schema_types.specs.Types.{Defs, base_of, field_on, is_leaf, same_kind, is_empty}
+use Rattle.schema_tables.specs.Fits.{is_required}
+use Rattle.schema_rules.specs.Rules.{is_object}
+use Rattle.schema_tables.specs.Types.{Defs, base_of, field_on, is_leaf, same_kind, is_empty}
 
 -- ---- fields
 

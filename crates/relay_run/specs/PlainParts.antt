@@ -14,11 +14,11 @@ use Rattle.relay_model.specs.Schema.{type_of}
 use Rattle.relay_run.specs.declared.interim.plain.PlainFault.{PlainFault}
 use Rattle.relay_run.specs.declared.interim.plain.PlainFault.TheVariants.{NotTaken, NoMemory}
 use Rattle.relay_run.specs.Plain.{plain, is_object_type, is_leaf_type, not_taken, is_plain_field, field_names, fields_in, are_plain_fields}
-use Rattle.schema_types.specs.Fits.{is_non_null}
-use Rattle.schema_types.specs.Rules.{is_object}
-use Rattle.schema_types.specs.Types.{Defs, field_on}
-use Rattle.schema_types.specs.declared.definitions.FieldDef.{FieldDef}
-use Rattle.schema_types.specs.declared.definitions.InputDef.{InputDef}
+use Rattle.schema_tables.specs.Fits.{is_non_null}
+use Rattle.schema_rules.specs.Rules.{is_object}
+use Rattle.schema_tables.specs.Types.{Defs, field_on}
+use Rattle.schema_tables.specs.declared.definitions.FieldDef.{FieldDef}
+use Rattle.schema_tables.specs.declared.definitions.InputDef.{InputDef}
 
 abbrev pub is_named_object : Defs → Ty → Bool
 is_named_object defs (ty.named n) = is_object defs n

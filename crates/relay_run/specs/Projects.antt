@@ -6,7 +6,7 @@ use Rattle.plan_project.specs.Projects.{IsAccepted}
 use Rattle.relay_model.specs.Keys.{Text}
 use Rattle.relay_model.specs.Machine.{Project}
 use Rattle.relay_run.specs.Plain.{taken, not_taken, plain}
-use Rattle.schema_types.specs.Types.{Defs}
+use Rattle.schema_tables.specs.Types.{Defs}
 
 abbrev pub trees_of : List (Placed Document) → List Document
 trees_of ps = map (λ (p : Placed Document). p.tree) ps

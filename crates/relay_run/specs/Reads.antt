@@ -4,14 +4,14 @@ use Rattle.plan_project.specs.Verdicts as plan
 use Rattle.relay_io.specs.Files.{IsAbsent, IsTooLong}
 use Rattle.relay_model.specs.Keys.{Text}
 use Rattle.relay_run.specs.Answers.{IsTheFaultOf}
-use Rattle.relay_run.specs.Files.{Files, Given, absent, too_long, told, documents_from, max_all, max_file, name_of, IsFirstAbsent}
+use Rattle.relay_run.specs.Files.{Files, Contents, absent, too_long, readable, documents_from, max_all, max_file, name_of, IsFirstAbsent}
 use Rattle.relay_run.specs.Rules.{rule_text}
 use Rattle.relay_run.specs.Words.{Form}
 use Rattle.relay_run.specs.declared.files.Closed.{Closed}
 use Rattle.relay_run.specs.declared.files.Closed.TheVariants.{Unread, TooLong, Fault, NotTaken, NoMemory}
 
 -- the documents of these names, where files are told and so many bytes are left, are given so, whatever the schema is
-abbrev pub GivesDocuments : Option Files → (left : ℕ) → (names : List Text) → ((schema : Text) → Given) → Type 0
+abbrev pub GivesDocuments : Option Files → (left : ℕ) → (names : List Text) → ((schema : Text) → Contents) → Type 0
 GivesDocuments None left names wanted = ⊤
 GivesDocuments (Some files) left names wanted = (schema : Text) → documents_from files schema [] left names ≡ wanted schema
 
@@ -19,7 +19,7 @@ GivesDocuments (Some files) left names wanted = (schema : Text) → documents_fr
 abbrev pub GivesFiles : Option Files → (schema : Text × Text) → (names : List Text) → plan.Files → Type 0
 GivesFiles files schema names [] = ⊥
 GivesFiles files schema names (first ∷ documents) =
-    (first ≡ schema) × GivesDocuments files (max_all - length schema.1) names (λ s. told s (plan.texts_of documents)) × (length documents ≡ length names)
+    (first ≡ schema) × GivesDocuments files (max_all - length schema.1) names (λ s. readable s (plan.texts_of documents)) × (length documents ≡ length names)
 
 -- the files are told, and of the documents the first that is absent or too long is absent
 abbrev pub IsDocumentAbsent : Option Files → (left : ℕ) → (names : List Text) → Type 0

@@ -22,8 +22,8 @@ abbrev pub object_id_shown : ObjectId → Text × Bool
 object_id_shown own = (own.id, own.plain)
 
 -- a flag for the plain form, and no fact
-abbrev pub allowed : Bool → model.Said
-allowed plain = record { plain = plain; facts = [] }
+abbrev pub flag : Bool → model.Said
+flag plain = record { plain = plain; facts = [] }
 
 -- one field of a set, on an object of this type and id
 abbrev pub field_said : Schema → Sels → Text → Text → Text → J.Members → model.Said

@@ -7,8 +7,8 @@ use Rattle.relay_model.specs.Machine as machine
 use Rattle.relay_run.specs.declared.interim.project.Project.{Project}
 
 -- the names as texts, each with its selections, in order
-abbrev pub named : List (String Global × Sels) → List (Text × Sels)
-named entries = map (λ (e : String Global × Sels). (string_bytes e.0, e.1)) entries
+abbrev pub by_name : List (String Global × Sels) → List (Text × Sels)
+by_name entries = map (λ (e : String Global × Sels). (string_bytes e.0, e.1)) entries
 
 abbrev pub project_shown : Project → machine.Project
-project_shown p = record { schema = p.schema; operations = named p.operations.entries }
+project_shown p = record { schema = p.schema; operations = by_name p.operations.entries }

@@ -2,13 +2,13 @@
 ghost use Rattle.std.specs.Prelude.{◌≡◌, ◌⊎◌, ◌↔◌, ◌≤◌, ◌<◌, ◌+◌, ◌^◌, ◌++◌, ◌∷◌, ◌==◌, [], ℕ, List, true, length, take, IfOk, IfErr, OnErr, IsTrue};
 ghost use Rattle.std.specs.List.{position};
 ghost use Rattle.relay_io.specs.Causes.{Rose};
-ghost use Rattle.relay_io.specs.Streams.{appended};
+ghost use Rattle.relay_io.specs.Streams.{append};
 ghost use Rattle.relay_model.specs.Events.{max_line};
 ghost use Rattle.relay_model.specs.Machine as machine;
 ghost use Rattle.relay_model.specs.Machine.{State};
 ghost use Rattle.relay_model.specs.Script.{lines_of};
 ghost use Rattle.relay_run.specs.Answers.{EndsLine};
-ghost use Rattle.relay_run.specs.Output.{max_script, written, has_refusal};
+ghost use Rattle.relay_run.specs.Output.{max_script, output_text, has_refusal};
 ghost use Rattle.relay_run.specs.Statuses.{IsDone};
 ghost use Rattle.relay_run.specs.Shown.{project_shown};
 ghost use Rattle.relay_run.specs.Stands.{StandsFor};
@@ -40,10 +40,10 @@ pub fn answer_lines<K: Sink>(
     out: &mut K,
 ) -> Status
     requires { length script.now ≤ max_script }
-    ensures added { (added : List ℕ) × (K.held out.new ≡ appended (K.held out.old) added)
+    ensures added { (added : List ℕ) × (K.contents out.new ≡ append (K.contents out.old) added)
         × (K.calls out.new ≤ K.calls out.old + length added + 1)
         × ((result ≡ Status.WriteFault) ⊎ EndsLine added)
-        × (more : List ℕ) × (added ++ more ≡ written (project_shown project) buffer script.now true) × (IsDone result → more ≡ []) }
+        × (more : List ℕ) × (added ++ more ≡ output_text (project_shown project) buffer script.now true) × (IsDone result → more ≡ []) }
     ensures refusals { IsDone result → ((result ≡ Status.DoneWithRefusals) ↔ IsTrue (has_refusal (project_shown project) buffer script.now)) }
     ensures form { IsDone result ⊎ ((result ≡ Status.WriteFault) ⊎ (result ≡ Status.NoMemory)) }
     ensures write_fault { result ≡ Status.WriteFault → Rose (K.faults out.old) (K.faults out.new) }
@@ -82,10 +82,10 @@ fn answer_line<K: Sink>(
     ensures ok { IfOk result (λ refused. (p : machine.Project) (s : State) → StandsFor engine.old p s
         → let step = machine.step p s n (take (max_line + 1) line.now) in
         (refused ≡ step.refused) × StandsFor engine.new p step.state
-        × (K.held out.new ≡ appended (K.held out.old) step.text) × (K.calls out.new ≤ K.calls out.old + length step.text)) }
+        × (K.contents out.new ≡ append (K.contents out.old) step.text) × (K.calls out.new ≤ K.calls out.old + length step.text)) }
     ensures err { IfErr result (λ stop. (p : machine.Project) (s : State) → StandsFor engine.old p s
         → let step = machine.step p s n (take (max_line + 1) line.now) in
-        (k : ℕ) × (k ≤ length step.text) × (K.held out.new ≡ appended (K.held out.old) (take k step.text))
+        (k : ℕ) × (k ≤ length step.text) × (K.contents out.new ≡ append (K.contents out.old) (take k step.text))
         × (K.calls out.new ≤ K.calls out.old + k + 1) × (stop ≡ Stop.NoMemory → k ≡ 0)) }
     ensures write_fault { result ≡ Err Stop.WriteFault → Rose (K.faults out.old) (K.faults out.new) }
     ensures later { K.faults out.old ≤ K.faults out.new }

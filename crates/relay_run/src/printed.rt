@@ -1,14 +1,15 @@
 //! The printed lines: compact JSON with keys in byte order, each ended by LF (this project's own).
 ghost use Rattle.std.specs.Prelude.{◌≡◌, ◌<◌, ◌^◌, ◌++◌, ◌∷◌, [], codes, IfOk, OnOk};
 ghost use Rattle.gql_plain.specs.Order.{IsAfter};
-ghost use Rattle.gql_plain.specs.Tree.{text};
+ghost use Rattle.gql_plain.specs.Shown.{tree_of};
+ghost use Rattle.gql_plain.specs.Tree.{truth, text, list, trees_of};
 ghost use Rattle.std.specs.Map.{keys_of};
 ghost use Rattle.relay_model.specs.Printed as model;
 ghost use Rattle.relay_model.specs.Refusals as refusals;
 ghost use Rattle.relay_run.specs.RefusalShown.{refusal_shown};
 
 use crate::refusal::Refusal;
-use gql_plain::{NoMemory, Pairs, Plain, Words, text_of};
+use gql_plain::{NoMemory, Pairs, Plain, Plains, Words, text_of};
 use std::alloc::Global;
 
 /// The line of an object with these members.
@@ -18,6 +19,14 @@ fn line_of(alloc: Global, members: Pairs) -> Result<Words, NoMemory>
     let mut text = text_of(alloc, &Plain::Tree(members))?.into_string();
     text.push('\n')?;
     Ok(Words::from_string(text))
+}
+
+/// Puts a value under a key that comes after all others in byte order.
+fn put(alloc: Global, members: &mut Pairs, key: &str, value: Plain) -> Result<(), NoMemory>
+    requires { IsAfter key.now (keys_of members.old) }
+    ensures { OnOk result (members.new ≡ members.old ++ (key.now, tree_of value) ∷ []) }
+{
+    members.push(Words::new(alloc, key)?, value)
 }
 
 /// Puts a text under a key that comes after all others in byte order.
@@ -41,13 +50,40 @@ fn put_number(alloc: Global, members: &mut Pairs, key: &str, number: u64) -> Res
 }
 
 /// The answer of an event that shows nothing: the event's name, and the number of the line.
-pub fn done(alloc: Global, name: &str, n: u64) -> Result<Words, NoMemory>
+pub fn event_line(alloc: Global, name: &str, n: u64) -> Result<Words, NoMemory>
     requires { n < 2 ^ 63 }
-    ensures { IfOk result (λ words. words ≡ model.done name.now n) }
+    ensures { IfOk result (λ words. words ≡ model.event_line name.now n) }
 {
     let mut members = Pairs::new(alloc);
     put_number(alloc, &mut members, "n", n)?;
     put_text(alloc, &mut members, "ok", name)?;
+    line_of(alloc, members)
+}
+
+/// The answer of a read: its data, whether something was missing, the number of the line, and the ids
+/// at which the read stood.
+pub fn read_line(
+    alloc: Global,
+    value: Plain,
+    missing: bool,
+    n: u64,
+    seen: Plains,
+) -> Result<Words, NoMemory>
+    requires { n < 2 ^ 63 }
+    ensures { IfOk result (λ words. words ≡ model.line (
+        (codes "data", tree_of value)
+        ∷ (codes "missing", truth missing)
+        ∷ (codes "n", model.number n)
+        ∷ (codes "ok", text (codes "read"))
+        ∷ (codes "seen", list (trees_of seen)) ∷ []
+        )) }
+{
+    let mut members = Pairs::new(alloc);
+    put(alloc, &mut members, "data", value)?;
+    put(alloc, &mut members, "missing", Plain::Bool(missing))?;
+    put_number(alloc, &mut members, "n", n)?;
+    put_text(alloc, &mut members, "ok", "read")?;
+    put(alloc, &mut members, "seen", Plain::List(seen))?;
     line_of(alloc, members)
 }
 

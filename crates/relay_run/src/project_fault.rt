@@ -1,7 +1,7 @@
 //! Refusing a project.
 ghost use Rattle.std.specs.Prelude.{◌≡◌, ◌⊎◌, ◌≤◌, ◌+◌, ◌++◌, [], ℕ, List, length};
 ghost use Rattle.relay_io.specs.Causes.{Rose};
-ghost use Rattle.relay_io.specs.Streams.{appended};
+ghost use Rattle.relay_io.specs.Streams.{append};
 ghost use Rattle.relay_model.specs.Printed.{project_fault};
 ghost use Rattle.relay_run.specs.Answers.{EndsLine};
 
@@ -21,7 +21,7 @@ pub fn refuse<K: Sink>(
     rule: &str,
     out: &mut K,
 ) -> Status
-    ensures added { (added : List ℕ) × (K.held out.new ≡ appended (K.held out.old) added)
+    ensures added { (added : List ℕ) × (K.contents out.new ≡ append (K.contents out.old) added)
         × (K.calls out.new ≤ K.calls out.old + length added + 1)
         × ((result ≡ Status.WriteFault) ⊎ EndsLine added)
         × (more : List ℕ) × (added ++ more ≡ project_fault file.now line column rule.now) × (result ≡ Status.ProjectRefused → more ≡ []) }

@@ -1,7 +1,7 @@
 //! Putting a piece whole.
 ghost use Rattle.std.specs.Prelude.{◌≡◌, ◌≤◌, ◌+◌, ℕ, length, take, OnOk, OnErr};
 ghost use Rattle.relay_io.specs.Causes.{Rose};
-ghost use Rattle.relay_io.specs.Streams.{appended};
+ghost use Rattle.relay_io.specs.Streams.{append};
 
 use relay_io::{Failed, Sink};
 
@@ -11,10 +11,10 @@ use relay_io::{Failed, Sink};
 ///
 /// `Failed` where a put failed; the sink has taken a part, from the beginning on.
 pub fn put_all<K: Sink>(out: &mut K, bytes: &[u8]) -> Result<(), Failed>
-    ensures ok { OnOk result (K.held out.new ≡ appended (K.held out.old) bytes.now) }
+    ensures ok { OnOk result (K.contents out.new ≡ append (K.contents out.old) bytes.now) }
     ensures calls { OnOk result (K.calls out.new ≤ K.calls out.old + length bytes.now) }
     ensures err { OnErr result ((k : ℕ) × (k ≤ length bytes.now)
-        × (K.held out.new ≡ appended (K.held out.old) (take k bytes.now)) × (K.calls out.new ≤ K.calls out.old + k + 1)) }
+        × (K.contents out.new ≡ append (K.contents out.old) (take k bytes.now)) × (K.calls out.new ≤ K.calls out.old + k + 1)) }
     ensures failed { OnErr result (Rose (K.faults out.old) (K.faults out.new)) }
     ensures later { K.faults out.old ≤ K.faults out.new }
 {

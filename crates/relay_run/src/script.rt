@@ -3,7 +3,7 @@ ghost use Rattle.std.specs.Prelude.{◌≡◌, ◌⊎◌, ◌≤◌, ◌<◌, �
 ghost use Rattle.std.specs.Io.KnownBytes.{IsAtEnd};
 ghost use Rattle.gql_plain.specs.Counted.{next_count};
 ghost use Rattle.relay_io.specs.Causes.{Rose};
-ghost use Rattle.relay_io.specs.Streams.{prepended};
+ghost use Rattle.relay_io.specs.Streams.{prepend};
 ghost use Rattle.relay_run.specs.Answers.{Gives};
 ghost use Rattle.relay_run.specs.Output.{max_script};
 
@@ -29,7 +29,7 @@ pub enum ScriptFault {
 
 /// The bytes of the script to its end. Of a script that is too long, 1 GiB and one byte are read.
 pub fn read_script<S: Source>(alloc: Global, script: &mut S) -> Result<Vec<u8>, ScriptFault>
-    ensures gives { (given : List ℕ) × (S.left script.old ≡ prepended given (S.left script.new)) × Gives given result
+    ensures gives { (given : List ℕ) × (S.left script.old ≡ prepend given (S.left script.new)) × Gives given result
         × (S.calls script.new ≤ S.calls script.old + length given + 1) }
     ensures end { IfOk result (λ _. IsAtEnd (S.left script.new)) }
     ensures failed { result ≡ Err ScriptFault.Failed → Rose (S.faults script.old) (S.faults script.new) }
@@ -64,7 +64,7 @@ fn read_piece<S: Source>(
     piece: &mut [u8],
 ) -> Result<usize, ScriptFault>
     requires { 0 < length piece.old }
-    ensures given { (given : List ℕ) × (length given ≤ length piece.new) × (S.left script.old ≡ prepended given (S.left script.new))
+    ensures given { (given : List ℕ) × (length given ≤ length piece.new) × (S.left script.old ≡ prepend given (S.left script.new))
         × IfOk result (λ count. (count ≡ length given) × (bytes.new.items ≡ bytes.old.items ++ given))
         × (result ≡ Err ScriptFault.Failed → given ≡ []) }
     ensures form { OnErr result ((result ≡ Err ScriptFault.Failed) ⊎ (result ≡ Err ScriptFault.NoMemory)) }

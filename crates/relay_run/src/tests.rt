@@ -79,10 +79,13 @@ const SCRIPT: &str = "{\"do\":\"retain\",\"handle\":\"h\",\"op\":\"Q\"}\n\
 const ANSWERS: &str = "{\"n\":1,\"ok\":\"retain\"}\n{\"n\":2,\"ok\":\"payload\"}\n\
     {\"data\":{\"me\":{\"name\":\"Ann\"}},\"missing\":false,\"n\":3,\"ok\":\"read\",\"seen\":[\"4\",\"client:root\"]}\n";
 
-const FIRST_ANSWER: &str = "{\"n\":1,\"ok\":\"retain\"}\n";
-
-// A vault of a schema and two documents.
-fn vault_of(alloc: Global, schema: &str, first: &[u8], second: &str) -> Result<MemVault, Fail> {
+// A schema and two documents.
+fn files_of(
+    alloc: Global,
+    schema: &str,
+    first: &[u8],
+    second: &str,
+) -> Result<Vec<(Words, Vec<u8>)>, Fail> {
     let mut files = Vec::new(alloc);
     files.push((
         Words::new(alloc, "s.graphql")?,
@@ -93,6 +96,12 @@ fn vault_of(alloc: Global, schema: &str, first: &[u8], second: &str) -> Result<M
         Words::new(alloc, "e.graphql")?,
         second.as_bytes().to_vec(alloc)?,
     ))?;
+    Ok(files)
+}
+
+// A vault of a schema and two documents.
+fn vault_of(alloc: Global, schema: &str, first: &[u8], second: &str) -> Result<MemVault, Fail> {
+    let files = files_of(alloc, schema, first, second)?;
     Ok(MemVault::new(files, Vec::new(alloc)))
 }
 
@@ -114,7 +123,7 @@ fn run_of(
     let mut out = MemSink::new(alloc, 4096, 65_536, failing)?;
     let mut steps = Counts::new();
     let status = relay_top(alloc, words, &mut vault, &mut source, &mut out, &mut steps);
-    Ok((status, out.held().to_vec(alloc)?))
+    Ok((status, out.contents().to_vec(alloc)?))
 }
 
 const ONE: [&str; 4] = ["run", "10", "s.graphql", "d.graphql"];
@@ -280,19 +289,78 @@ fn a_file_of_more_than_4_mib_is_refused(rt: HostRuntime) -> Result<(), Fail> {
 }
 
 #[test]
-fn what_fails_outside_has_its_status(rt: HostRuntime) -> Result<(), Fail> {
+fn a_file_that_is_absent_is_a_read_fault(rt: HostRuntime) -> Result<(), Fail> {
     let alloc = rt.alloc();
-    let mut failing = Vec::new(alloc);
-    failing.push(2)?;
-    let vault = vault_of(alloc, SCHEMA, QUERY.as_bytes(), "")?;
-    let (status, text) = run_of(alloc, &ONE, vault, SCRIPT, 65_536, failing)?;
-    assert_eq!(rt; status, Status::WriteFault);
-    assert_eq!(rt; text.as_slice(), FIRST_ANSWER.as_bytes());
     let vault = vault_of(alloc, SCHEMA, QUERY.as_bytes(), "")?;
     let words = ["run", "10", "s.graphql", "d.graphql", "absent.graphql"];
     let (status, text) = run_of(alloc, &words, vault, SCRIPT, 60, Vec::new(alloc))?;
     assert_eq!(rt; status, Status::ReadFault);
     assert_eq!(rt; text.as_slice(), b"".as_slice());
+    Ok(())
+}
+
+// The calls of the vault, of the script and of the sink that fail, none where there is a 0; and then
+// the answer, and how many lines the sink holds. The vault is called 3 times, the script 4 times (60,
+// 60 and the other bytes, and the end), and the sink 3 times.
+const FAILING_CALLS: &str = "1 0 0 ReadFault 0\n\
+    2 0 0 ReadFault 0\n\
+    3 0 0 ReadFault 0\n\
+    4 0 0 Done 3\n\
+    0 1 0 ReadFault 0\n\
+    0 2 0 ReadFault 0\n\
+    0 4 0 ReadFault 0\n\
+    0 5 0 Done 3\n\
+    0 0 1 WriteFault 0\n\
+    0 0 2 WriteFault 1\n\
+    0 0 3 WriteFault 2\n\
+    0 0 4 Done 3";
+
+// The number of a call, which is one digit.
+fn call_of(digit: u8) -> u64 {
+    digit.saturating_sub(b'0') as u64
+}
+
+fn one(alloc: Global, call: u64) -> Result<Vec<u64>, Fail> {
+    Ok(vec![in alloc; call]?)
+}
+
+// The answer of a run of which these calls fail, and what the sink then holds.
+fn failing_at(
+    alloc: Global,
+    vault: u64,
+    script: u64,
+    sink: u64,
+) -> Result<(Status, Vec<u8>), Fail> {
+    let files = files_of(alloc, SCHEMA, QUERY.as_bytes(), "query R{me{age}}")?;
+    let mut vault = MemVault::new(files, one(alloc, vault)?);
+    let bytes = SCRIPT.as_bytes().to_vec(alloc)?;
+    let mut source = MemSource::new(bytes, 60, one(alloc, script)?);
+    let mut out = MemSink::new(alloc, 4096, 65_536, one(alloc, sink)?)?;
+    let mut steps = Counts::new();
+    let status = relay_top(alloc, &TWO, &mut vault, &mut source, &mut out, &mut steps);
+    Ok((status, out.contents().to_vec(alloc)?))
+}
+
+// What is printed of a run of which the calls of a row fail: the answer, and how many lines.
+fn outcome_of(alloc: Global, row: &str) -> Result<(String, Vec<u8>), Fail> {
+    let (status, held) = match row.as_bytes() {
+        [vault, _, script, _, sink, ..] => {
+            failing_at(alloc, call_of(*vault), call_of(*script), call_of(*sink))?
+        }
+        _ => (Status::Usage, Vec::new(alloc)),
+    };
+    let lines = held.iter().filter(|byte| **byte == b'\n').count();
+    Ok((format!(in alloc; "{status:?} {lines}")?, held))
+}
+
+#[test]
+fn each_object_fails_at_its_first_second_and_last_call(rt: HostRuntime) -> Result<(), Fail> {
+    let alloc = rt.alloc();
+    for row in FAILING_CALLS.lines() {
+        let (outcome, held) = outcome_of(alloc, row)?;
+        assert!(rt; row.ends_with(outcome.as_str()), "at {row}: {outcome}");
+        assert!(rt; ANSWERS.as_bytes().starts_with(&held), "at {row}");
+    }
     Ok(())
 }
 

@@ -1,11 +1,11 @@
 //! The top call: from the words, the files and the script to what is written.
 ghost use Rattle.std.specs.Prelude.{◌≡◌, ◌⊎◌, ◌↔◌, ℕ, ◌+◌, ◌≤◌, List, length, map, take, Bool, true, None, Some, IsTrue};
 ghost use Rattle.relay_io.specs.Causes.{Rose};
-ghost use Rattle.relay_io.specs.Streams.{appended, prepended};
+ghost use Rattle.relay_io.specs.Streams.{append, prepend};
 ghost use Rattle.relay_model.specs.Machine as machine;
 ghost use Rattle.relay_model.specs.Printed.{project_fault};
 ghost use Rattle.relay_run.specs.Answers.{Course, IsCourse, IsTheProjectOf, IsTheFaultOf, Took, Ran, Answering, EndsLine, accepted, due, refuses, left_over, IsReadWhole, IsScriptFor};
-ghost use Rattle.relay_run.specs.Files.{Files, given, IsProject, IsFault, IsFirstAbsent};
+ghost use Rattle.relay_run.specs.Files.{Files, contents_of, IsProject, IsFault, IsFirstAbsent};
 ghost use Rattle.relay_run.specs.FormShown.{form_shown};
 ghost use Rattle.relay_run.specs.Output.{max_script, AddsPartOf};
 ghost use Rattle.relay_run.specs.Shown.{project_shown};
@@ -38,53 +38,53 @@ pub fn relay_top<V: Vault, S: Source, K: Sink>(
     ensures usage { (result ≡ Status.Usage) ↔ (form_of (map (λ w. w.now) words.now) ≡ None) }
     ensures untouched { result ≡ Status.Usage
         → (V.calls vault.new ≡ V.calls vault.old) × (S.calls script.new ≡ S.calls script.old) × (K.calls out.new ≡ K.calls out.old)
-        × (S.left script.new ≡ S.left script.old) × (K.held out.new ≡ K.held out.old) }
+        × (S.left script.new ≡ S.left script.old) × (K.contents out.new ≡ K.contents out.old) }
     // What is written is what is due of the form: for `run` what the machine writes, line by line.
     ensures done { (files : Files) (form : forms.Form) (project : machine.Project) (bytes : List ℕ)
         → form_of (map (λ w. w.now) words.now) ≡ Some form
-        → V.files vault.old ≡ Some files → IsProject (given form files) project
+        → V.files vault.old ≡ Some files → IsProject (contents_of form files) project
         → S.left script.old ≡ Some bytes → IsDone result
-        → (S.left script.new ≡ Some (left_over form bytes)) × (K.held out.new ≡ appended (K.held out.old) (due form (accepted project) bytes true))
+        → (S.left script.new ≡ Some (left_over form bytes)) × (K.contents out.new ≡ append (K.contents out.old) (due form (accepted project) bytes true))
         × ((result ≡ Status.DoneWithRefusals) ↔ IsTrue (refuses form (accepted project) bytes)) }
     ensures whole { (form : forms.Form) → form_of (map (λ w. w.now) words.now) ≡ Some form → IsDone result
         → (project : machine.Project) × IsTheProjectOf (V.files vault.old) form project
-        × (taken : List ℕ) × (S.left script.old ≡ prepended taken (S.left script.new)) × IsReadWhole form taken (S.left script.new)
-        × (K.held out.new ≡ appended (K.held out.old) (due form (accepted project) taken true))
+        × (taken : List ℕ) × (S.left script.old ≡ prepend taken (S.left script.new)) × IsReadWhole form taken (S.left script.new)
+        × (K.contents out.new ≡ append (K.contents out.old) (due form (accepted project) taken true))
         × ((result ≡ Status.DoneWithRefusals) ↔ IsTrue (refuses form (accepted project) taken)) }
     // Where nothing fails and memory is had, all is written.
     ensures complete { (files : Files) (form : forms.Form) (project : machine.Project) (bytes : List ℕ)
         → form_of (map (λ w. w.now) words.now) ≡ Some form
-        → V.files vault.old ≡ Some files → IsProject (given form files) project
+        → V.files vault.old ≡ Some files → IsProject (contents_of form files) project
         → S.left script.old ≡ Some bytes → IsScriptFor form bytes
         → ¬ Rose (V.faults vault.old) (V.faults vault.new) → ¬ Rose (S.faults script.old) (S.faults script.new) → ¬ Rose (K.faults out.old) (K.faults out.new)
         → (result ≡ Status.NoMemory)
-        ⊎ (IsDone result × (S.left script.new ≡ Some (left_over form bytes)) × (K.held out.new ≡ appended (K.held out.old) (due form (accepted project) bytes true))) }
+        ⊎ (IsDone result × (S.left script.new ≡ Some (left_over form bytes)) × (K.contents out.new ≡ append (K.contents out.old) (due form (accepted project) bytes true))) }
     // At each answer what is written is a part of what is due, from its beginning on: of the line of the
     // project's fault, or by the first 2^30 bytes that the script gave. A script that is too long gave a byte more.
     ensures part { (form : forms.Form) → form_of (map (λ w. w.now) words.now) ≡ Some form
         → (course : Course) × IsCourse (V.files vault.old) form course
         × (taken : List ℕ) × (ended : Bool) × Took course result (S.left script.old) (S.left script.new) taken ended
-        × AddsPartOf (K.held out.old) (K.held out.new) (due form course (take max_script taken) ended) }
-    ensures ends { (result ≡ Status.WriteFault) ⊎ ((added : List ℕ) × (K.held out.new ≡ appended (K.held out.old) added) × EndsLine added) }
+        × AddsPartOf (K.contents out.old) (K.contents out.new) (due form course (take max_script taken) ended) }
+    ensures ends { (result ≡ Status.WriteFault) ⊎ ((added : List ℕ) × (K.contents out.new ≡ append (K.contents out.old) added) × EndsLine added) }
     // What is outside is called so often, and files stay as they are.
     ensures files { V.files vault.new ≡ V.files vault.old }
     ensures vault_calls { (form : forms.Form) → form_of (map (λ w. w.now) words.now) ≡ Some form → V.calls vault.new ≤ V.calls vault.old + length (file_names form) }
-    ensures script_calls { (taken : List ℕ) × (S.left script.old ≡ prepended taken (S.left script.new)) × (S.calls script.new ≤ S.calls script.old + length taken + 1) }
-    ensures sink_calls { (added : List ℕ) × (K.held out.new ≡ appended (K.held out.old) added) × (K.calls out.new ≤ K.calls out.old + length added + 1) }
+    ensures script_calls { (taken : List ℕ) × (S.left script.old ≡ prepend taken (S.left script.new)) × (S.calls script.new ≤ S.calls script.old + length taken + 1) }
+    ensures sink_calls { (added : List ℕ) × (K.contents out.new ≡ append (K.contents out.old) added) × (K.calls out.new ≤ K.calls out.old + length added + 1) }
     // The script is not read of a project that is refused.
     ensures unread { result ≡ Status.ProjectRefused → (S.left script.new ≡ S.left script.old) × (S.calls script.new ≡ S.calls script.old) }
     // Where a file could not be read, nothing is read of the script and nothing is written.
     ensures unopened { result ≡ Status.ReadFault → ¬ Rose (S.faults script.old) (S.faults script.new)
         → (S.left script.new ≡ S.left script.old) × (S.calls script.new ≡ S.calls script.old)
-        × (K.held out.new ≡ K.held out.old) × (K.calls out.new ≡ K.calls out.old) }
+        × (K.contents out.new ≡ K.contents out.old) × (K.calls out.new ≡ K.calls out.old) }
     // Each other answer has its cause.
     ensures refused { (form : forms.Form) → form_of (map (λ w. w.now) words.now) ≡ Some form → result ≡ Status.ProjectRefused
         → (file : List ℕ) × (line : ℕ) × (column : ℕ) × (rule : List ℕ) × IsTheFaultOf (V.files vault.old) form file line column rule
-        × (K.held out.new ≡ appended (K.held out.old) (project_fault file line column rule)) }
+        × (K.contents out.new ≡ append (K.contents out.old) (project_fault file line column rule)) }
     ensures faulty { (files : Files) (form : forms.Form) (file : List ℕ) (line column : ℕ) (rule : List ℕ)
         → form_of (map (λ w. w.now) words.now) ≡ Some form
-        → V.files vault.old ≡ Some files → IsFault form (given form files) file line column rule
-        → ((result ≡ Status.ProjectRefused) × (K.held out.new ≡ appended (K.held out.old) (project_fault file line column rule)))
+        → V.files vault.old ≡ Some files → IsFault form (contents_of form files) file line column rule
+        → ((result ≡ Status.ProjectRefused) × (K.contents out.new ≡ append (K.contents out.old) (project_fault file line column rule)))
         ⊎ (((result ≡ Status.ReadFault) × Rose (V.faults vault.old) (V.faults vault.new)) ⊎ ((result ≡ Status.WriteFault) ⊎ (result ≡ Status.NoMemory))) }
     ensures read_fault { (form : forms.Form) → form_of (map (λ w. w.now) words.now) ≡ Some form → result ≡ Status.ReadFault
         → Rose (V.faults vault.old) (V.faults vault.new) ⊎ Rose (S.faults script.old) (S.faults script.new)
@@ -111,7 +111,7 @@ fn answer_form<V: Vault, S: Source, K: Sink>(
         × Answering course result (Rose (V.faults vault.old) (V.faults vault.new) ⊎ IsFirstAbsent (V.files vault.old) (form_shown form.entry))
         (Rose (S.faults script.old) (S.faults script.new)) (Rose (K.faults out.old) (K.faults out.new))
         × Ran (form_shown form.entry) course result (S.left script.old) (S.left script.new) (S.calls script.old) (S.calls script.new)
-        (K.held out.old) (K.held out.new) (K.calls out.old) (K.calls out.new) }
+        (K.contents out.old) (K.contents out.new) (K.calls out.old) (K.calls out.new) }
     ensures files { V.files vault.new ≡ V.files vault.old }
     ensures vault_calls { V.calls vault.new ≤ V.calls vault.old + length (file_names (form_shown form.entry)) }
 {
@@ -135,7 +135,7 @@ fn run<V: Vault, S: Source, K: Sink>(
         × Answering course result (Rose (V.faults vault.old) (V.faults vault.new) ⊎ IsFirstAbsent (V.files vault.old) (forms.run buffer schema.now (map (λ w. w.now) documents.now)))
         (Rose (S.faults script.old) (S.faults script.new)) (Rose (K.faults out.old) (K.faults out.new))
         × Ran (forms.run buffer schema.now (map (λ w. w.now) documents.now)) course result (S.left script.old) (S.left script.new) (S.calls script.old) (S.calls script.new)
-        (K.held out.old) (K.held out.new) (K.calls out.old) (K.calls out.new) }
+        (K.contents out.old) (K.contents out.new) (K.calls out.old) (K.calls out.new) }
     ensures files { V.files vault.new ≡ V.files vault.old }
     ensures vault_calls { V.calls vault.new ≤ V.calls vault.old + (length documents.now + 1) }
 {
@@ -166,7 +166,7 @@ fn run_project<S: Source, K: Sink>(
     ensures answering { Answering (accepted (project_shown project)) result ⊥ (Rose (S.faults script.old) (S.faults script.new)) (Rose (K.faults out.old) (K.faults out.new)) }
     ensures ran { (schema : List ℕ) (documents : List (List ℕ))
         → Ran (forms.run buffer schema documents) (accepted (project_shown project)) result (S.left script.old) (S.left script.new) (S.calls script.old) (S.calls script.new)
-        (K.held out.old) (K.held out.new) (K.calls out.old) (K.calls out.new) }
+        (K.contents out.old) (K.contents out.new) (K.calls out.old) (K.calls out.new) }
 {
     match read_script(alloc, script) {
         Ok(bytes) => answer_lines(alloc, project, buffer, &bytes, out),

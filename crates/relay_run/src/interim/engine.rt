@@ -8,7 +8,7 @@ ghost use Rattle.relay_model.specs.Payload.{Said};
 ghost use Rattle.relay_model.specs.Printed as printed;
 ghost use Rattle.relay_run.specs.Lines.{event_shown};
 ghost use Rattle.relay_run.specs.RefusalShown.{refusal_shown};
-ghost use Rattle.relay_run.specs.Shown.{named, project_shown};
+ghost use Rattle.relay_run.specs.Shown.{by_name, project_shown};
 ghost use Rattle.relay_run.specs.Stands.{StandsFor, Answers};
 ghost use Rattle.relay_run.specs.Steps.{HasStepped};
 ghost use Rattle.relay_run.specs.Stored.{facts_shown};
@@ -16,11 +16,11 @@ ghost use Rattle.relay_run.specs.Stored.{facts_shown};
 use crate::interim::event::{Event, Line, event_of, line_of};
 use crate::interim::operations::{Operations, add, find};
 use crate::interim::payload::facts_of;
+use crate::interim::print_reading::reading_line;
 use crate::interim::project::Project;
 use crate::interim::reading::read_root;
 use crate::interim::records::{Fact, put_facts};
-use crate::interim::shown::shown;
-use crate::printed::{done, refusal};
+use crate::printed::{event_line, refusal};
 use crate::refusal::Refusal;
 use gql_plain::{NoMemory, Plain, Words};
 use indexmap::IndexMap;
@@ -76,8 +76,8 @@ impl Engine {
         ensures { IfOk result (λ a. (p : machine.Project) (s : State) → StandsFor self.old p s → Answers p s n line.now a self.new) }
     {
         match line_of(alloc, line)? {
-            Line::TooLong => refused(alloc, Refusal::NotYet, n),
-            Line::NotJson => refused(alloc, Refusal::NotJson, n),
+            Line::TooLong => refuse(alloc, Refusal::NotYet, n),
+            Line::NotJson => refuse(alloc, Refusal::NotJson, n),
             Line::Json(value) => self.step_value(alloc, &value, n),
         }
     }
@@ -90,7 +90,7 @@ impl Engine {
     {
         match event_of(value) {
             Some(event) => self.step_event(alloc, event, n),
-            None => refused(alloc, Refusal::NotYet, n),
+            None => refuse(alloc, Refusal::NotYet, n),
         }
     }
 
@@ -118,15 +118,15 @@ impl Engine {
         ensures { IfOk result (λ a. HasStepped self.old self.new a (λ p s. machine.step_retain p s n handle.now operation.now)) }
     {
         if is_taken(&self.handles, handle) {
-            return refused(alloc, Refusal::NotYet, n);
+            return refuse(alloc, Refusal::NotYet, n);
         }
         match find(&self.project.operations, operation) {
             Some(shared) => {
-                let text = done(alloc, "retain", n)?;
+                let text = event_line(alloc, "retain", n)?;
                 add(alloc, &mut self.handles, handle, shared.share()?)?;
-                Ok(accepted(text))
+                Ok(accept(text))
             }
-            None => refused(alloc, Refusal::UnknownOperation(operation), n),
+            None => refuse(alloc, Refusal::UnknownOperation(operation), n),
         }
     }
 
@@ -143,11 +143,11 @@ impl Engine {
             (λ p s. machine.step_event p s n (events.payload handle.now (view response.now)))) }
     {
         let Some(shared) = find(&self.handles, handle) else {
-            return refused(alloc, Refusal::UnknownHandle(handle), n);
+            return refuse(alloc, Refusal::UnknownHandle(handle), n);
         };
         match facts_of(alloc, &self.project.schema, shared.selections(), response)? {
             Some(facts) => self.confirm(alloc, facts, n),
-            None => refused(alloc, Refusal::NotYet, n),
+            None => refuse(alloc, Refusal::NotYet, n),
         }
     }
 
@@ -157,9 +157,9 @@ impl Engine {
         ensures { IfOk result (λ a. (said : Said) → said.plain ≡ true → facts_shown facts.items ≡ said.facts
             → HasStepped self.old self.new a (λ p s. machine.confirm s n said)) }
     {
-        let text = done(alloc, "payload", n)?;
+        let text = event_line(alloc, "payload", n)?;
         put_facts(alloc, &mut self.records, facts)?;
-        Ok(accepted(text))
+        Ok(accept(text))
     }
 
     /// Reads the operation of a handle.
@@ -168,7 +168,7 @@ impl Engine {
         ensures { IfOk result (λ a. HasStepped self.now self.now a (λ p s. machine.step_event p s n (events.read handle.now))) }
     {
         let Some(shared) = find(&self.handles, handle) else {
-            return refused(alloc, Refusal::UnknownHandle(handle), n);
+            return refuse(alloc, Refusal::UnknownHandle(handle), n);
         };
         let reading = read_root(
             alloc,
@@ -176,20 +176,20 @@ impl Engine {
             &self.records,
             shared.selections(),
         )?;
-        Ok(accepted(shown(alloc, n, reading)?))
+        Ok(accept(reading_line(alloc, n, reading)?))
     }
 }
 
 /// Whether the handle is live, or as many are as may be; takes no memory.
 #[tactic(auto, using(crate::proofs::EngineLaws::lengths))]
 fn is_taken(handles: &Operations, handle: &str) -> bool
-    ensures { result ≡ (is_some (machine.under handle.now (named handles.now.entries))
-        || (length (named handles.now.entries) == machine.max_handles)) }
+    ensures { result ≡ (is_some (machine.under handle.now (by_name handles.now.entries))
+        || (length (by_name handles.now.entries) == machine.max_handles)) }
 {
     find(handles, handle).is_some() || handles.len() == MAX_HANDLES
 }
 
-fn accepted(text: Words) -> Answer
+fn accept(text: Words) -> Answer
     ensures { (result.text ≡ text) × (result.refused ≡ false) }
 {
     Answer {
@@ -199,7 +199,7 @@ fn accepted(text: Words) -> Answer
 }
 
 /// The answer of a line that is refused.
-fn refused(alloc: Global, why: Refusal<'_>, n: u64) -> Result<Answer, NoMemory>
+fn refuse(alloc: Global, why: Refusal<'_>, n: u64) -> Result<Answer, NoMemory>
     requires { n < 2 ^ 63 }
     ensures { IfOk result (λ a. (a.text ≡ printed.refusal n (refusal_shown why.entry)) × (a.refused ≡ true)) }
 {

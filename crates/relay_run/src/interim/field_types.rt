@@ -4,8 +4,8 @@ ghost use Rattle.std.specs.Prelude.{◌≡◌};
 ghost use Rattle.relay_model.specs.Schema as model;
 
 use gql_ast::Kind;
+use schema_tables::type_forms::base_of;
 use schema_types::Schema;
-use schema_types::type_forms::base_of;
 
 /// The named type of a field; the empty text where there is no such field. Takes no memory.
 pub fn type_of<'a>(schema: &'a Schema, of: &str, name: &str) -> &'a str

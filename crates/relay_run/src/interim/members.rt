@@ -1,13 +1,10 @@
 //! Looking into JSON objects.
-ghost use Rattle.std.specs.Prelude.{◌≡◌, OnOk, option_map};
-ghost use Rattle.serde_json.specs.Data.{put};
+ghost use Rattle.std.specs.Prelude.{◌≡◌, option_map};
 ghost use Rattle.serde_json.specs.Find.{get_member};
 ghost use Rattle.serde_json.specs.View.{view, members_view};
 ghost use Rattle.relay_model.specs.Events.{text_at};
 
-use gql_plain::NoMemory;
 use serde_json::{Map, Value};
-use std::alloc::Global;
 
 /// The value of a key, where the object has it; takes no memory.
 pub fn member_at<'a>(members: &'a Map<String, Value>, key: &str) -> Option<&'a Value>
@@ -24,18 +21,4 @@ pub fn text_at<'a>(members: &'a Map<String, Value>, key: &str) -> Option<&'a str
         Some(value) => value.as_str(),
         None => None,
     }
-}
-
-/// Puts a value under a key.
-pub fn put_member(
-    alloc: Global,
-    members: &mut Map<String, Value>,
-    key: &str,
-    value: Value,
-) -> Result<(), NoMemory>
-    ensures { OnOk result (members_view members.new.entries ≡ put key.now (view value) (members_view members.old.entries)) }
-{
-    let name = String::from_str(alloc, key)?;
-    drop(members.insert(name, value)?);
-    Ok(())
 }

@@ -60,12 +60,12 @@ pub fn object_id(
         ≡ model.object_id has_id (keys.client_id parent.now key.now) (members_view given.now.entries)) }
 {
     if !has_id {
-        return generated(alloc, parent, key, true);
+        return generate_id(alloc, parent, key, true);
     }
     given_id(alloc, parent, key, member_at(given, "id"))
 }
 
-fn generated(alloc: Global, parent: &str, key: &str, plain: bool) -> Result<ObjectId, NoMemory>
+fn generate_id(alloc: Global, parent: &str, key: &str, plain: bool) -> Result<ObjectId, NoMemory>
     ensures { IfOk result (λ own. object_id_shown own ≡ (keys.client_id parent.now key.now, plain)) }
 {
     Ok(ObjectId {
@@ -88,20 +88,20 @@ fn given_id(
         )) }
 {
     match given {
-        None => generated(alloc, parent, key, true),
+        None => generate_id(alloc, parent, key, true),
         Some(value) => match value {
-            Value::Null => generated(alloc, parent, key, true),
-            Value::Bool(_) => generated(alloc, parent, key, false),
-            Value::Number(_) => generated(alloc, parent, key, false),
-            Value::String(text) => told(alloc, text.as_str()),
-            Value::Array(_) => generated(alloc, parent, key, false),
-            Value::Object(_) => generated(alloc, parent, key, false),
+            Value::Null => generate_id(alloc, parent, key, true),
+            Value::Bool(_) => generate_id(alloc, parent, key, false),
+            Value::Number(_) => generate_id(alloc, parent, key, false),
+            Value::String(text) => text_id(alloc, text.as_str()),
+            Value::Array(_) => generate_id(alloc, parent, key, false),
+            Value::Object(_) => generate_id(alloc, parent, key, false),
         },
     }
 }
 
-/// The id that a text tells: a plain one is not empty, and no generated one.
-fn told(alloc: Global, text: &str) -> Result<ObjectId, NoMemory>
+/// The id that a text is: a plain one is not empty, and no generated one.
+fn text_id(alloc: Global, text: &str) -> Result<ObjectId, NoMemory>
     ensures { IfOk result (λ own. object_id_shown own ≡ (text.now, model.is_plain_id (Some (J.string text.now)))) }
 {
     let id = Words::new(alloc, text)?;

@@ -1,7 +1,7 @@
 //! Operations under names: those of a project, and those of live handles.
 ghost use Rattle.std.specs.Prelude.{◌≡◌, ◌∷◌, ◌++◌, [], option_copied, None, IfOk, OnOk};
 ghost use Rattle.relay_model.specs.Machine.{under};
-ghost use Rattle.relay_run.specs.Shown.{named};
+ghost use Rattle.relay_run.specs.Shown.{by_name};
 
 use gql_ast::Selections;
 use gql_plain::NoMemory;
@@ -59,7 +59,7 @@ pub type Operations = IndexMap<String, Shared>;
 
 /// The operation of a name; takes no memory.
 pub fn find<'a>(operations: &'a Operations, name: &str) -> Option<&'a Shared>
-    ensures { option_copied result ≡ under name.now (named operations.now.entries) }
+    ensures { option_copied result ≡ under name.now (by_name operations.now.entries) }
 {
     operations.get(name)
 }
@@ -71,8 +71,8 @@ pub fn add(
     name: &str,
     selections: Shared,
 ) -> Result<(), NoMemory>
-    requires { under name.now (named operations.old.entries) ≡ None }
-    ensures { OnOk result (named operations.new.entries ≡ named operations.old.entries ++ (name.now, selections) ∷ []) }
+    requires { under name.now (by_name operations.old.entries) ≡ None }
+    ensures { OnOk result (by_name operations.new.entries ≡ by_name operations.old.entries ++ (name.now, selections) ∷ []) }
 {
     let name = String::from_str(alloc, name)?;
     drop(operations.insert(name, selections)?);

@@ -7,7 +7,7 @@ ghost use Rattle.relay_model.specs.Payload as model;
 ghost use Rattle.relay_model.specs.Records.{leaf, link};
 ghost use Rattle.relay_model.specs.Schema as types;
 ghost use Rattle.gql_plain.specs.Tree.{text};
-ghost use Rattle.relay_run.specs.Said.{said_shown, field_said, allowed, has_text, AreFacts};
+ghost use Rattle.relay_run.specs.Said.{said_shown, field_said, flag, has_text, AreFacts};
 ghost use Rattle.relay_run.specs.Stored.{facts_shown};
 
 use crate::interim::engine::Field;
@@ -211,7 +211,7 @@ fn tell_link(
     said: &mut Said,
 ) -> Result<(), NoMemory>
     ensures { OnOk result (said_shown said.new ≡ model.both (said_shown said.old)
-        (model.both (allowed own.now.plain)
+        (model.both (flag own.now.plain)
         (model.both (model.fact parent.now key.now (link own.now.id)) (model.fact own.now.id keys.typename (leaf (text of.now)))))) }
 {
     said.allow(own.plain);

@@ -3,9 +3,9 @@ ghost use Rattle.std.specs.Prelude.{◌≡◌, ◌&&◌, ◌<◌, ◌^◌, ◌-�
 ghost use Rattle.relay_run.specs.Plain as plain;
 ghost use Rattle.relay_run.specs.PlainParts as parts;
 ghost use Rattle.relay_run.specs.Projects.{trees_of};
-ghost use Rattle.relay_run.specs.Shown.{named};
+ghost use Rattle.relay_run.specs.Shown.{by_name};
 ghost use Rattle.gql_ast.specs.declared.document.Kind.TheVariants.{Query};
-ghost use Rattle.schema_types.specs.Types.{same_kind, is_empty};
+ghost use Rattle.schema_tables.specs.Types.{same_kind, is_empty};
 
 use crate::interim::field_types::query_type;
 use crate::interim::operations::{Operations, Shared, add, find};
@@ -82,9 +82,9 @@ fn add_operation(
     operations: &mut Operations,
 ) -> Result<bool, NoMemory>
     ensures added { result ≡ Ok true
-        → plain.with_query (named operations.old.entries) (plain.named_query schema.now operation operation.name) ≡ Some (named operations.new.entries) }
+        → plain.with_query (by_name operations.old.entries) (plain.named_query schema.now operation operation.name) ≡ Some (by_name operations.new.entries) }
     ensures refused { result ≡ Ok false
-        → plain.with_query (named operations.old.entries) (plain.named_query schema.now operation operation.name) ≡ None }
+        → plain.with_query (by_name operations.old.entries) (plain.named_query schema.now operation operation.name) ≡ None }
 {
     if !is_plain_query(alloc, schema, &operation)? {
         return Ok(false);
@@ -113,9 +113,9 @@ fn add_definition(
     operations: &mut Operations,
 ) -> Result<bool, NoMemory>
     ensures added { result ≡ Ok true
-        → plain.with_query (named operations.old.entries) (plain.plain_definition schema.now definition) ≡ Some (named operations.new.entries) }
+        → plain.with_query (by_name operations.old.entries) (plain.plain_definition schema.now definition) ≡ Some (by_name operations.new.entries) }
     ensures refused { result ≡ Ok false
-        → plain.with_query (named operations.old.entries) (plain.plain_definition schema.now definition) ≡ None }
+        → plain.with_query (by_name operations.old.entries) (plain.plain_definition schema.now definition) ≡ None }
 {
     match definition {
         Definition::Operation(operation) => add_operation(alloc, schema, operation, operations),
@@ -132,9 +132,9 @@ fn add_definitions(
     operations: &mut Operations,
 ) -> Result<bool, NoMemory>
     ensures added { result ≡ Ok true
-        → plain.with_definitions schema.now (Some (named operations.old.entries)) definitions ≡ Some (named operations.new.entries) }
+        → plain.with_definitions schema.now (Some (by_name operations.old.entries)) definitions ≡ Some (by_name operations.new.entries) }
     ensures refused { result ≡ Ok false
-        → plain.with_definitions schema.now (Some (named operations.old.entries)) definitions ≡ None }
+        → plain.with_definitions schema.now (Some (by_name operations.old.entries)) definitions ≡ None }
 {
     'definitions: for definition in definitions.items {
         if !add_definition(alloc, schema, definition, operations)? {
@@ -156,7 +156,7 @@ pub fn plain_operations(
     documents: Documents,
 ) -> Result<Operations, PlainFault>
     requires { length documents < 2 ^ 32 - 1 }
-    ensures taken { IfOk result (λ operations. plain.plain schema.now (trees_of documents) ≡ plain.taken (named operations.entries)) }
+    ensures taken { IfOk result (λ operations. plain.plain schema.now (trees_of documents) ≡ plain.taken (by_name operations.entries)) }
     ensures not_taken { IfErr result (parts.IsPlainFault schema.now (trees_of documents)) }
 {
     let mut operations = IndexMap::new(alloc);

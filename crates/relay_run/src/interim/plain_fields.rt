@@ -8,13 +8,13 @@ ghost use Rattle.relay_model.specs.Payload.{all_differ};
 ghost use Rattle.relay_run.specs.Plain as plain;
 ghost use Rattle.relay_run.specs.PlainParts as parts;
 ghost use Rattle.relay_run.specs.Said.{has_text};
-ghost use Rattle.schema_types.specs.Rules.{is_object};
-ghost use Rattle.schema_types.specs.Types.{field_on};
+ghost use Rattle.schema_rules.specs.Rules.{is_object};
+ghost use Rattle.schema_tables.specs.Types.{field_on};
 
 use crate::interim::field_types::type_of;
 use gql_ast::{Arguments, Directives, Selection, Selections, TypeTree};
 use gql_plain::{Name, NoMemory};
-use schema_types::type_forms::base_of;
+use schema_tables::type_forms::base_of;
 use schema_types::{InputDefs, Schema, TypeKind};
 use std::alloc::Global;
 use std::collections::BTreeMap;

@@ -57,8 +57,8 @@ pub fn read_project(alloc: Global, files: &[ProjectFile]) -> Result<Project, Pro
         Err(CompileFault::Refused(fault)) => return Err(ProjectRefusal::Fault(fault)),
         Err(CompileFault::NoMemory) => return Err(ProjectRefusal::NoMemory),
     };
-    let schema = compiled.schema;
-    match plain_operations(alloc, &schema, compiled.documents) {
+    let (schema, documents) = compiled.into_parts();
+    match plain_operations(alloc, &schema, documents) {
         Ok(operations) => Ok(Project { schema, operations }),
         Err(PlainFault::NotTaken(file)) => Err(ProjectRefusal::NotTaken(file)),
         Err(PlainFault::NoMemory) => Err(ProjectRefusal::NoMemory),

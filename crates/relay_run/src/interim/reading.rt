@@ -1,35 +1,32 @@
 //! Reading the records along the selections of an operation (this project's own).
-ghost use Rattle.std.specs.Prelude.{◌≡◌, OnOk, IfOk, Option, option_map};
+ghost use Rattle.std.specs.Prelude.{◌≡◌, OnOk, IfOk, option_map};
 ghost use Rattle.gql_ast.specs.SelectionView.{sel_of};
-ghost use Rattle.gql_plain.specs.Tree.{Tree};
-ghost use Rattle.gql_plain.specs.ToJson.{data_of};
-ghost use Rattle.serde_json.specs.View.{view, members_view};
 ghost use Rattle.relay_model.specs.Read as model;
-ghost use Rattle.relay_run.specs.Reading.{IsAnswer, IsReading, is_typed, field_answer, members_put, progress, read_on, under};
+ghost use Rattle.relay_run.specs.Reading.{IsAnswer, IsReading, is_typed, field_answer, progress, read_on, under};
 ghost use Rattle.relay_run.specs.Stands.{field_shown};
 ghost use Rattle.relay_run.specs.Stored.{stored_in};
 
 use crate::interim::engine::Field;
 use crate::interim::field_types::{query_type, type_of};
-use crate::interim::members::put_member;
+use crate::interim::read_members::{Members, pairs_of, put_value};
 use crate::interim::records::{Records, field_at};
 use crate::interim::trace::Trace;
 use gql_ast::{Selection, Selections};
-use gql_plain::{NoMemory, Plain, value_of};
+use gql_plain::{NoMemory, Plain};
 use schema_types::Schema;
-use serde_json::{Map, Value};
 use std::alloc::Global;
+use std::collections::BTreeMap;
 
 /// What an operation reads: its data, none where it is missing, and what was met.
 #[derive(Drop)]
 pub struct Reading {
-    pub value: Option<Value>,
+    pub value: Option<Plain>,
     pub trace: Trace,
 }
 
 /// The type of a record: the root's is the root type of a query. Takes no memory.
-fn typed<'a>(schema: &'a Schema, name: &'a str) -> &'a str
-    ensures { result.now ≡ model.typed schema.now name.now }
+fn record_type<'a>(schema: &'a Schema, name: &'a str) -> &'a str
+    ensures { result.now ≡ model.record_type schema.now name.now }
 {
     if name == "__Root" {
         query_type(schema)
@@ -47,7 +44,7 @@ fn is_of(schema: &Schema, field: Option<&Field>, of: &str) -> bool
         Some(stored) => match stored {
             Field::Link(_) => false,
             Field::Leaf(plain) => match plain {
-                Plain::Text(name) => typed(schema, name.as_str()) == of,
+                Plain::Text(name) => record_type(schema, name.as_str()) == of,
                 Plain::Null => false,
                 Plain::Bool(_) => false,
                 Plain::Int(_) => false,
@@ -58,9 +55,9 @@ fn is_of(schema: &Schema, field: Option<&Field>, of: &str) -> bool
     }
 }
 
-/// What a field that is missing shows.
-fn missing(trace: &mut Trace) -> Option<Value>
-    ensures { IsAnswer result trace.old trace.new (None, model.lost) }
+/// What a field that is missing shows: nothing.
+fn miss(trace: &mut Trace) -> Option<Plain>
+    ensures { IsAnswer result trace.old trace.new (None, model.loss) }
 {
     trace.lose();
     None
@@ -71,15 +68,15 @@ fn read_leaf(
     alloc: Global,
     field: Option<&Field>,
     trace: &mut Trace,
-) -> Result<Option<Value>, NoMemory>
+) -> Result<Option<Plain>, NoMemory>
     ensures { IfOk result (λ value. IsAnswer value trace.old trace.new
         (model.leaf_at (option_map (λ f. field_shown f.now) field.entry))) }
 {
     match field {
-        None => Ok(missing(trace)),
+        None => Ok(miss(trace)),
         Some(stored) => match stored {
-            Field::Leaf(plain) => Ok(Some(value_of(alloc, plain)?)),
-            Field::Link(_) => Ok(missing(trace)),
+            Field::Leaf(plain) => Ok(Some(plain.copy()?)),
+            Field::Link(_) => Ok(miss(trace)),
         },
     }
 }
@@ -94,18 +91,18 @@ fn read_at(
     of: &str,
     id: &str,
     trace: &mut Trace,
-) -> Result<Option<Value>, NoMemory>
+) -> Result<Option<Plain>, NoMemory>
     ensures { IfOk result (λ value. IsAnswer value trace.old trace.new
         (model.stand_at schema.now (stored_in records.now) of.now
         (λ j. model.fields_at schema.now (stored_in records.now) subs.now of.now j) id.now)) }
 {
     trace.stand(alloc, id)?;
     if !is_of(schema, field_at(records, id, "__typename"), of) {
-        return Ok(missing(trace));
+        return Ok(miss(trace));
     }
-    let mut members = Map::new(alloc);
+    let mut members = BTreeMap::new(alloc);
     read_fields(alloc, schema, records, subs, of, id, &mut members, trace)?;
-    Ok(Some(Value::Object(members)))
+    Ok(Some(Plain::Tree(pairs_of(alloc, members)?)))
 }
 
 /// Puts what the fields of a set show at an id into an object.
@@ -117,7 +114,7 @@ fn read_fields(
     selections: &Selections,
     of: &str,
     id: &str,
-    members: &mut Map<String, Value>,
+    members: &mut Members,
     trace: &mut Trace,
 ) -> Result<(), NoMemory>
     ensures { OnOk result (progress members.new trace.new ≡ read_on (progress members.old trace.old)
@@ -137,7 +134,7 @@ fn read_selection(
     selection: &Selection,
     of: &str,
     id: &str,
-    members: &mut Map<String, Value>,
+    members: &mut Members,
     trace: &mut Trace,
 ) -> Result<(), NoMemory>
     ensures { OnOk result (progress members.new trace.new ≡ read_on (progress members.old trace.old)
@@ -174,14 +171,14 @@ fn read_field(
     of: &str,
     id: &str,
     name: &str,
-    members: &mut Map<String, Value>,
+    members: &mut Members,
     trace: &mut Trace,
 ) -> Result<(), NoMemory>
     ensures { OnOk result (progress members.new trace.new ≡ read_on (progress members.old trace.old)
         (under name.now (field_answer schema.now (stored_in records.now) subs.now of.now id.now name.now))) }
 {
     let value = read_value(alloc, schema, records, subs, of, id, name, trace)?;
-    put_found(alloc, members, name, value)
+    put_value(alloc, members, name, value)
 }
 
 /// What a field with this set of its own shows.
@@ -195,7 +192,7 @@ fn read_value(
     id: &str,
     name: &str,
     trace: &mut Trace,
-) -> Result<Option<Value>, NoMemory>
+) -> Result<Option<Plain>, NoMemory>
     ensures { IfOk result (λ value. IsAnswer value trace.old trace.new
         (field_answer schema.now (stored_in records.now) subs.now of.now id.now name.now)) }
 {
@@ -224,7 +221,7 @@ fn read_object(
     of: &str,
     field: Option<&Field>,
     trace: &mut Trace,
-) -> Result<Option<Value>, NoMemory>
+) -> Result<Option<Plain>, NoMemory>
     ensures { IfOk result (λ value. IsAnswer value trace.old trace.new
         (model.object_at
         (model.stand_at schema.now (stored_in records.now) of.now
@@ -232,34 +229,18 @@ fn read_object(
         (option_map (λ f. field_shown f.now) field.entry))) }
 {
     match field {
-        None => Ok(missing(trace)),
+        None => Ok(miss(trace)),
         Some(stored) => match stored {
             Field::Link(id) => read_at(alloc, schema, records, subs, of, id.as_str(), trace),
             Field::Leaf(plain) => match plain {
-                Plain::Null => Ok(Some(Value::Null)),
-                Plain::Bool(_) => Ok(missing(trace)),
-                Plain::Int(_) => Ok(missing(trace)),
-                Plain::Text(_) => Ok(missing(trace)),
-                Plain::List(_) => Ok(missing(trace)),
-                Plain::Tree(_) => Ok(missing(trace)),
+                Plain::Null => Ok(Some(Plain::Null)),
+                Plain::Bool(_) => Ok(miss(trace)),
+                Plain::Int(_) => Ok(miss(trace)),
+                Plain::Text(_) => Ok(miss(trace)),
+                Plain::List(_) => Ok(miss(trace)),
+                Plain::Tree(_) => Ok(miss(trace)),
             },
         },
-    }
-}
-
-/// Puts a value that was found under a key.
-fn put_found(
-    alloc: Global,
-    members: &mut Map<String, Value>,
-    key: &str,
-    value: Option<Value>,
-) -> Result<(), NoMemory>
-    ensures { OnOk result ((found : Option Tree) → option_map view value ≡ option_map data_of found
-        → members_view members.new.entries ≡ members_put (members_view members.old.entries) (model.member_of key.now found)) }
-{
-    match value {
-        None => Ok(()),
-        Some(value) => put_member(alloc, members, key, value),
     }
 }
 

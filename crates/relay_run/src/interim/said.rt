@@ -2,7 +2,7 @@
 ghost use Rattle.std.specs.Prelude.{◌≡◌, OnOk, option_map};
 ghost use Rattle.serde_json.specs.View.{view};
 ghost use Rattle.relay_model.specs.Payload as model;
-ghost use Rattle.relay_run.specs.Said.{said_shown, allowed};
+ghost use Rattle.relay_run.specs.Said.{said_shown, flag};
 ghost use Rattle.relay_run.specs.Stands.{field_shown};
 
 use crate::interim::engine::Field;
@@ -43,7 +43,7 @@ impl Said {
     /// Says whether something is of the plain form; takes no memory.
     #[tactic(auto, using(crate::proofs::Saying::more))]
     pub fn allow(&mut self, plain: bool)
-        ensures { said_shown self.new ≡ model.both (said_shown self.old) (allowed plain) }
+        ensures { said_shown self.new ≡ model.both (said_shown self.old) (flag plain) }
     {
         self.plain &= plain;
     }

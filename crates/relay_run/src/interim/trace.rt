@@ -16,7 +16,7 @@ pub struct Trace {
 impl Trace {
     /// Nothing; takes no memory.
     pub fn new(alloc: Global) -> Trace
-        ensures { trace_shown result ≡ model.still }
+        ensures { trace_shown result ≡ model.no_trace }
     {
         Trace {
             missing: false,
@@ -27,7 +27,7 @@ impl Trace {
     /// Stands at an id.
     #[tactic(auto, using(crate::proofs::ReadingLaws::traces))]
     pub fn stand(&mut self, alloc: Global, id: &str) -> Result<(), NoMemory>
-        ensures { OnOk result (trace_shown self.new ≡ model.joined (trace_shown self.old) (model.standing id.now)) }
+        ensures { OnOk result (trace_shown self.new ≡ model.join (trace_shown self.old) (model.visit id.now)) }
     {
         self.seen.push(Words::new(alloc, id)?)?;
         Ok(())
@@ -36,7 +36,7 @@ impl Trace {
     /// Something is missing; takes no memory.
     #[tactic(auto, using(crate::proofs::ReadingLaws::traces))]
     pub fn lose(&mut self)
-        ensures { trace_shown self.new ≡ model.joined (trace_shown self.old) model.lost }
+        ensures { trace_shown self.new ≡ model.join (trace_shown self.old) model.loss }
     {
         self.missing = true;
     }

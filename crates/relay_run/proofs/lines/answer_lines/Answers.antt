@@ -1,7 +1,7 @@
 use Rattle.std.proofs.Common.{◌≡◌, ◌+◌, ◌++◌, ◌||◌, true, [], length, refl, sym, ap, inl, inr, ◌∙◌, arith, take, length-append, length-take, Option}
 use Rattle.std.proofs.lemmas.Bool.{true≢false, eqb-true}
-use Rattle.relay_io.specs.Streams.{appended}
-use Rattle.relay_io.proofs.Streaming.{appended-none, appended-appended}
+use Rattle.relay_io.specs.Streams.{append}
+use Rattle.relay_io.proofs.Streaming.{append-none, append-append}
 use Rattle.relay_model.specs.Events.{max_line}
 use Rattle.relay_model.specs.Keys.{Text}
 use Rattle.relay_model.specs.Machine.{beginning, step, refused_from}
@@ -12,13 +12,13 @@ use Rattle.relay_run.proofs.lines.answer_lines.Goals as goal
 
 pub lines-init : goal.lines-init
 lines-init g c = record {
-  so_far = (beginning, c.new-engine.ensures.stands, [], sym (appended-none _), refl, refl, inl refl, omega arith);
+  so_far = (beginning, c.new-engine.ensures.stands, [], sym (append-none _), refl, refl, inl refl, omega arith);
   numbered = omega arith;
   later = omega arith;
 }
 
-added_more : (h0 h1 h2 : Option Text) (added more : Text) → h1 ≡ appended h0 added → h2 ≡ appended h1 more → h2 ≡ appended h0 (added ++ more)
-added_more h0 h1 h2 added more first next = next ∙ ap (λ h. appended h more) first ∙ appended-appended h0 added more
+added_more : (h0 h1 h2 : Option Text) (added more : Text) → h1 ≡ append h0 added → h2 ≡ append h1 more → h2 ≡ append h0 (added ++ more)
+added_more h0 h1 h2 added more first next = next ∙ ap (λ h. append h more) first ∙ append-append h0 added more
 
 pub returns-in-Err-WriteFault-clause-added : goal.returns-in-Err-WriteFault-clause-added
 returns-in-Err-WriteFault-clause-added g c =
@@ -27,7 +27,7 @@ returns-in-Err-WriteFault-clause-added g c =
     let w = c.in-Err-WriteFault.ensures.err p inv.0 inv.1 in
     let text = (step p inv.0 c.lines.n (take (max_line + 1) c.first_line.result.0.now)).text in (
       inv.2 ++ take w.0 text,
-      added_more (g.K.Sink.held c.args.out.now) (g.K.Sink.held c.lines.out) (g.K.Sink.held c.answer_line.new.out) inv.2 (take w.0 text) inv.3 w.2,
+      added_more (g.K.Sink.contents c.args.out.now) (g.K.Sink.contents c.lines.out) (g.K.Sink.contents c.answer_line.new.out) inv.2 (take w.0 text) inv.3 w.2,
       omega (arith, inv.7, w.3, w.1, length-append inv.2 (take w.0 text), length-take w.0 text),
       inl refl,
       _,
@@ -43,7 +43,7 @@ returns-in-Err-NoMemory-clause-added g c =
     let text = (step p inv.0 c.lines.n (take (max_line + 1) c.first_line.result.0.now)).text in
     let none : take w.0 text ≡ [] = ap (λ k. take k text) (w.4 c.in-Err-NoMemory.field-0-is) in (
       inv.2,
-      w.2 ∙ ap (appended (g.K.Sink.held c.lines.out)) none ∙ appended-none _ ∙ inv.3,
+      w.2 ∙ ap (append (g.K.Sink.contents c.lines.out)) none ∙ append-none _ ∙ inv.3,
       omega (arith, inv.7, w.3, w.4 c.in-Err-NoMemory.field-0-is),
       inr inv.6,
       _,
@@ -62,7 +62,7 @@ lines-preserved g c =
         now.state,
         w.1,
         inv.2 ++ now.text,
-        added_more (g.K.Sink.held c.args.out.now) (g.K.Sink.held c.lines.out) (g.K.Sink.held c.answer_line.new.out) inv.2 now.text inv.3 w.2,
+        added_more (g.K.Sink.contents c.args.out.now) (g.K.Sink.contents c.lines.out) (g.K.Sink.contents c.answer_line.new.out) inv.2 now.text inv.3 w.2,
         written_next p inv.0 c.lines.n _ inv.2 c.first_line.result.0.now (lines_of c.lines.rest.now true) (lines_of c.first_line.result.1.now true) c.first_line.ensures.lines inv.4,
         refused_next p inv.0 c.lines.n _ c.lines.refused c.first_line.result.0.now (lines_of c.lines.rest.now true) (lines_of c.first_line.result.1.now true) c.first_line.ensures.lines inv.5
             ∙ ap (λ r. (c.lines.refused || r) || refused_from p now.state (c.lines.n + 1) (cut (lines_of c.first_line.result.1.now true))) (sym w.0),

@@ -1,9 +1,9 @@
 use Rattle.std.proofs.Common.{◌≡◌, ◌≤◌, ◌+◌, ◌++◌, ◌||◌, true, ℕ, List, length}
-use Rattle.relay_io.specs.Streams.{appended}
+use Rattle.relay_io.specs.Streams.{append}
 use Rattle.relay_model.specs.Machine.{State, output_from, refused_from}
 use Rattle.relay_model.specs.Script.{lines_of, cut}
 use Rattle.relay_run.specs.Answers.{EndsLine}
-use Rattle.relay_run.specs.Output.{written, has_refusal}
+use Rattle.relay_run.specs.Output.{output_text, has_refusal}
 use Rattle.relay_run.specs.Shown.{project_shown}
 use Rattle.relay_run.specs.Stands.{StandsFor}
 use Rattle.relay_run.proofs.lines.answer_lines.Given as goal
@@ -11,8 +11,8 @@ use Rattle.relay_run.proofs.lines.answer_lines.Given as goal
 abbrev pub invariant-lines : goal.invariant-lines
 invariant-lines g l = record {
   so_far : (s : State) × StandsFor l.engine (project_shown l.fn.project) s
-      × (added : List ℕ) × (g.K.Sink.held l.out ≡ appended (g.K.Sink.held l.fn.out) added)
-      × (written (project_shown l.fn.project) l.fn.buffer l.script true ≡ added ++ output_from (project_shown l.fn.project) s l.n (cut (lines_of l.rest true)))
+      × (added : List ℕ) × (g.K.Sink.contents l.out ≡ append (g.K.Sink.contents l.fn.out) added)
+      × (output_text (project_shown l.fn.project) l.fn.buffer l.script true ≡ added ++ output_from (project_shown l.fn.project) s l.n (cut (lines_of l.rest true)))
       × (has_refusal (project_shown l.fn.project) l.fn.buffer l.script ≡ (l.refused || refused_from (project_shown l.fn.project) s l.n (cut (lines_of l.rest true))))
       × EndsLine added × (g.K.Sink.calls l.out ≤ g.K.Sink.calls l.fn.out + length added);
   numbered : l.n + length l.rest ≤ length l.script + 1;

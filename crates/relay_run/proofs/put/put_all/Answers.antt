@@ -7,7 +7,7 @@ puts-preserved g c =
     let inv = c.puts.invariant in
     record {
       within = omega (arith, inv.within, c.in-Ok.ensures.bound, c.puts-test.true);
-      held = put_more (g.K.Sink.held c.args.out.now) (g.K.Sink.held c.puts.out) (g.K.Sink.held c.put.new.self) c.args.bytes.now c.puts.taken c.in-Ok.count inv.held c.in-Ok.ensures.bytes;
+      held = put_more (g.K.Sink.contents c.args.out.now) (g.K.Sink.contents c.puts.out) (g.K.Sink.contents c.put.new.self) c.args.bytes.now c.puts.taken c.in-Ok.count inv.held c.in-Ok.ensures.bytes;
       calls = omega (arith, inv.calls, c.put.ensures.counted, c.in-Ok.ensures.bound);
       later = omega (arith, inv.later, c.put.ensures.later);
     }

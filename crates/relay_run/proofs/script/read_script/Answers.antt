@@ -1,8 +1,8 @@
 use Rattle.std.proofs.Common.{◌≡◌, ◌⊎◌, ◌≤◌, ◌+◌, ◌++◌, ℕ, [], length, Result, Err, ap, ◌∙◌, arith, length-append, refl, inl, inr}
 use Rattle.std.specs.Prelude.{IsErrOf}
 use Rattle.std.proofs.lemmas.Grind.{common_steps}
-use Rattle.relay_io.specs.Streams.{prepended}
-use Rattle.relay_io.proofs.Streaming.{prepended-prepended}
+use Rattle.relay_io.specs.Streams.{prepend}
+use Rattle.relay_io.proofs.Streaming.{prepend-prepend}
 use Rattle.relay_model.specs.Keys.{Text}
 use Rattle.relay_run.specs.Answers.{GivesNoScript}
 use Rattle.relay_run.specs.declared.script.ScriptFault.{ScriptFault}
@@ -24,7 +24,7 @@ returns-in-Err-clause-gives g c =
     let inv = c.pieces.invariant in
     let w = c.in-Err.ensures.given in (
       c.pieces.bytes.items ++ w.0,
-      inv.given ∙ ap (prepended c.pieces.bytes.items) w.2 ∙ prepended-prepended c.pieces.bytes.items w.0 _,
+      inv.given ∙ ap (prepend c.pieces.bytes.items) w.2 ∙ prepend-prepend c.pieces.bytes.items w.0 _,
       gives_no_script c.pieces.bytes.items w.0 c.in-Err.fault (omega (arith, c.pieces-test.true, c.len-in-pieces.ensures)) (let a = c.read_piece.auto.piece in let b = c.min-ask.ensures in let d = c.deref_mut.ensures.len in grind (arith, common_steps, w.1, a, b, d, c.len-in-pieces.ensures, c.len-in-pieces-2.ensures, inv.within)) c.in-Err.ensures.form w.4,
       omega (arith, length-append c.pieces.bytes.items w.0, c.read_piece.ensures.counted, inv.calls),
     )

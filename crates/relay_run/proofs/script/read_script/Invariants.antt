@@ -1,5 +1,5 @@
 use Rattle.std.proofs.Common.{◌≡◌, ◌≤◌, ◌+◌, ◌-◌, length, vec_len}
-use Rattle.relay_io.specs.Streams.{prepended}
+use Rattle.relay_io.specs.Streams.{prepend}
 use Rattle.relay_run.specs.Output.{max_script}
 use Rattle.relay_run.proofs.script.read_script.Given as goal
 
@@ -7,7 +7,7 @@ abbrev pub invariant-pieces : goal.invariant-pieces
 invariant-pieces g l = record {
   within : length l.bytes.items ≤ max_script + 1;
   piece : vec_len l.piece ≡ 65536;
-  given : g.S.Source.left l.fn.script ≡ prepended l.bytes.items (g.S.Source.left l.script);
+  given : g.S.Source.left l.fn.script ≡ prepend l.bytes.items (g.S.Source.left l.script);
   calls : g.S.Source.calls l.script ≤ g.S.Source.calls l.fn.script + length l.bytes.items;
   later : g.S.Source.faults l.fn.script ≤ g.S.Source.faults l.script;
 }

@@ -12,5 +12,5 @@ returns-clause-ran g c =
     subst (λ form. (course : Course) × IsCourse (g.V.Vault.files c.args.vault.now) form course
     × Answering course c.run.result (vault ⊎ IsFirstAbsent (g.V.Vault.files c.args.vault.now) form) script sink
     × Ran form course c.run.result (g.S.Source.left c.args.script.now) (g.S.Source.left c.run.new.script) (g.S.Source.calls c.args.script.now) (g.S.Source.calls c.run.new.script)
-    (g.K.Sink.held c.args.out.now) (g.K.Sink.held c.run.new.out) (g.K.Sink.calls c.args.out.now) (g.K.Sink.calls c.run.new.out))
+    (g.K.Sink.contents c.args.out.now) (g.K.Sink.contents c.run.new.out) (g.K.Sink.calls c.args.out.now) (g.K.Sink.calls c.run.new.out))
     (sym c.parts-buffer.ensures) c.run.ensures.ran

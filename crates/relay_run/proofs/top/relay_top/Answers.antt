@@ -15,10 +15,10 @@ returns-in-Some-clause-whole g c = λ form h done.
     let s = Rose (g.S.Source.faults c.args.script.now) (g.S.Source.faults c.answer_form.new.script) in
     let k = Rose (g.K.Sink.faults c.args.out.now) (g.K.Sink.faults c.answer_form.new.out) in
     let P : Option Files → Form → Type 0 = λ files f. Called c.answer_form.result s k (g.S.Source.left c.args.script.now) (g.S.Source.left c.answer_form.new.script) (g.S.Source.calls c.args.script.now) (g.S.Source.calls c.answer_form.new.script)
-    (g.K.Sink.held c.args.out.now) (g.K.Sink.held c.answer_form.new.out) (g.K.Sink.calls c.args.out.now) (g.K.Sink.calls c.answer_form.new.out) files f v in
+    (g.K.Sink.contents c.args.out.now) (g.K.Sink.contents c.answer_form.new.out) (g.K.Sink.calls c.args.out.now) (g.K.Sink.calls c.answer_form.new.out) files f v in
     let same = form_same _ form (c.in-Some.ensures.asked ∙ h) in
     owed_whole c.answer_form.result s k (g.S.Source.left c.args.script.now) (g.S.Source.left c.answer_form.new.script) (g.S.Source.calls c.args.script.now) (g.S.Source.calls c.answer_form.new.script)
-    (g.K.Sink.held c.args.out.now) (g.K.Sink.held c.answer_form.new.out) (g.K.Sink.calls c.args.out.now) (g.K.Sink.calls c.answer_form.new.out) (g.V.Vault.files c.args.vault.now) form v (subst (P (g.V.Vault.files c.args.vault.now)) same c.answer_form.ensures.ran) done
+    (g.K.Sink.contents c.args.out.now) (g.K.Sink.contents c.answer_form.new.out) (g.K.Sink.calls c.args.out.now) (g.K.Sink.calls c.answer_form.new.out) (g.V.Vault.files c.args.vault.now) form v (subst (P (g.V.Vault.files c.args.vault.now)) same c.answer_form.ensures.ran) done
 
 pub returns-in-Some-clause-done : goal.returns-in-Some-clause-done
 returns-in-Some-clause-done g c = λ files form project bytes h told has left done.
@@ -26,10 +26,10 @@ returns-in-Some-clause-done g c = λ files form project bytes h told has left do
     let s = Rose (g.S.Source.faults c.args.script.now) (g.S.Source.faults c.answer_form.new.script) in
     let k = Rose (g.K.Sink.faults c.args.out.now) (g.K.Sink.faults c.answer_form.new.out) in
     let P : Option Files → Form → Type 0 = λ files f. Called c.answer_form.result s k (g.S.Source.left c.args.script.now) (g.S.Source.left c.answer_form.new.script) (g.S.Source.calls c.args.script.now) (g.S.Source.calls c.answer_form.new.script)
-    (g.K.Sink.held c.args.out.now) (g.K.Sink.held c.answer_form.new.out) (g.K.Sink.calls c.args.out.now) (g.K.Sink.calls c.answer_form.new.out) files f v in
+    (g.K.Sink.contents c.args.out.now) (g.K.Sink.contents c.answer_form.new.out) (g.K.Sink.calls c.args.out.now) (g.K.Sink.calls c.answer_form.new.out) files f v in
     let same = form_same _ form (c.in-Some.ensures.asked ∙ h) in
     owed_done c.answer_form.result s k (g.S.Source.left c.args.script.now) (g.S.Source.left c.answer_form.new.script) (g.S.Source.calls c.args.script.now) (g.S.Source.calls c.answer_form.new.script)
-    (g.K.Sink.held c.args.out.now) (g.K.Sink.held c.answer_form.new.out) (g.K.Sink.calls c.args.out.now) (g.K.Sink.calls c.answer_form.new.out) files form v project bytes (subst (λ files. P files form) told (subst (P (g.V.Vault.files c.args.vault.now)) same c.answer_form.ensures.ran)) has left done
+    (g.K.Sink.contents c.args.out.now) (g.K.Sink.contents c.answer_form.new.out) (g.K.Sink.calls c.args.out.now) (g.K.Sink.calls c.answer_form.new.out) files form v project bytes (subst (λ files. P files form) told (subst (P (g.V.Vault.files c.args.vault.now)) same c.answer_form.ensures.ran)) has left done
 
 pub returns-in-Some-clause-complete : goal.returns-in-Some-clause-complete
 returns-in-Some-clause-complete g c = λ files form project bytes h told has left within nv ns nk.
@@ -37,10 +37,10 @@ returns-in-Some-clause-complete g c = λ files form project bytes h told has lef
     let s = Rose (g.S.Source.faults c.args.script.now) (g.S.Source.faults c.answer_form.new.script) in
     let k = Rose (g.K.Sink.faults c.args.out.now) (g.K.Sink.faults c.answer_form.new.out) in
     let P : Option Files → Form → Type 0 = λ files f. Called c.answer_form.result s k (g.S.Source.left c.args.script.now) (g.S.Source.left c.answer_form.new.script) (g.S.Source.calls c.args.script.now) (g.S.Source.calls c.answer_form.new.script)
-    (g.K.Sink.held c.args.out.now) (g.K.Sink.held c.answer_form.new.out) (g.K.Sink.calls c.args.out.now) (g.K.Sink.calls c.answer_form.new.out) files f v in
+    (g.K.Sink.contents c.args.out.now) (g.K.Sink.contents c.answer_form.new.out) (g.K.Sink.calls c.args.out.now) (g.K.Sink.calls c.answer_form.new.out) files f v in
     let same = form_same _ form (c.in-Some.ensures.asked ∙ h) in
     owed_complete c.answer_form.result s k (g.S.Source.left c.args.script.now) (g.S.Source.left c.answer_form.new.script) (g.S.Source.calls c.args.script.now) (g.S.Source.calls c.answer_form.new.script)
-    (g.K.Sink.held c.args.out.now) (g.K.Sink.held c.answer_form.new.out) (g.K.Sink.calls c.args.out.now) (g.K.Sink.calls c.answer_form.new.out) files form v project bytes (subst (λ files. P files form) told (subst (P (g.V.Vault.files c.args.vault.now)) same c.answer_form.ensures.ran)) has left within nv ns nk
+    (g.K.Sink.contents c.args.out.now) (g.K.Sink.contents c.answer_form.new.out) (g.K.Sink.calls c.args.out.now) (g.K.Sink.calls c.answer_form.new.out) files form v project bytes (subst (λ files. P files form) told (subst (P (g.V.Vault.files c.args.vault.now)) same c.answer_form.ensures.ran)) has left within nv ns nk
 
 pub returns-in-Some-clause-faulty : goal.returns-in-Some-clause-faulty
 returns-in-Some-clause-faulty g c = λ files form file line column rule h told fault.
@@ -48,10 +48,10 @@ returns-in-Some-clause-faulty g c = λ files form file line column rule h told f
     let s = Rose (g.S.Source.faults c.args.script.now) (g.S.Source.faults c.answer_form.new.script) in
     let k = Rose (g.K.Sink.faults c.args.out.now) (g.K.Sink.faults c.answer_form.new.out) in
     let P : Option Files → Form → Type 0 = λ files f. Called c.answer_form.result s k (g.S.Source.left c.args.script.now) (g.S.Source.left c.answer_form.new.script) (g.S.Source.calls c.args.script.now) (g.S.Source.calls c.answer_form.new.script)
-    (g.K.Sink.held c.args.out.now) (g.K.Sink.held c.answer_form.new.out) (g.K.Sink.calls c.args.out.now) (g.K.Sink.calls c.answer_form.new.out) files f v in
+    (g.K.Sink.contents c.args.out.now) (g.K.Sink.contents c.answer_form.new.out) (g.K.Sink.calls c.args.out.now) (g.K.Sink.calls c.answer_form.new.out) files f v in
     let same = form_same _ form (c.in-Some.ensures.asked ∙ h) in
     owed_faulty c.answer_form.result s k (g.S.Source.left c.args.script.now) (g.S.Source.left c.answer_form.new.script) (g.S.Source.calls c.args.script.now) (g.S.Source.calls c.answer_form.new.script)
-    (g.K.Sink.held c.args.out.now) (g.K.Sink.held c.answer_form.new.out) (g.K.Sink.calls c.args.out.now) (g.K.Sink.calls c.answer_form.new.out) files form v file line column rule (subst (λ files. P files form) told (subst (P (g.V.Vault.files c.args.vault.now)) same c.answer_form.ensures.ran)) fault
+    (g.K.Sink.contents c.args.out.now) (g.K.Sink.contents c.answer_form.new.out) (g.K.Sink.calls c.args.out.now) (g.K.Sink.calls c.answer_form.new.out) files form v file line column rule (subst (λ files. P files form) told (subst (P (g.V.Vault.files c.args.vault.now)) same c.answer_form.ensures.ran)) fault
 
 pub returns-in-Some-clause-refused : goal.returns-in-Some-clause-refused
 returns-in-Some-clause-refused g c = λ form h is_refused.
@@ -59,10 +59,10 @@ returns-in-Some-clause-refused g c = λ form h is_refused.
     let s = Rose (g.S.Source.faults c.args.script.now) (g.S.Source.faults c.answer_form.new.script) in
     let k = Rose (g.K.Sink.faults c.args.out.now) (g.K.Sink.faults c.answer_form.new.out) in
     let P : Option Files → Form → Type 0 = λ files f. Called c.answer_form.result s k (g.S.Source.left c.args.script.now) (g.S.Source.left c.answer_form.new.script) (g.S.Source.calls c.args.script.now) (g.S.Source.calls c.answer_form.new.script)
-    (g.K.Sink.held c.args.out.now) (g.K.Sink.held c.answer_form.new.out) (g.K.Sink.calls c.args.out.now) (g.K.Sink.calls c.answer_form.new.out) files f v in
+    (g.K.Sink.contents c.args.out.now) (g.K.Sink.contents c.answer_form.new.out) (g.K.Sink.calls c.args.out.now) (g.K.Sink.calls c.answer_form.new.out) files f v in
     let same = form_same _ form (c.in-Some.ensures.asked ∙ h) in
     owed_refused c.answer_form.result s k (g.S.Source.left c.args.script.now) (g.S.Source.left c.answer_form.new.script) (g.S.Source.calls c.args.script.now) (g.S.Source.calls c.answer_form.new.script)
-    (g.K.Sink.held c.args.out.now) (g.K.Sink.held c.answer_form.new.out) (g.K.Sink.calls c.args.out.now) (g.K.Sink.calls c.answer_form.new.out) (g.V.Vault.files c.args.vault.now) form v (subst (P (g.V.Vault.files c.args.vault.now)) same c.answer_form.ensures.ran) is_refused
+    (g.K.Sink.contents c.args.out.now) (g.K.Sink.contents c.answer_form.new.out) (g.K.Sink.calls c.args.out.now) (g.K.Sink.calls c.answer_form.new.out) (g.V.Vault.files c.args.vault.now) form v (subst (P (g.V.Vault.files c.args.vault.now)) same c.answer_form.ensures.ran) is_refused
 
 pub returns-in-Some-clause-unread : goal.returns-in-Some-clause-unread
 returns-in-Some-clause-unread g c = λ is_refused.
@@ -70,7 +70,7 @@ returns-in-Some-clause-unread g c = λ is_refused.
     let s = Rose (g.S.Source.faults c.args.script.now) (g.S.Source.faults c.answer_form.new.script) in
     let k = Rose (g.K.Sink.faults c.args.out.now) (g.K.Sink.faults c.answer_form.new.out) in
     owed_unread c.answer_form.result s k (g.S.Source.left c.args.script.now) (g.S.Source.left c.answer_form.new.script) (g.S.Source.calls c.args.script.now) (g.S.Source.calls c.answer_form.new.script)
-    (g.K.Sink.held c.args.out.now) (g.K.Sink.held c.answer_form.new.out) (g.K.Sink.calls c.args.out.now) (g.K.Sink.calls c.answer_form.new.out) (g.V.Vault.files c.args.vault.now) (form_shown c.in-Some.form) v c.answer_form.ensures.ran is_refused
+    (g.K.Sink.contents c.args.out.now) (g.K.Sink.contents c.answer_form.new.out) (g.K.Sink.calls c.args.out.now) (g.K.Sink.calls c.answer_form.new.out) (g.V.Vault.files c.args.vault.now) (form_shown c.in-Some.form) v c.answer_form.ensures.ran is_refused
 
 pub returns-in-Some-clause-unopened : goal.returns-in-Some-clause-unopened
 returns-in-Some-clause-unopened g c = λ fault none.
@@ -78,4 +78,4 @@ returns-in-Some-clause-unopened g c = λ fault none.
     let s = Rose (g.S.Source.faults c.args.script.now) (g.S.Source.faults c.answer_form.new.script) in
     let k = Rose (g.K.Sink.faults c.args.out.now) (g.K.Sink.faults c.answer_form.new.out) in
     owed_unopened c.answer_form.result s k (g.S.Source.left c.args.script.now) (g.S.Source.left c.answer_form.new.script) (g.S.Source.calls c.args.script.now) (g.S.Source.calls c.answer_form.new.script)
-    (g.K.Sink.held c.args.out.now) (g.K.Sink.held c.answer_form.new.out) (g.K.Sink.calls c.args.out.now) (g.K.Sink.calls c.answer_form.new.out) (g.V.Vault.files c.args.vault.now) (form_shown c.in-Some.form) v c.answer_form.ensures.ran fault none
+    (g.K.Sink.contents c.args.out.now) (g.K.Sink.contents c.answer_form.new.out) (g.K.Sink.calls c.args.out.now) (g.K.Sink.calls c.answer_form.new.out) (g.V.Vault.files c.args.vault.now) (form_shown c.in-Some.form) v c.answer_form.ensures.ran fault none

@@ -25,7 +25,7 @@ returns-in-Err-Unread-clause-ran g c =
       unknown,
       tt,
       inl (refl, subst (λ closed. IsClosedBy (g.V.Vault.files c.args.vault.now) form closed rose) c.in-Err-Unread.field-0-is (c.in-Err-Unread.ensures.closed c.args.buffer)),
-      ran_unknown form ReadFault (g.S.Source.left c.args.script.now) (g.S.Source.calls c.args.script.now) (g.K.Sink.held c.args.out.now) (g.K.Sink.calls c.args.out.now) (inl refl),
+      ran_unknown form ReadFault (g.S.Source.left c.args.script.now) (g.S.Source.calls c.args.script.now) (g.K.Sink.contents c.args.out.now) (g.K.Sink.calls c.args.out.now) (inl refl),
     )
 
 pub returns-in-Err-TooLong-clause-ran : goal.returns-in-Err-TooLong-clause-ran
@@ -37,7 +37,7 @@ returns-in-Err-TooLong-clause-ran g c =
       subst (λ closed. IsClosedBy (g.V.Vault.files c.args.vault.now) form closed rose) c.in-Err-TooLong.field-0-is (c.in-Err-TooLong.ensures.closed c.args.buffer),
       c.refuse.ensures.form,
       ran_refused form name 1 1 (codes "F1") c.refuse.result (Rose (g.K.Sink.faults c.args.out.now) (g.K.Sink.faults c.refuse.new.out)) (g.S.Source.left c.args.script.now) (g.S.Source.calls c.args.script.now)
-          (g.K.Sink.held c.args.out.now) (g.K.Sink.held c.refuse.new.out) (g.K.Sink.calls c.args.out.now) (g.K.Sink.calls c.refuse.new.out) c.refuse.ensures.form c.refuse.ensures.added,
+          (g.K.Sink.contents c.args.out.now) (g.K.Sink.contents c.refuse.new.out) (g.K.Sink.calls c.args.out.now) (g.K.Sink.calls c.refuse.new.out) c.refuse.ensures.form c.refuse.ensures.added,
     )
 
 pub returns-in-Err-Fault-clause-ran : goal.returns-in-Err-Fault-clause-ran
@@ -54,7 +54,7 @@ returns-in-Err-Fault-clause-ran g c =
           (subst (λ rule. IsTheFaultOf files form (name_of form f.file) f.line f.column rule) (sym c.rule_text-rule.ensures) told),
       step.ensures.form,
       ran_refused form c.name_at-name.result.now f.line f.column c.rule_text-rule.result.now step.result (Rose (g.K.Sink.faults c.args.out.now) (g.K.Sink.faults step.new.out)) (g.S.Source.left c.args.script.now) (g.S.Source.calls c.args.script.now)
-          (g.K.Sink.held c.args.out.now) (g.K.Sink.held step.new.out) (g.K.Sink.calls c.args.out.now) (g.K.Sink.calls step.new.out) step.ensures.form step.ensures.added,
+          (g.K.Sink.contents c.args.out.now) (g.K.Sink.contents step.new.out) (g.K.Sink.calls c.args.out.now) (g.K.Sink.calls step.new.out) step.ensures.form step.ensures.added,
     )
 
 pub returns-in-Err-NotTaken-clause-ran : goal.returns-in-Err-NotTaken-clause-ran
@@ -70,5 +70,5 @@ returns-in-Err-NotTaken-clause-ran g c =
       subst (λ name. IsTheFaultOf files form name 1 1 (codes "N1")) (sym (c.name_at.ensures c.args.buffer)) told,
       step.ensures.form,
       ran_refused form c.name_at.result.now 1 1 (codes "N1") step.result (Rose (g.K.Sink.faults c.args.out.now) (g.K.Sink.faults step.new.out)) (g.S.Source.left c.args.script.now) (g.S.Source.calls c.args.script.now)
-          (g.K.Sink.held c.args.out.now) (g.K.Sink.held step.new.out) (g.K.Sink.calls c.args.out.now) (g.K.Sink.calls step.new.out) step.ensures.form step.ensures.added,
+          (g.K.Sink.contents c.args.out.now) (g.K.Sink.contents step.new.out) (g.K.Sink.calls c.args.out.now) (g.K.Sink.calls step.new.out) step.ensures.form step.ensures.added,
     )

@@ -1,8 +1,8 @@
 use Rattle.std.proofs.Common.{◌≡◌, ◌⊎◌, ◌↔◌, ◌≤◌, ◌+◌, ◌++◌, [], length, true, IsTrue, refl, subst, inl, inr, ◌∙◌, arith}
-use Rattle.relay_io.specs.Streams.{appended}
+use Rattle.relay_io.specs.Streams.{append}
 use Rattle.relay_model.specs.Keys.{Text}
 use Rattle.relay_run.specs.Answers.{EndsLine, GivesNoScript}
-use Rattle.relay_run.specs.Output.{max_script, written, has_refusal}
+use Rattle.relay_run.specs.Output.{max_script, output_text, has_refusal}
 use Rattle.relay_run.specs.Statuses.{IsDone}
 use Rattle.relay_run.specs.Shown.{project_shown}
 use Rattle.relay_run.specs.Words as forms
@@ -16,11 +16,11 @@ returns-in-Ok-clause-ran g c = λ schema documents.
     let given_is : c.deref.result.now ≡ w.0 = c.deref.ensures.value ∙ w.2.0 in
     let p = project_shown c.args.project in
     let status = c.answer_lines.result in
-    let P : Text → Type 0 = λ script. (added : Text) × (g.K.Sink.held c.answer_lines.new.out ≡ appended (g.K.Sink.held c.args.out.now) added) × (g.K.Sink.calls c.answer_lines.new.out ≤ g.K.Sink.calls c.args.out.now + length added + 1) × ((status ≡ WriteFault) ⊎ EndsLine added)
-    × (more : Text) × (added ++ more ≡ written p c.args.buffer script true) × (IsDone status → more ≡ []) in
+    let P : Text → Type 0 = λ script. (added : Text) × (g.K.Sink.contents c.answer_lines.new.out ≡ append (g.K.Sink.contents c.args.out.now) added) × (g.K.Sink.calls c.answer_lines.new.out ≤ g.K.Sink.calls c.args.out.now + length added + 1) × ((status ≡ WriteFault) ⊎ EndsLine added)
+    × (more : Text) × (added ++ more ≡ output_text p c.args.buffer script true) × (IsDone status → more ≡ []) in
     let Q : Text → Type 0 = λ script. IsDone status → (status ≡ DoneWithRefusals) ↔ IsTrue (has_refusal p c.args.buffer script) in
     ran_answered c.args.buffer schema documents p status (g.S.Source.left c.args.script.now) (g.S.Source.left c.read_script.new.script) (g.S.Source.calls c.args.script.now) (g.S.Source.calls c.read_script.new.script)
-    (g.K.Sink.held c.args.out.now) (g.K.Sink.held c.answer_lines.new.out) (g.K.Sink.calls c.args.out.now) (g.K.Sink.calls c.answer_lines.new.out) w.0
+    (g.K.Sink.contents c.args.out.now) (g.K.Sink.contents c.answer_lines.new.out) (g.K.Sink.calls c.args.out.now) (g.K.Sink.calls c.answer_lines.new.out) w.0
     w.1 w.3 w.2.1 c.in-Ok.ensures.end c.answer_lines.ensures.form
     (subst P given_is c.answer_lines.ensures.added) (subst Q given_is c.answer_lines.ensures.refusals)
 
@@ -29,18 +29,18 @@ returns-in-Err-Failed-clause-ran g c = λ schema documents.
     let w = c.in-Err-Failed.ensures.gives in
     let few : length w.0 ≤ max_script = subst (GivesNoScript w.0) c.in-Err-Failed.field-0-is w.2 in
     ran_unanswered (forms.run c.args.buffer schema documents) (project_shown c.args.project) ReadFault (g.S.Source.left c.args.script.now) (g.S.Source.left c.read_script.new.script) (g.S.Source.calls c.args.script.now) (g.S.Source.calls c.read_script.new.script)
-    (g.K.Sink.held c.args.out.now) (g.K.Sink.calls c.args.out.now) w.0 w.1 w.3 (omega (arith, few)) (λ e. absurd (omega (arith, e, few))) (λ e. absurd (cc)) (λ h. elim h [ inl d ↦ d | inr e ↦ cc ])
+    (g.K.Sink.contents c.args.out.now) (g.K.Sink.calls c.args.out.now) w.0 w.1 w.3 (omega (arith, few)) (λ e. absurd (omega (arith, e, few))) (λ e. absurd (cc)) (λ h. elim h [ inl d ↦ d | inr e ↦ cc ])
 
 pub returns-in-Err-TooLong-clause-ran : goal.returns-in-Err-TooLong-clause-ran
 returns-in-Err-TooLong-clause-ran g c = λ schema documents.
     let w = c.in-Err-TooLong.ensures.gives in
     let over : length w.0 ≡ max_script + 1 = subst (GivesNoScript w.0) c.in-Err-TooLong.field-0-is w.2 in
     ran_unanswered (forms.run c.args.buffer schema documents) (project_shown c.args.project) ScriptTooLong (g.S.Source.left c.args.script.now) (g.S.Source.left c.read_script.new.script) (g.S.Source.calls c.args.script.now) (g.S.Source.calls c.read_script.new.script)
-    (g.K.Sink.held c.args.out.now) (g.K.Sink.calls c.args.out.now) w.0 w.1 w.3 (omega (arith, over)) (λ _. inl refl) (λ _. over) (λ h. elim h [ inl d ↦ d | inr e ↦ cc ])
+    (g.K.Sink.contents c.args.out.now) (g.K.Sink.calls c.args.out.now) w.0 w.1 w.3 (omega (arith, over)) (λ _. inl refl) (λ _. over) (λ h. elim h [ inl d ↦ d | inr e ↦ cc ])
 
 pub returns-clause-ran : goal.returns-clause-ran
 returns-clause-ran g c = λ schema documents.
     let w = c.in-Err-NoMemory.ensures.gives in
     let within : length w.0 ≤ max_script + 1 = subst (GivesNoScript w.0) c.in-Err-NoMemory.field-0-is w.2 in
     ran_unanswered (forms.run c.args.buffer schema documents) (project_shown c.args.project) NoMemory (g.S.Source.left c.args.script.now) (g.S.Source.left c.read_script.new.script) (g.S.Source.calls c.args.script.now) (g.S.Source.calls c.read_script.new.script)
-    (g.K.Sink.held c.args.out.now) (g.K.Sink.calls c.args.out.now) w.0 w.1 w.3 within (λ _. inr (inr refl)) (λ e. absurd (cc)) (λ h. elim h [ inl d ↦ d | inr e ↦ cc ])
+    (g.K.Sink.contents c.args.out.now) (g.K.Sink.calls c.args.out.now) w.0 w.1 w.3 within (λ _. inr (inr refl)) (λ e. absurd (cc)) (λ h. elim h [ inl d ↦ d | inr e ↦ cc ])

@@ -1,14 +1,13 @@
 use Rattle.std.proofs.Common.{◌≡◌, OnOk, IfOk, Some, true, option_map, ap, sym, subst, ◌∙◌, arith}
 use Rattle.gql_ast.specs.SelectionView.{sel_of}
-use Rattle.serde_json.proofs.Views.{view-Object}
-use Rattle.serde_json.specs.View.{members_view}
+use Rattle.gql_plain.specs.Tree.{object, members_of}
 use Rattle.relay_model.specs.Keys.{Text, typename}
 use Rattle.relay_model.specs.Read.{Answer, Fields, Trace, fields_at, object_at, stand_at}
 use Rattle.relay_model.specs.Records.{Records}
 use Rattle.relay_model.specs.Schema.{Schema}
 use Rattle.relay_run.proofs.ReadingLaws.{and_then-nothing, fields_at-step, object_read}
 use Rattle.relay_run.proofs.interim.reading.+read.Goals as goal
-use Rattle.relay_run.specs.Reading.{IsAnswer, trace_shown, is_typed, field_answer, progress, read_on, under}
+use Rattle.relay_run.specs.Reading.{IsAnswer, members_shown, trace_shown, is_typed, field_answer, progress, read_on, under}
 use Rattle.relay_run.specs.Stands.{field_shown}
 use Rattle.relay_run.specs.Stored.{stored_in}
 
@@ -22,9 +21,9 @@ read_at-returns t c =
     let is : c.is_of.result ≡ true = grind arith in
     let typed_so : is_typed schema of (records id typename) ≡ true = sym (c.is_of.ensures ∙ ap (is_typed schema of) c.field_at.ensures) ∙ is in
     let read = object_read schema of fields id (records id typename) (trace_shown c.args.trace.now) (trace_shown c.stand.new.self) (trace_shown c.read_fields.new.trace)
-    (members_view c.new-members.result.entries) (members_view c.read_fields.new.members.entries)
-    typed_so (ap members_view c.new-members.ensures.empty) c.in_ok-stand.ensures c.in_ok-read_fields.ensures in
-    (ap Some (view-Object c.read_fields.new.members) ∙ read.0, read.1)
+    (members_shown c.new-members.result.entries) (members_shown c.read_fields.new.members.entries)
+    typed_so (ap members_shown c.new-members.ensures.empty) c.in_ok-stand.ensures c.in_ok-read_fields.ensures in
+    (ap (λ ms. Some (object (members_of ms))) c.in_ok-pairs_of.ensures ∙ read.0, read.1)
 
 pub read_fields-selections-preserved : goal.read_fields-selections-preserved
 read_fields-selections-preserved t c =

@@ -1,10 +1,10 @@
 use Rattle.std.proofs.Common.{◌≡◌, Some, option_map, ap, sym, subst, ◌∙◌}
 use Rattle.relay_model.specs.Machine.{under, read_with}
-use Rattle.relay_model.specs.Printed.{shown}
+use Rattle.relay_model.specs.Printed.{read_line}
 use Rattle.relay_model.specs.Read.{read_root}
 use Rattle.relay_model.specs.Records.{Records}
 use Rattle.relay_run.proofs.interim.engine.Engine.read.Goals as goal
-use Rattle.relay_run.specs.Shown.{named}
+use Rattle.relay_run.specs.Shown.{by_name}
 use Rattle.relay_run.specs.Steps.{IsStep}
 use Rattle.relay_run.specs.Stored.{stored_in}
 use Rattle.relay_run.specs.declared.interim.engine.Engine.{Engine}
@@ -15,14 +15,14 @@ returns c = λ p s stands.
     let handle = c.args.handle.now in
     let n = c.args.n in
     let selections = c.in-Some.shared.now in
-    let here : under handle (named e.handles.entries) ≡ Some selections = sym c.find.ensures ∙ ap (option_map (λ x. x.now)) c.in-Some.is in
+    let here : under handle (by_name e.handles.entries) ≡ Some selections = sym c.find.ensures ∙ ap (option_map (λ x. x.now)) c.in-Some.is in
     let found : under handle s.handles ≡ Some selections = ap (under handle) (sym stands.handles) ∙ here in
     let records : Records = stored_in e.records in
-    subst (λ t. IsStep p t c.accepted.result e) (sym (ap (λ o. read_with p o s n handle) found))
+    subst (λ t. IsStep p t c.accept.result e) (sym (ap (λ o. read_with p o s n handle) found))
     (record {
-      text = c.accepted.ensures.0
-          ∙ c.in_ok-shown.ensures (read_root e.project.schema records c.selections.result.now) c.in_ok-reading.ensures
-          ∙ (λ i. shown n (read_root (stands.project i).schema (λ id key. stands.records id key i) (c.selections.ensures i)));
-      refused = c.accepted.ensures.1;
+      text = c.accept.ensures.0
+          ∙ c.in_ok-reading_line.ensures (read_root e.project.schema records c.selections.result.now) c.in_ok-reading.ensures
+          ∙ (λ i. read_line n (read_root (stands.project i).schema (λ id key. stands.records id key i) (c.selections.ensures i)));
+      refused = c.accept.ensures.1;
       stands = stands;
     })

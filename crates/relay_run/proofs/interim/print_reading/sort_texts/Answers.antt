@@ -2,7 +2,7 @@ use Rattle.std.proofs.Common.{ap, sym, ◌∙◌}
 use Rattle.relay_model.specs.Order.{with_text}
 use Rattle.relay_run.specs.Stored.{texts_of}
 use Rattle.relay_run.proofs.PrintingLaws.{texts_of-insert_entry, with_all, with_all-nothing, with_all-step}
-use Rattle.relay_run.proofs.interim.shown.ordered.Goals as goal
+use Rattle.relay_run.proofs.interim.print_reading.sort_texts.Goals as goal
 
 pub texts-init : goal.texts-init
 texts-init c = ap (λ es. with_all c.args.texts.items (texts_of es)) c.new-keys.ensures.empty ∙ sym (with_all-nothing c.args.texts.items)

@@ -2,7 +2,7 @@ use Rattle.std.proofs.Common.{◌≡◌, vec_len}
 use Rattle.relay_model.specs.Order.{in_order}
 use Rattle.relay_run.specs.Stored.{texts_of}
 use Rattle.relay_run.proofs.PrintingLaws.{with_all}
-use Rattle.relay_run.proofs.interim.shown.ordered.Given as goal
+use Rattle.relay_run.proofs.interim.print_reading.sort_texts.Given as goal
 
 abbrev pub invariant-texts : goal.invariant-texts
 invariant-texts l = with_all l.texts.items (texts_of l.keys.entries) ≡ in_order l.fn.texts.items
