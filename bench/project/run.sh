@@ -23,6 +23,12 @@ def inputs(count):
         yield f"input I{n}{{a:Int=1 b:[Color!]=[RED]{needed}}}\n"
     yield "enum Color{RED GREEN}\n"
 
+def refused(count):
+    """The chain again, whose last type needs itself: the schema is refused for it."""
+    yield "type Query{me(in:I0):Int}\n"
+    for n in range(count):
+        yield f"input I{n}{{a:Int=1 more:I{min(n + 1, count - 1)}!}}\n"
+
 def abstract(count):
     yield "type Query{me:T0}\n"
     for n in range(count):
@@ -36,9 +42,9 @@ def run(words, status):
     return time.monotonic() - start, usage.ru_maxrss / 1024
 
 program = sys.argv[1]
-print("project            types   MiB    ms  times the first  peak MiB")
-for name, make, document in [("objects", objects, "query Q{me{name next{id name}}}"), ("inputs in a chain", inputs, "query Q{me}"),
-                             ("interfaces, unions", abstract, "query Q{me{a b{a}}}")]:
+print("project               types   MiB    ms  times the first  peak MiB")
+for name, make, document, status in [("objects", objects, "query Q{me{name next{id name}}}", 0), ("inputs in a chain", inputs, "query Q{me}", 0),
+                                     ("the last needs itself", refused, "query Q{me}", 3), ("interfaces, unions", abstract, "query Q{me{a b{a}}}", 0)]:
     first = None
     for count in [10_000, 20_000, 40_000]:
         with open("s.graphql", "w") as file:
@@ -46,8 +52,8 @@ for name, make, document in [("objects", objects, "query Q{me{name next{id name}
                 if file.tell() + len(line) > 2**22 - 64: break
                 file.write(line)
         open("d.graphql", "w").write(document)
-        took, peak = min(run([program, "run", "10", "s.graphql", "d.graphql"], 0) for _ in range(3))
+        took, peak = min(run([program, "run", "10", "s.graphql", "d.graphql"], status) for _ in range(3))
         first = first or took
-        print(f"{name:18} {count:6}  {os.path.getsize('s.graphql')/2**20:4.1f}  {took*1000:5.0f}  {took/first:15.1f}  {peak:8.0f}")
+        print(f"{name:21} {count:6}  {os.path.getsize('s.graphql')/2**20:4.1f}  {took*1000:5.0f}  {took/first:15.1f}  {peak:8.0f}")
 END
 python3 measure.py "$program"

@@ -32,12 +32,58 @@ def subscription(count):
         yield f"fragment F{n} on Subscription {{ changed {{ id }} ...F{n + 1} }}\n"
     yield f"fragment F{count - 1} on Subscription {{ changed {{ id }} }}\n"
 
+def subscriptions(count):
+    """So many operations, and below all of them a chain of so many fragments, the last of which has the one field."""
+    for n in range(count):
+        yield f"subscription S{n} {{ ...F0 }}\n"
+    for n in range(count - 1):
+        yield f"fragment F{n} on Subscription {{ ...F{n + 1} }}\n"
+    yield f"fragment F{count - 1} on Subscription {{ changed {{ id }} }}\n"
+
+def kinds(count):
+    """A schema with a union and an interface of so many objects, which have the last one in common."""
+    yield SCHEMA.replace("type Query {", "type Query { any: Any")
+    yield "interface Late { id: ID! }\n"
+    for n in range(count):
+        yield f"type A{n} {{ id: ID! }} type B{n} implements Late {{ id: ID! }}\n"
+    yield "type Z implements Late { id: ID! }\nunion Any = Z" + "".join(f" | A{n}" for n in range(count)) + "\n"
+
+def conditions(count):
+    """A selection with so many conditions on the interface inside the union."""
+    yield "query Q { any { __typename\n"
+    for n in range(count):
+        yield "  ... on Late { id }\n"
+    yield "} }\n"
+
 def cycle(count):
     """Fragments of which each spreads the next, and the last one itself."""
     yield "query Q { me { ...F0 } }\n"
     for n in range(count - 1):
         yield f"fragment F{n} on User {{ ...F{n + 1} }}\n"
     yield f"fragment F{count - 1} on User {{ ...F{count - 1} }}\n"
+
+def over_one_chain(count):
+    """Operations of one variable, all over one chain of as many fragments, of which the last one uses it."""
+    for n in range(count):
+        yield f"query Q{n}($first: Int) {{ me {{ ...F0 }} }}\n"
+    for n in range(count - 1):
+        yield f"fragment F{n} on User {{ ...F{n + 1} }}\n"
+    yield f"fragment F{count - 1} on User {{ friends(first: $first) {{ edges {{ cursor }} }} }}\n"
+
+def without_variable(count):
+    """The same, and no operation has the variable."""
+    for n in range(count):
+        yield f"query Q{n} {{ me {{ ...F0 }} }}\n"
+    for n in range(count - 1):
+        yield f"fragment F{n} on User {{ ...F{n + 1} }}\n"
+    yield f"fragment F{count - 1} on User {{ friends(first: $first) {{ edges {{ cursor }} }} }}\n"
+
+def many_variables(count):
+    """An operation of many variables, and a chain of fragments of which each uses one."""
+    yield "query Q(" + ", ".join(f"$v{n}: Int" for n in range(count)) + ") { me { ...F0 } }\n"
+    for n in range(count - 1):
+        yield f"fragment F{n} on User {{ a{n}: friends(first: $v{n}) {{ edges {{ cursor }} }} ...F{n + 1} }}\n"
+    yield f"fragment F{count - 1} on User {{ friends(first: $v{count - 1}) {{ edges {{ cursor }} }} }}\n"
 
 def fault(rule, line, column):
     """The line that a project with a fault in its document is refused by."""
@@ -49,10 +95,22 @@ NOT_TAKEN = fault("N1", 1, 1)
 def last_spread(count):
     return fault("V5", count + 1, len(f"fragment F{count - 1} on User {{ ...") + 1)
 
-# name, documents, how many definitions, and the answer that is due
+def last_use(count):
+    return fault("V16", 2 * count, len(f"fragment F{count - 1} on User {{ friends(first: $") + 1)
+
+def plain(count):
+    """The schema of all projects but one."""
+    yield SCHEMA
+
+# name, schema, documents, how many definitions, and the answer that is due
 PROJECTS = [
-    ("operations", operations, [250, 500, 1_000], lambda count: NOT_TAKEN),
-    ("fragments in a chain", chain, [10_000, 20_000, 40_000], lambda count: NOT_TAKEN),
-    ("below a subscription", subscription, [10_000, 20_000, 40_000], lambda count: NOT_TAKEN),
-    ("a cycle at the end", cycle, [10_000, 20_000, 40_000], last_spread),
+    ("operations", plain, operations, [250, 500, 1_000], lambda count: NOT_TAKEN),
+    ("fragments in a chain", plain, chain, [10_000, 20_000, 40_000], lambda count: NOT_TAKEN),
+    ("below a subscription", plain, subscription, [10_000, 20_000, 40_000], lambda count: NOT_TAKEN),
+    ("many subscriptions", plain, subscriptions, [1_000, 2_000, 4_000], lambda count: NOT_TAKEN),
+    ("late common types", kinds, conditions, [2_000, 4_000, 8_000], lambda count: NOT_TAKEN),
+    ("a cycle at the end", plain, cycle, [10_000, 20_000, 40_000], last_spread),
+    ("all over one chain", plain, over_one_chain, [1_000, 2_000, 4_000], lambda count: NOT_TAKEN),
+    ("without a variable", plain, without_variable, [1_000, 2_000, 4_000], last_use),
+    ("many variables", plain, many_variables, [1_000, 2_000, 4_000], lambda count: NOT_TAKEN),
 ]

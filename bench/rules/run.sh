@@ -12,7 +12,7 @@ cd "$folder"
 
 cat > measure.py <<'END_OF_SCRIPT'
 import os, subprocess, sys, time
-from projects import PROJECTS, SCHEMA
+from projects import PROJECTS
 
 LONGEST = 60
 
@@ -32,12 +32,12 @@ def measured(words, due):
     return best, f"as due: {due.strip()}"
 
 program = sys.argv[1]
-open("s.graphql", "w").write(SCHEMA)
 wrong = False
 print("project                count   MiB    ms  times the first  answer")
-for name, make, counts, due in PROJECTS:
+for name, schema, make, counts, due in PROJECTS:
     first = None
     for count in counts:
+        open("s.graphql", "w").writelines(schema(count))
         open("d.graphql", "w").writelines(make(count))
         size = os.path.getsize("d.graphql")
         assert size <= 2**22, size

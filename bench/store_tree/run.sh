@@ -1,7 +1,7 @@
 #!/bin/bash
-# Times inserts into and gets from a Tree, and the same of std's BTreeMap in the same run, at 1, 2
-# and 4 times 100,000 keys in mixed order. The program is made and run in a folder of its own
-# outside the repository.
+# Times inserts into a Tree, by `insert` and by `put`, and gets from it, and the same of std's
+# BTreeMap in the same run, at 1, 2 and 4 times 100,000 keys in mixed order. Each figure is the least
+# of three rounds. The program is made and run in a folder of its own outside the repository.
 set -eu
 repository=$(cd "$(dirname "$0")/../.." && pwd)
 folder=$(mktemp -d)
@@ -54,6 +54,18 @@ fn filled_tree(alloc: Global, keys: Vec<String>) -> Result<Tree<u64>, NoMemory> 
     Ok(tree)
 }
 
+fn put_tree(alloc: Global, keys: Vec<String>) -> Result<Tree<u64>, NoMemory> {
+    let mut steps = Counts::new();
+    let mut tree = Tree::new();
+    let mut number: u64 = 0;
+    for key in keys {
+        number = number.wrapping_add(1);
+        let value = Rc::new(alloc, number)?;
+        tree = tree.put(alloc, Words::from_string(key), value, &mut steps)?;
+    }
+    Ok(tree)
+}
+
 fn filled_map(alloc: Global, keys: Vec<String>) -> Result<BTreeMap<String, Rc<u64>>, NoMemory> {
     let mut map = BTreeMap::new(alloc);
     let mut number: u64 = 0;
@@ -82,47 +94,92 @@ fn sum_in_map(map: &BTreeMap<String, Rc<u64>>, keys: &[String]) -> u64 {
     sum
 }
 
+/// The least times of one size, in nanoseconds a key.
+#[derive(Drop)]
+struct Times {
+    insert: u64,
+    put: u64,
+    map_insert: u64,
+    get: u64,
+    map_get: u64,
+}
+
 /// Nanoseconds for each of so many calls.
 fn each(took: Duration, count: u64) -> u64 {
     u64::try_from(took.as_nanos()).unwrap_or(u64::MAX) / count.max(1)
 }
 
-fn main(rt: HostRuntime) -> io::Result<()> {
+/// The times of fills, and whether the three hold the same.
+fn fill_times(rt: &HostRuntime, count: u64, times: &mut Times) -> io::Result<bool> {
     let alloc = rt.alloc();
+    let (Ok(first), Ok(second), Ok(third)) = (
+        key_texts(alloc, count),
+        key_texts(alloc, count),
+        key_texts(alloc, count),
+    ) else {
+        return Ok(false);
+    };
+    let start = Instant::now(rt)?;
+    let inserted = filled_tree(alloc, first);
+    times.insert = times.insert.min(each(start.elapsed(rt)?, count));
+    let start = Instant::now(rt)?;
+    let put = put_tree(alloc, second);
+    times.put = times.put.min(each(start.elapsed(rt)?, count));
+    let start = Instant::now(rt)?;
+    let map = filled_map(alloc, third);
+    times.map_insert = times.map_insert.min(each(start.elapsed(rt)?, count));
+    let (Ok(inserted), Ok(put), Ok(map)) = (inserted, put, map) else {
+        return Ok(false);
+    };
+    drop(inserted);
+    get_times(rt, &put, &map, count, times)
+}
+
+/// The times of look-ups, and whether the two hold the same.
+fn get_times(
+    rt: &HostRuntime,
+    tree: &Tree<u64>,
+    map: &BTreeMap<String, Rc<u64>>,
+    count: u64,
+    times: &mut Times,
+) -> io::Result<bool> {
+    let Ok(keys) = key_texts(rt.alloc(), count) else {
+        return Ok(false);
+    };
+    let start = Instant::now(rt)?;
+    let in_tree = sum_in_tree(tree, &keys);
+    times.get = times.get.min(each(start.elapsed(rt)?, count));
+    let start = Instant::now(rt)?;
+    let in_map = sum_in_map(map, &keys);
+    times.map_get = times.map_get.min(each(start.elapsed(rt)?, count));
+    Ok(in_tree == in_map && tree.len() == count)
+}
+
+/// Prints a line: the two times and their ratio.
+fn print_ratio(rt: &HostRuntime, count: u64, what: &str, tree: u64, map: u64) -> io::Result<()> {
+    let ratio = tree.saturating_mul(100) / map.max(1);
+    println!(rt; "{count}  {what:<6}  {tree:>7}  {map:>6}  {}.{:02}", ratio / 100, ratio % 100)?;
+    Ok(())
+}
+
+fn main(rt: HostRuntime) -> io::Result<()> {
     println!(rt; "keys    what    tree ns  map ns  tree / map")?;
     for count in [100_000, 200_000, 400_000] {
-        let (Ok(keys), Ok(first), Ok(second)) = (
-            key_texts(alloc, count),
-            key_texts(alloc, count),
-            key_texts(alloc, count),
-        ) else {
-            return Ok(());
+        let mut times = Times {
+            insert: u64::MAX,
+            put: u64::MAX,
+            map_insert: u64::MAX,
+            get: u64::MAX,
+            map_get: u64::MAX,
         };
-
-        let start = Instant::now(&rt)?;
-        let Ok(tree) = filled_tree(alloc, first) else {
-            return Ok(());
-        };
-        let tree_time = each(start.elapsed(&rt)?, count);
-        let start = Instant::now(&rt)?;
-        let Ok(map) = filled_map(alloc, second) else {
-            return Ok(());
-        };
-        let map_time = each(start.elapsed(&rt)?, count);
-        let ratio = tree_time.saturating_mul(100) / map_time.max(1);
-        println!(rt; "{count}  insert  {tree_time:>7}  {map_time:>6}  {}.{:02}", ratio / 100, ratio % 100)?;
-
-        let start = Instant::now(&rt)?;
-        let in_tree = sum_in_tree(&tree, &keys);
-        let tree_time = each(start.elapsed(&rt)?, count);
-        let start = Instant::now(&rt)?;
-        let in_map = sum_in_map(&map, &keys);
-        let map_time = each(start.elapsed(&rt)?, count);
-        let ratio = tree_time.saturating_mul(100) / map_time.max(1);
-        println!(rt; "{count}  get     {tree_time:>7}  {map_time:>6}  {}.{:02}", ratio / 100, ratio % 100)?;
-        if in_tree != in_map || tree.len() != count {
-            println!(rt; "the two differ")?;
+        for _ in 0..3 {
+            if !fill_times(&rt, count, &mut times)? {
+                println!(rt; "the two differ, or are out of memory")?;
+            }
         }
+        print_ratio(&rt, count, "insert", times.insert, times.map_insert)?;
+        print_ratio(&rt, count, "put", times.put, times.map_insert)?;
+        print_ratio(&rt, count, "get", times.get, times.map_get)?;
     }
     Ok(())
 }
