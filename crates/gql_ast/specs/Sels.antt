@@ -13,11 +13,11 @@ pub data Sels : Type 0 where
   inline : (on : Option (List ℕ)) (directives : List Directive) (subs rest : Sels) → Sels
 
 -- the first selections, and then the second ones
-abbrev pub followed : Sels → Sels → Sels
-followed end t = t
-followed (field a n xs ds s rest) t = field a n xs ds s (followed rest t)
-followed (spread n ds rest) t = spread n ds (followed rest t)
-followed (inline o ds s rest) t = inline o ds s (followed rest t)
+abbrev pub sels_append : Sels → Sels → Sels
+sels_append end t = t
+sels_append (field a n xs ds s rest) t = field a n xs ds s (sels_append rest t)
+sels_append (spread n ds rest) t = spread n ds (sels_append rest t)
+sels_append (inline o ds s rest) t = inline o ds s (sels_append rest t)
 
 -- how many selection sets stand in one another, this one counted: 0 where it is empty
 abbrev pub depth : Sels → ℕ

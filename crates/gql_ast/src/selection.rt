@@ -1,6 +1,6 @@
 //! Selections (GraphQL, October 2021, sections 2.4, 2.5, 2.7 and 2.8).
 ghost use Rattle.std.specs.Prelude.{◌≡◌, IfOk, OnOk, OnErr, IsTrue, ◌↔◌, ◌∷◌, []};
-ghost use Rattle.gql_ast.specs.Sels.{end, followed, number_of};
+ghost use Rattle.gql_ast.specs.Sels.{end, sels_append, number_of};
 ghost use Rattle.gql_ast.specs.SelectionView.{sel_of, sels_of};
 
 use crate::directive::Directives;
@@ -74,7 +74,7 @@ impl Selections {
 
     /// Puts a selection at the end.
     pub fn push(&mut self, selection: Selection) -> Result<(), NoMemory>
-        ensures ok { OnOk result (self.new ≡ followed self.old (sel_of selection)) }
+        ensures ok { OnOk result (self.new ≡ sels_append self.old (sel_of selection)) }
         ensures err { OnErr result (self.new ≡ self.old) }
     {
         push(&mut self.items, selection)

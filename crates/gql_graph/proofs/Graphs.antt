@@ -3,7 +3,7 @@ use Rattle.std.proofs.Common.{◌≡◌, ℕ, ◌+◌, ◌<◌, ◌≤◌, Bool,
 use Rattle.std.proofs.Math.Seq.{drop-cons}
 use Rattle.std.proofs.lemmas.List.{append-nil, drop_all}
 use Rattle.std.specs.Option.{UnwrapsOrElse}
-use Rattle.gql_graph.specs.Graphs.{first_next, next_in, kept, Holds, Tells}
+use Rattle.gql_graph.specs.Graphs.{first_next, next_in, links_of, Holds, Tells}
 use Rattle.gql_graph.specs.Rules.{each}
 use Rattle.gql_graph.specs.Texts.{Text}
 use Rattle.gql_graph.specs.declared.graph.Graph.{Graph}
@@ -36,16 +36,16 @@ new_counts None b to h = refl
 new_counts (Some old) true to h = absurd (true≢false (h refl))
 new_counts (Some old) false to h = refl
 
-is_kept : (graph : Graph) (pairs : List (Text × List Text)) (name n : Text) → Holds graph pairs → bytes_eq name n ≡ true → is_some (first_next pairs n) ≡ is_some (kept graph name)
-is_kept graph pairs name n h e = ap is_some (sym (h n)) ∙ ap (λ (t : Text). is_some (kept graph t)) (sym (same_text name n e))
+is_kept : (graph : Graph) (pairs : List (Text × List Text)) (name n : Text) → Holds graph pairs → bytes_eq name n ≡ true → is_some (first_next pairs n) ≡ is_some (links_of graph name)
+is_kept graph pairs name n h e = ap is_some (sym (h n)) ∙ ap (λ (t : Text). is_some (links_of graph t)) (sym (same_text name n e))
 
 -- a name that is there stays as it is
-pub held_already : (graph : Graph) (pairs : List (Text × List Text)) (name : Text) (to : List Text) → Holds graph pairs → is_some (kept graph name) ≡ true → Holds graph (pairs ++ (name, to) ∷ [])
+pub held_already : (graph : Graph) (pairs : List (Text × List Text)) (name : Text) (to : List Text) → Holds graph pairs → is_some (links_of graph name) ≡ true → Holds graph (pairs ++ (name, to) ∷ [])
 held_already graph pairs name to h there = λ n. h n ∙ first_stays (first_next pairs n) (bytes_eq name n) to (λ e. is_kept graph pairs name n h e ∙ there) ∙ sym (first_next-push pairs name to n)
 
 -- a new name is put
-pub held_put : (old new : Graph) (pairs : List (Text × List Text)) (name : Text) (to : List Text) → Holds old pairs → is_some (kept old name) ≡ false
-    → ((n : Text) → kept new n ≡ cond (bytes_eq name n) (Some to) (kept old n)) → Holds new (pairs ++ (name, to) ∷ [])
+pub held_put : (old new : Graph) (pairs : List (Text × List Text)) (name : Text) (to : List Text) → Holds old pairs → is_some (links_of old name) ≡ false
+    → ((n : Text) → links_of new n ≡ cond (bytes_eq name n) (Some to) (links_of old n)) → Holds new (pairs ++ (name, to) ∷ [])
 held_put old new pairs name to h absent e = λ n.
     e n ∙ ap (λ (o : Option (List Text)). cond (bytes_eq name n) (Some to) o) (h n)
     ∙ new_counts (first_next pairs n) (bytes_eq name n) to (λ g. is_kept old pairs name n h g ∙ absent) ∙ sym (first_next-push pairs name to n)

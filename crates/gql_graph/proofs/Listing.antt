@@ -2,17 +2,14 @@
 use Rattle.std.proofs.Common.{◌≡◌, ℕ, Bool, true, false, true≢false, cond, ◌||◌, List, [], ◌∷◌, ◌++◌, bytes_eq, refl, ap, sym, subst, ◌∙◌}
 use Rattle.std.specs.BTreeSet.{BTreeSet}
 use Rattle.gql_plain.specs.Order.{has_text}
+use Rattle.gql_plain.proofs.Booleans.{or_false, or_true}
 use Rattle.gql_graph.specs.Graphs.{unseen, Once}
-use Rattle.gql_graph.specs.Reached.{reached}
+use Rattle.gql_graph.specs.Reached.{any_leads}
 use Rattle.gql_graph.specs.Seen.{Knows}
 use Rattle.gql_graph.specs.Texts.{Text}
 use Rattle.gql_graph.proofs.Searching.{Finds}
-use Rattle.gql_graph.proofs.TextSteps.{same_text, same_self, or_true}
+use Rattle.gql_graph.proofs.TextSteps.{same_text, same_self}
 use denote.Ref.{Bor}
-
-or_false : (a : Bool) → a ≡ (a || false)
-or_false true = refl
-or_false false = refl
 
 -- whether a name is in the first or the second list
 pub has_either : (ns ms : List Text) (m : Text) → has_text (ns ++ ms) m ≡ (has_text ns m || has_text ms m)
@@ -34,7 +31,7 @@ seen_now false m s u i = i
 
 -- a name is new or was seen
 has_unseen : (seen ns : List Text) (n : Text) → (has_text ns n || has_text seen n) ≡ (has_text seen n || has_text (unseen seen ns) n)
-has_unseen seen [] n = or_false (has_text seen n)
+has_unseen seen [] n = sym (or_false (has_text seen n))
 has_unseen seen (m ∷ ms) n = on (has_unseen seen ms n) (has_unseen (m ∷ seen) ms n) (has_text seen m) refl
   where
     on : (has_text ms n || has_text seen n) ≡ (has_text seen n || has_text (unseen seen ms) n) → (has_text ms n || has_text (m ∷ seen) n) ≡ (has_text (m ∷ seen) n || has_text (unseen (m ∷ seen) ms) n)
@@ -51,7 +48,7 @@ knows_all set all names rest k e = λ n.
 
 -- the list has what the search has found
 pub found_all : (next : Text → List Text) (steps : ℕ) (starts : List Text) (set : BTreeSet (Bor (List ℕ))) (all : List Text) → Knows set all → Finds next steps starts set
-    → (to : Text) → has_text all to ≡ reached next steps starts to
+    → (to : Text) → has_text all to ≡ any_leads next steps starts to
 found_all next steps starts set all k f to = sym (k to) ∙ f.1 to ∙ f.2 to
 
 -- ---- each name stands once

@@ -10,7 +10,7 @@ use Rattle.std.specs.Map.{lookup}
 use Rattle.std.specs.Ordering.{nat_cmp, is_eq}
 use Rattle.gql_plain.specs.Order.{has_text}
 use Rattle.gql_graph.specs.Ranks.{AllBelow, NeverRises, NoneAbove}
-use Rattle.gql_graph.specs.Reached.{leads, reached}
+use Rattle.gql_graph.specs.Reached.{leads, any_leads}
 use Rattle.gql_graph.specs.Texts.{Text}
 use Rattle.gql_graph.proofs.TextSteps.{either_of, same_text, some_of}
 use denote.Ref.{Bor}
@@ -35,9 +35,9 @@ not_leading rank next s k n m h = case (leads next k n m) refl where
   case false e = e
 
 -- names of a lower rank do not lead to a name
-pub not_reached : (rank : Text → ℕ) (next : Text → List Text) → NeverRises rank next → (k : ℕ) (starts : List Text) (to : Text) → AllBelow rank (rank to) starts → reached next k starts to ≡ false
-not_reached rank next s k starts to below = case (reached next k starts to) refl where
-  case : (b : Bool) → reached next k starts to ≡ b → reached next k starts to ≡ false
+pub not_reached : (rank : Text → ℕ) (next : Text → List Text) → NeverRises rank next → (k : ℕ) (starts : List Text) (to : Text) → AllBelow rank (rank to) starts → any_leads next k starts to ≡ false
+not_reached rank next s k starts to below = case (any_leads next k starts to) refl where
+  case : (b : Bool) → any_leads next k starts to ≡ b → any_leads next k starts to ≡ false
   case true e = some_of (λ x. leads next k x to) starts e (λ x i j. absurd (true≢false (sym j ∙ not_leading rank next s k x to (below x i))))
   case false e = e
 
@@ -68,8 +68,8 @@ abbrev pub BelowEach : {X : Type 0} → (rank : Text → ℕ) → (view : X → 
 BelowEach rank view [] = Unit {0}
 BelowEach rank view (e ∷ es) = NoneAbove rank (rank e.0.now) (view e.1) × BelowEach rank view es
 
-named : (n m : Text) → is_eq (slice_cmp nat_cmp n m) ≡ true → m ≡ n
-named n m e = sym (same_text n m (sym (is_eq-slice_cmp n m) ∙ e))
+same_name : (n m : Text) → is_eq (slice_cmp nat_cmp n m) ≡ true → m ≡ n
+same_name n m e = sym (same_text n m (sym (is_eq-slice_cmp n m) ∙ e))
 
 -- then what a name leads to is not above it
 pub below_in : {X : Type 0} (rank : Text → ℕ) (view : X → List Text) (es : List (Bor (List ℕ) × X)) → BelowEach rank view es
@@ -78,5 +78,5 @@ below_in rank view [] b n = λ m h. absurd (true≢false (sym h))
 below_in {X = X} rank view (e ∷ es) b n = on (is_eq (slice_cmp nat_cmp n e.0.now)) refl (below_in rank view es b.1 n) where
   on : (t : Bool) → is_eq (slice_cmp nat_cmp n e.0.now) ≡ t → NoneAbove rank (rank n) (unwrap_or (option_map view (lookup (is_at (λ k. slice_cmp nat_cmp n k.now)) es)) [])
       → NoneAbove rank (rank n) (unwrap_or (option_map view (cond t (Some e.1) (lookup (is_at (λ k. slice_cmp nat_cmp n k.now)) es))) [])
-  on true g rest = subst (λ (t : Text). NoneAbove rank (rank t) (view e.1)) (named n e.0.now g) b.0
+  on true g rest = subst (λ (t : Text). NoneAbove rank (rank t) (view e.1)) (same_name n e.0.now g) b.0
   on false g rest = rest

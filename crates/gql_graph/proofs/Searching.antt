@@ -6,12 +6,13 @@ use Rattle.std.proofs.lemmas.List.Folds.{list_any-append}
 use Rattle.std.specs.BTreeSet.{BTreeSet}
 use Rattle.std.specs.List.{list_any}
 use Rattle.gql_plain.specs.Order.{has_text}
+use Rattle.gql_plain.proofs.Booleans.{or_false, or_swap, or_rotate, both_ways, or_true}
 use Rattle.gql_graph.specs.Graphs.{unseen}
-use Rattle.gql_graph.specs.Reached.{leads, reached}
+use Rattle.gql_graph.specs.Reached.{leads, any_leads}
 use Rattle.gql_graph.specs.Rules.{each}
 use Rattle.gql_graph.specs.Seen.{Knows}
 use Rattle.gql_graph.specs.Texts.{Text}
-use Rattle.gql_graph.proofs.TextSteps.{same_text, same_self, either_of, or_true, some_of}
+use Rattle.gql_graph.proofs.TextSteps.{same_text, same_self, either_of, some_of}
 use denote.Ref.{Bor}
 
 -- what a name leads to is seen
@@ -27,27 +28,6 @@ AreDone next seen frontier = (n : Text) → has_text seen n ≡ true → has_tex
 by_cases : {P : Type 0} (b : Bool) → (b ≡ true → P) → (b ≡ false → P) → P
 by_cases true f g = f refl
 by_cases false f g = g refl
-
-or_false : (a : Bool) → (a || false) ≡ a
-or_false true = refl
-or_false false = refl
-
-both_ways : (a b : Bool) → (a ≡ true → b ≡ true) → (b ≡ true → a ≡ true) → a ≡ b
-both_ways true b f g = sym (f refl)
-both_ways false true f g = g refl
-both_ways false false f g = refl
-
-moved : (a b c : Bool) → ((b || a) || c) ≡ (a || (b || c))
-moved true true c = refl
-moved true false c = refl
-moved false true c = refl
-moved false false c = refl
-
-swapped : (a b : Bool) → (a || b) ≡ (b || a)
-swapped true true = refl
-swapped true false = refl
-swapped false true = refl
-swapped false false = refl
 
 already : (a b : Bool) → (b ≡ true → a ≡ true) → (a || b) ≡ a
 already true b f = refl
@@ -122,7 +102,7 @@ puts_next new now put then whole known xs i d h k e w s =
       k,
       ap (λ (l : List Text). l ++ unseen (n ∷ now) rest) e ∙ append_assoc put (unseen now (n ∷ [])) (unseen (n ∷ now) rest)
           ∙ ap (λ (l : List Text). put ++ l) (unseen_cons now n rest) ∙ sym (ap (λ (ys : List (Bor (List ℕ))). put ++ unseen now (map (λ (n : Bor (List ℕ)). n.now) ys)) same) ∙ w,
-      λ m. moved (has_text now m) (bytes_eq n m) (has_text rest m) ∙ sym (ap (λ (ys : List (Bor (List ℕ))). has_text now m || has_text (map (λ (n : Bor (List ℕ)). n.now) ys) m) same) ∙ s m,
+      λ m. or_rotate (has_text now m) (bytes_eq n m) (has_text rest m) ∙ sym (ap (λ (ys : List (Bor (List ℕ))). has_text now m || has_text (map (λ (n : Bor (List ℕ)). n.now) ys) m) same) ∙ s m,
     )
 
 none_left : (xs : List (Bor (List ℕ))) (i : ℕ) → length xs ≤ i → map (λ (n : Bor (List ℕ)). n.now) (drop i xs) ≡ []
@@ -139,7 +119,7 @@ pub all_known : (set : BTreeSet (Bor (List ℕ))) (put before : List Text) (xs :
 all_known set put before xs i whole h p =
     let ns : List Text = map (λ (n : Bor (List ℕ)). n.now) xs in
     λ m.
-    p.1 m ∙ sym (or_false (has_text p.0 m)) ∙ sym (ap (λ (l : List Text). has_text p.0 m || has_text l m) (none_left xs i h)) ∙ p.3 m ∙ swapped (has_text before m) (has_text ns m) ∙ sym (has_append ns before m)
+    p.1 m ∙ sym (or_false (has_text p.0 m)) ∙ sym (ap (λ (l : List Text). has_text p.0 m || has_text l m) (none_left xs i h)) ∙ p.3 m ∙ or_swap (has_text before m) (has_text ns m) ∙ sym (has_append ns before m)
 
 -- a name that is seen already is not put
 pub none_put : (ns : List Text) (n : Text) (is_new : Bool) (put : List Text) → is_new ≡ not (has_text ns n) → is_new ≡ false → put ≡ put ++ unseen ns (n ∷ [])
@@ -214,20 +194,20 @@ more_steps next (suc k) n to e = either_of (bytes_eq n to) (list_any (λ x. lead
     (λ g. leads_same next (suc (suc k)) n to g)
     (λ g. some_of (λ x. leads next k x to) (next n) g (λ x i j. next_step next (suc k) n x to i (more_steps next k x to j)))
 
-more_reached : (next : Text → List Text) (k : ℕ) (ns : List Text) (to : Text) → reached next k ns to ≡ true → reached next (suc k) ns to ≡ true
+more_reached : (next : Text → List Text) (k : ℕ) (ns : List Text) (to : Text) → any_leads next k ns to ≡ true → any_leads next (suc k) ns to ≡ true
 more_reached next k ns to e = some_of (λ n. leads next k n to) ns e (λ n i j. has_some (λ n. leads next (suc k) n to) ns n i (more_steps next k n to j))
 
 -- where a name that is seen leads is seen, or a name that waits leads there
 from_seen : (next : Text → List Text) (seen frontier : List Text) → AreDone next seen frontier → (k : ℕ) (n to : Text) → has_text seen n ≡ true → leads next k n to ≡ true
-    → (has_text seen to || reached next k frontier to) ≡ true
-from_seen next seen frontier done zero n to h e = ap (λ b. b || reached next zero frontier to) (ap (λ (t : Text). has_text seen t) (sym (same_text n to e)) ∙ h)
+    → (has_text seen to || any_leads next k frontier to) ≡ true
+from_seen next seen frontier done zero n to h e = ap (λ b. b || any_leads next zero frontier to) (ap (λ (t : Text). has_text seen t) (sym (same_text n to e)) ∙ h)
 from_seen next seen frontier done (suc k) n to h e = by_cases (has_text frontier n)
     (λ g. ap (λ b. has_text seen to || b) (has_some (λ x. leads next (suc k) x to) frontier n g e) ∙ or_true (has_text seen to))
     (λ g. either_of (bytes_eq n to) (list_any (λ x. leads next k x to) (next n)) e
-    (λ q. ap (λ b. b || reached next (suc k) frontier to) (ap (λ (t : Text). has_text seen t) (sym (same_text n to q)) ∙ h))
+    (λ q. ap (λ b. b || any_leads next (suc k) frontier to) (ap (λ (t : Text). has_text seen t) (sym (same_text n to q)) ∙ h))
     (λ q. some_of (λ x. leads next k x to) (next n) q
-    (λ x i j. either_of (has_text seen to) (reached next k frontier to) (from_seen next seen frontier done k x to (done n h g x i) j)
-    (λ r. ap (λ b. b || reached next (suc k) frontier to) r)
+    (λ x i j. either_of (has_text seen to) (any_leads next k frontier to) (from_seen next seen frontier done k x to (done n h g x i) j)
+    (λ r. ap (λ b. b || any_leads next (suc k) frontier to) r)
     (λ r. ap (λ b. has_text seen to || b) (more_reached next k frontier to r) ∙ or_true (has_text seen to)))))
 
 -- all that a round finds is seen, and waits where it was not seen before
@@ -243,27 +223,27 @@ waits_next seen all n h = in_first all seen n (unseen_in seen all n h)
 
 same_next : (next : Text → List Text) (seen frontier all : List Text) (k : ℕ) → all ≡ each next frontier → AreDone next seen frontier
     → ((n : Text) → has_text frontier n ≡ true → has_text seen n ≡ true)
-    → (to : Text) → (has_text seen to || reached next (suc k) frontier to) ≡ (has_text (all ++ seen) to || reached next k (unseen seen all) to)
-same_next next seen frontier all k e done waits to = both_ways (has_text seen to || reached next (suc k) frontier to) (has_text (all ++ seen) to || reached next k (unseen seen all) to)
-    (λ h. either_of (has_text seen to) (reached next (suc k) frontier to) h was_seen
+    → (to : Text) → (has_text seen to || any_leads next (suc k) frontier to) ≡ (has_text (all ++ seen) to || any_leads next k (unseen seen all) to)
+same_next next seen frontier all k e done waits to = both_ways (has_text seen to || any_leads next (suc k) frontier to) (has_text (all ++ seen) to || any_leads next k (unseen seen all) to)
+    (λ h. either_of (has_text seen to) (any_leads next (suc k) frontier to) h was_seen
     (λ g. some_of (λ n. leads next (suc k) n to) frontier g
     (λ n i j. either_of (bytes_eq n to) (list_any (λ x. leads next k x to) (next n)) j
     (λ q. was_seen (ap (λ (t : Text). has_text seen t) (sym (same_text n to q)) ∙ waits n i))
     (λ q. some_of (λ x. leads next k x to) (next n) q
     (λ x r s. from_seen next (all ++ seen) (unseen seen all) (done_next next seen frontier all e done) k x to (in_first all seen x (found n x i r)) s)))))
-    (λ h. either_of (has_text (all ++ seen) to) (reached next k (unseen seen all) to) h
+    (λ h. either_of (has_text (all ++ seen) to) (any_leads next k (unseen seen all) to) h
     (λ g. either_of (has_text all to) (has_text seen to) (sym (has_append all seen to) ∙ g)
     (λ i. led to i (leads_itself next k to))
-    (λ i. ap (λ b. b || reached next (suc k) frontier to) i))
+    (λ i. ap (λ b. b || any_leads next (suc k) frontier to) i))
     (λ g. some_of (λ n. leads next k n to) (unseen seen all) g (λ m i j. led m (unseen_in seen all m i) j)))
   where
     found : (n m : Text) → has_text frontier n ≡ true → has_text (next n) m ≡ true → has_text all m ≡ true
     found n m i r = ap (λ (l : List Text). has_text l m) e ∙ each_has next frontier n m i r
 
-    was_seen : has_text seen to ≡ true → (has_text (all ++ seen) to || reached next k (unseen seen all) to) ≡ true
-    was_seen h = ap (λ b. b || reached next k (unseen seen all) to) (in_second all seen to h)
+    was_seen : has_text seen to ≡ true → (has_text (all ++ seen) to || any_leads next k (unseen seen all) to) ≡ true
+    was_seen h = ap (λ b. b || any_leads next k (unseen seen all) to) (in_second all seen to h)
 
-    led : (m : Text) → has_text all m ≡ true → leads next k m to ≡ true → (has_text seen to || reached next (suc k) frontier to) ≡ true
+    led : (m : Text) → has_text all m ≡ true → leads next k m to ≡ true → (has_text seen to || any_leads next (suc k) frontier to) ≡ true
     led m i j = each_from next frontier m (sym (ap (λ (l : List Text). has_text l m) e) ∙ i)
         (λ n r s. ap (λ b. has_text seen to || b) (has_some (λ x. leads next (suc k) x to) frontier n r (next_step next k n m to s j)) ∙ or_true (has_text seen to))
 
@@ -275,11 +255,11 @@ pub record Sought (next : Text → List Text) (steps : ℕ) (starts : List Text)
   pub steps_left : at + left ≡ steps
   pub done : AreDone next seen frontier
   pub waits : (n : Text) → has_text frontier n ≡ true → has_text seen n ≡ true
-  pub same : (to : Text) → (has_text seen to || reached next left frontier to) ≡ reached next steps starts to
+  pub same : (to : Text) → (has_text seen to || any_leads next left frontier to) ≡ any_leads next steps starts to
 
 -- the set has the names that are reached
 abbrev pub Finds : (Text → List Text) → ℕ → List Text → BTreeSet (Bor (List ℕ)) → Type 0
-Finds next steps starts set = (ns : List Text) × Knows set ns × ((to : Text) → has_text ns to ≡ reached next steps starts to)
+Finds next steps starts set = (ns : List Text) × Knows set ns × ((to : Text) → has_text ns to ≡ any_leads next steps starts to)
 
 -- at the start the names themselves wait
 pub sought_first : (next : Text → List Text) (steps : ℕ) (starts : List Text) (set : BTreeSet (Bor (List ℕ))) (frontier : List Text) → Knows set (starts ++ []) → frontier ≡ unseen [] starts → Sought next steps starts set frontier 0
@@ -290,8 +270,8 @@ sought_first next steps starts set frontier k e = record {
   steps_left = omega arith;
   done = subst (λ (l : List Text). AreDone next (starts ++ []) l) (sym e) none_done;
   waits = λ n h. waits_next [] starts n (sym (ap (λ (l : List Text). has_text l n) e) ∙ h);
-  same = λ to. ap (λ (l : List Text). has_text (starts ++ []) to || reached next steps l to) e ∙ both_ways (has_text (starts ++ []) to || reached next steps (unseen [] starts) to) (reached next steps starts to)
-      (λ h. either_of (has_text (starts ++ []) to) (reached next steps (unseen [] starts) to) h
+  same = λ to. ap (λ (l : List Text). has_text (starts ++ []) to || any_leads next steps l to) e ∙ both_ways (has_text (starts ++ []) to || any_leads next steps (unseen [] starts) to) (any_leads next steps starts to)
+      (λ h. either_of (has_text (starts ++ []) to) (any_leads next steps (unseen [] starts) to) h
       (λ g. has_some (λ n. leads next steps n to) starts to (started to g) (leads_itself next steps to))
       (λ g. some_of (λ n. leads next steps n to) (unseen [] starts) g (λ n i j. has_some (λ n. leads next steps n to) starts n (unseen_in [] starts n i) j)))
       (λ h. some_of (λ n. leads next steps n to) starts h (λ n i j. from_seen next (starts ++ []) (unseen [] starts) none_done steps n to (in_first starts [] n i) j));
@@ -316,8 +296,8 @@ sought_next next steps starts old new frontier all then at h s e n k =
       steps_left = omega arith;
       done = subst (λ (l : List Text). AreDone next (all ++ s.seen) l) (sym n) (done_next next s.seen frontier all e s.done);
       waits = λ m i. waits_next s.seen all m (sym (ap (λ (l : List Text). has_text l m) n) ∙ i);
-      same = λ to. ap (λ (l : List Text). has_text (all ++ s.seen) to || reached next less l to) n ∙ sym (same_next next s.seen frontier all less e s.done s.waits to)
-          ∙ sym (ap (λ (left : ℕ). has_text s.seen to || reached next left frontier to) one) ∙ s.same to;
+      same = λ to. ap (λ (l : List Text). has_text (all ++ s.seen) to || any_leads next less l to) n ∙ sym (same_next next s.seen frontier all less e s.done s.waits to)
+          ∙ sym (ap (λ (left : ℕ). has_text s.seen to || any_leads next left frontier to) one) ∙ s.same to;
     }
 
 -- none is left to be looked at
@@ -325,7 +305,7 @@ pub sought_none : (next : Text → List Text) (steps : ℕ) (starts : List Text)
 sought_none next steps starts set frontier at s e = (
   s.seen,
   s.known,
-  λ to. sym (or_false (has_text s.seen to)) ∙ sym (ap (λ (l : List Text). has_text s.seen to || reached next s.left l to) e) ∙ s.same to,
+  λ to. sym (or_false (has_text s.seen to)) ∙ sym (ap (λ (l : List Text). has_text s.seen to || any_leads next s.left l to) e) ∙ s.same to,
 )
 
 -- no step is left
@@ -335,5 +315,5 @@ sought_end next steps starts set frontier at h s =
       s.seen,
       s.known,
       λ to.
-          sym (already (has_text s.seen to) (has_text frontier to) (s.waits to)) ∙ sym (ap (λ (left : ℕ). has_text s.seen to || reached next left frontier to) none) ∙ s.same to,
+          sym (already (has_text s.seen to) (has_text frontier to) (s.waits to)) ∙ sym (ap (λ (left : ℕ). has_text s.seen to || any_leads next left frontier to) none) ∙ s.same to,
     )

@@ -2,6 +2,7 @@
 use Rattle.std.proofs.Common.{◌≡◌, Bool, true, false, true≢false, ◌||◌, List, [], ◌∷◌, bytes_eq, refl, ap, sym, ◌∙◌, arith}
 use Rattle.std.proofs.lemmas.Slice.Eq.{bytes_eq-Decides}
 use Rattle.std.specs.List.{list_any}
+use Rattle.gql_plain.proofs.Booleans.{or_true}
 use Rattle.gql_plain.specs.Order.{has_text}
 use Rattle.gql_graph.specs.Texts.{Text}
 
@@ -12,10 +13,6 @@ same_text m n e = grind (arith, bytes_eq-Decides)
 pub either_of : {P : Type 0} (a b : Bool) → (a || b) ≡ true → (a ≡ true → P) → (b ≡ true → P) → P
 either_of true b e f g = f refl
 either_of false b e f g = g e
-
-pub or_true : (a : Bool) → (a || true) ≡ true
-or_true true = refl
-or_true false = refl
 
 pub same_self : (m : Text) → bytes_eq m m ≡ true
 same_self m = grind (arith, bytes_eq-Decides)

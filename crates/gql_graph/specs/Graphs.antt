@@ -8,8 +8,8 @@ use Rattle.gql_graph.specs.declared.graph.Graph.{Graph}
 use Rattle.gql_graph.specs.Texts.{Text}
 
 -- the names that a name leads to, where it was put
-abbrev pub kept : Graph → Text → Option (List Text)
-kept graph n = option_map (λ links. map (λ m. m.now) links.items) (get_by (λ k. slice_cmp nat_cmp n k.now) graph.links)
+abbrev pub links_of : Graph → Text → Option (List Text)
+links_of graph n = option_map (λ links. map (λ m. m.now) links.items) (get_by (λ k. slice_cmp nat_cmp n k.now) graph.links)
 
 -- of names with those that they lead to: what the first of a name says
 abbrev pub first_next : List (Text × List Text) → Text → Option (List Text)
@@ -22,11 +22,11 @@ next_in pairs n = unwrap_or (first_next pairs n) []
 
 -- these names were put, each with those that it leads to
 abbrev pub Holds : Graph → List (Text × List Text) → Type 0
-Holds graph pairs = (n : Text) → kept graph n ≡ first_next pairs n
+Holds graph pairs = (n : Text) → links_of graph n ≡ first_next pairs n
 
 -- each name leads to these
 abbrev pub Tells : Graph → (next : Text → List Text) → Type 0
-Tells graph next = (n : Text) → unwrap_or (kept graph n) [] ≡ next n
+Tells graph next = (n : Text) → unwrap_or (links_of graph n) [] ≡ next n
 
 -- each name stands once
 abbrev pub Once : List Text → Type 0

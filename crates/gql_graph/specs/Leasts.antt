@@ -6,6 +6,6 @@ lower None n = n
 lower (Some m) n = min m n
 
 -- the least place, where one may have been noted before
-abbrev pub noted : Option ℕ → List ℕ → Option ℕ
-noted before [] = before
-noted before (n ∷ ns) = noted (Some (lower before n)) ns
+abbrev pub least_from : Option ℕ → List ℕ → Option ℕ
+least_from before [] = before
+least_from before (n ∷ ns) = least_from (Some (lower before n)) ns

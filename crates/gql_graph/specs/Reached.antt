@@ -9,5 +9,5 @@ leads next zero from to = bytes_eq from to
 leads next (suc k) from to = bytes_eq from to || list_any (λ n. leads next k n to) (next from)
 
 -- whether one of these names is the other, or leads there
-abbrev pub reached : (next : Text → List Text) → (steps : ℕ) → (starts : List Text) → (to : Text) → Bool
-reached next steps starts to = list_any (λ n. leads next steps n to) starts
+abbrev pub any_leads : (next : Text → List Text) → (steps : ℕ) → (starts : List Text) → (to : Text) → Bool
+any_leads next steps starts to = list_any (λ n. leads next steps n to) starts

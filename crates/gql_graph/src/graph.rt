@@ -1,9 +1,9 @@
 //! Names that lead to others.
 ghost use Rattle.std.specs.Prelude.{◌≡◌, [], ◌∷◌, ◌++◌, map, List, IfOk, OnOk, option_map};
 ghost use Rattle.gql_plain.specs.Order.{has_text};
-ghost use Rattle.gql_graph.specs.Graphs.{kept, Holds, Once, Tells};
+ghost use Rattle.gql_graph.specs.Graphs.{links_of, Holds, Once, Tells};
 ghost use Rattle.gql_graph.specs.Graphs as graphs;
-ghost use Rattle.gql_graph.specs.Reached.{reached};
+ghost use Rattle.gql_graph.specs.Reached.{any_leads};
 ghost use Rattle.gql_graph.specs.Rules.{each};
 ghost use Rattle.gql_graph.specs.Seen.{Knows};
 ghost use Rattle.gql_graph.specs.Texts.{Text};
@@ -50,7 +50,7 @@ impl<'t> Graph<'t> {
 
     /// The names that a name leads to, where it was put.
     fn find(&self, name: &str) -> Option<&[&'t str]>
-        ensures { option_map (λ ns. map (λ n. n.now) ns.now) result ≡ kept self.now name.now }
+        ensures { option_map (λ ns. map (λ n. n.now) ns.now) result ≡ links_of self.now name.now }
     {
         match self.links.get(name) {
             Some(links) => Some(links.as_slice()),
@@ -68,7 +68,7 @@ impl<'t> Graph<'t> {
         starts: &[&'t str],
     ) -> Result<Vec<&'t str>, NoMemory>
         ensures reached { (next : Text → List Text) → Tells self.now next
-            → IfOk result (λ ns. (to : Text) → has_text (map (λ n. n.now) ns.items) to ≡ reached next steps (map (λ n. n.now) starts.now) to) }
+            → IfOk result (λ ns. (to : Text) → has_text (map (λ n. n.now) ns.items) to ≡ any_leads next steps (map (λ n. n.now) starts.now) to) }
         ensures once { IfOk result (λ ns. Once (map (λ n. n.now) ns.items)) }
     {
         let mut seen = Seen::new(alloc);
@@ -94,7 +94,7 @@ impl<'t> Graph<'t> {
         to: &str,
     ) -> Result<bool, NoMemory>
         ensures { (next : Text → List Text) → Tells self.now next
-            → IfOk result (λ leads. leads ≡ reached next steps (map (λ n. n.now) starts.now) to.now) }
+            → IfOk result (λ leads. leads ≡ any_leads next steps (map (λ n. n.now) starts.now) to.now) }
     {
         let names = self.names_reached(alloc, steps, starts)?;
         Ok(has_name(&names, to))

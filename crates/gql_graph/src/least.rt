@@ -1,6 +1,6 @@
 //! The least of places.
 ghost use Rattle.std.specs.Prelude.{◌≡◌, [], ◌∷◌, None, IsTrue};
-ghost use Rattle.gql_graph.specs.Leasts.{noted};
+ghost use Rattle.gql_graph.specs.Leasts.{least_from};
 ghost use Rattle.gql_graph.specs.Rules.{wrong};
 
 /// The least of the places that were noted, by the numbers of their nodes.
@@ -19,7 +19,7 @@ impl Least {
 
     /// Notes a place.
     pub fn note(&mut self, at: usize)
-        ensures { self.new.at ≡ noted self.old.at (at ∷ []) }
+        ensures { self.new.at ≡ least_from self.old.at (at ∷ []) }
     {
         match self.at {
             Some(least) => {
@@ -35,7 +35,7 @@ impl Least {
 
     /// Whether a place that is noted is not after this one.
     pub fn is_at_most(&self, at: usize) -> bool
-        ensures { IsTrue result → noted self.now.at (at ∷ []) ≡ self.now.at }
+        ensures { IsTrue result → least_from self.now.at (at ∷ []) ≡ self.now.at }
     {
         match self.at {
             Some(least) => least <= at,
@@ -45,7 +45,7 @@ impl Least {
 
     /// Notes a place where something is wrong there.
     pub fn note_if(&mut self, is_wrong: bool, at: usize)
-        ensures { self.new.at ≡ noted self.old.at (wrong is_wrong at) }
+        ensures { self.new.at ≡ least_from self.old.at (wrong is_wrong at) }
     {
         if is_wrong {
             self.note(at);

@@ -1,7 +1,7 @@
 //! Ranks of names that rise along no link of a graph. From a name of a lower rank no links lead to one
 //! of a higher rank, so that between the two no search is wanted.
 ghost use Rattle.std.specs.Prelude.{◌≡◌, [], List, map, unwrap_or, IfOk, IsTrue};
-ghost use Rattle.gql_graph.specs.Graphs.{kept, Tells};
+ghost use Rattle.gql_graph.specs.Graphs.{links_of, Tells};
 ghost use Rattle.gql_graph.specs.Ranks.{rank_in, AllBelow, NeverRises, NoneAbove};
 ghost use Rattle.gql_graph.specs.Texts.{Text};
 
@@ -60,7 +60,7 @@ impl<'t> Ranks<'t> {
 
 /// Whether the ranks rise along no link.
 fn never_rise(ranks: &Ranks<'_>, graph: &Graph<'_>) -> bool
-    ensures { IsTrue result → NeverRises (rank_in ranks.now) (λ n. unwrap_or (kept graph.now n) []) }
+    ensures { IsTrue result → NeverRises (rank_in ranks.now) (λ n. unwrap_or (links_of graph.now n) []) }
 {
     'links: for (name, next) in &graph.links {
         if !none_above(ranks, ranks.rank(name), next) {
@@ -91,7 +91,7 @@ fn by_components<'t>(alloc: Global, graph: &Graph<'t>) -> Result<Ranks<'t>, NoMe
         components.push(numbers_of(alloc, &numbers, next)?)?;
     }
     components.find()?;
-    ranked(alloc, &numbers, &components)
+    rank_names(alloc, &numbers, &components)
 }
 
 /// The names, each with its number in their order.
@@ -120,7 +120,7 @@ fn numbers_of(
 }
 
 /// The names, each with its rank.
-fn ranked<'t>(
+fn rank_names<'t>(
     alloc: Global,
     numbers: &BTreeMap<&'t str, usize>,
     components: &Components,

@@ -237,10 +237,10 @@ head-sound (c ∷ cs) h =
     (λ e. string-sound c cs (omega (arith, e)))
     (h, inl refl)
 
-moved : (bs : List ℕ) (at : ℕ) → at < length bs → (h : Head) → IsSound (drop at bs) h → IsSoundAt bs at h
-moved bs at l (Ignored n) h = omega (arith, h, length-drop at bs)
-moved bs at l (Found kind n) h = (omega (arith, h.0, length-drop at bs), rw (get_or-drop at bs 0 0, add-zero) at h.1, rw (get_or-drop at bs n 0) at h.2)
-moved bs at l (Wrong code n) h = (omega (arith, h.0, length-drop at bs), ⊎_elim (λ z. inl z) (λ b. inr (rw (get_or-drop at bs n 0) at b)) h.1)
+moves : (bs : List ℕ) (at : ℕ) → at < length bs → (h : Head) → IsSound (drop at bs) h → IsSoundAt bs at h
+moves bs at l (Ignored n) h = omega (arith, h, length-drop at bs)
+moves bs at l (Found kind n) h = (omega (arith, h.0, length-drop at bs), rw (get_or-drop at bs 0 0, add-zero) at h.1, rw (get_or-drop at bs n 0) at h.2)
+moves bs at l (Wrong code n) h = (omega (arith, h.0, length-drop at bs), ⊎_elim (λ z. inl z) (λ b. inr (rw (get_or-drop at bs n 0) at b)) h.1)
 
 pub head-sound_at : (bs : List ℕ) (at : ℕ) → at < length bs → IsSoundAt bs at (head (drop at bs))
-head-sound_at bs at l = moved bs at l (head (drop at bs)) (head-sound (drop at bs) (omega (arith, length-drop at bs)))
+head-sound_at bs at l = moves bs at l (head (drop at bs)) (head-sound (drop at bs) (omega (arith, length-drop at bs)))

@@ -13,9 +13,9 @@ use Rattle.gql_lex.specs.Strings.{text_end, block_end}
 use Rattle.gql_lex.specs.Heads.{comment, int_before, number, string, string_head, head}
 
 -- which branch gave the answer
-pub chosen : {A : Type 0} (b : Bool) (x y z : A) → cond b x y ≡ z → ((b ≡ true) × (x ≡ z)) ⊎ ((b ≡ false) × (y ≡ z))
-chosen true x y z e = inl (refl, e)
-chosen false x y z e = inr (refl, e)
+pub choice : {A : Type 0} (b : Bool) (x y z : A) → cond b x y ≡ z → ((b ≡ true) × (x ≡ z)) ⊎ ((b ≡ false) × (y ≡ z))
+choice true x y z e = inl (refl, e)
+choice false x y z e = inr (refl, e)
 
 -- three bytes that were found by their tests, and what follows them
 pub three_bytes : (x y z : ℕ) (bs : List ℕ) → 0 < z → (eqb (get_or bs 0 0) x && eqb (get_or bs 1 0) y && eqb (get_or bs 2 0) z) ≡ true

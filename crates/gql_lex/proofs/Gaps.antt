@@ -14,7 +14,7 @@ use Rattle.gql_plain.specs.Names.{is_name_start, is_name_byte}
 use Rattle.gql_lex.specs.Numbers.{sign_len, digits_len, int_len, is_in_i64}
 use Rattle.gql_lex.specs.Strings.{text_end, block_end}
 use Rattle.gql_lex.specs.Heads.{comment, int_before, number, string, string_head, head, IsSoundAt}
-use Rattle.gql_lex.specs.Sources.{Source, ended, faulty, token, lexed}
+use Rattle.gql_lex.specs.Sources.{Source, ended, faulty, token, lex_from}
 use Rattle.gql_lex.specs.Descriptions.{Describes}
 use Rattle.gql_lex.proofs.Extents.{or_below, same_below, head-sound_at}
 use Rattle.gql_lex.proofs.Breaks.{line_end_below}
@@ -158,13 +158,13 @@ sound_of text at l h e = rw e (head-sound_at text at l)
 ends_of : (text : List ℕ) (at : ℕ) → at < length text → (h : Head) → h ≡ head (drop at text) → IfIgnored (drop at text) h
 ends_of text at l h e = rw e (head_ends (drop at text) (omega (arith, length-drop at text)))
 
-described : (text : List ℕ) (at : ℕ) → IsUtf8 text → IsCharBoundary text at → at < length text → (h : Head) → h ≡ head (drop at text)
-    → ((k : ℕ) → at < k → IsCharBoundary text k → Describes text k (lexed k (drop k text))) → Describes text at (lexed at (drop at text))
-described text at u b l (Ignored n) e more =
+tells_head : (text : List ℕ) (at : ℕ) → IsUtf8 text → IsCharBoundary text at → at < length text → (h : Head) → h ≡ head (drop at text)
+    → ((k : ℕ) → at < k → IsCharBoundary text k → Describes text k (lex_from k (drop k text))) → Describes text at (lex_from at (drop at text))
+tells_head text at u b l (Ignored n) e more =
     let s = sound_of text at l (Ignored n) e in
     let i = behind text at n u b s (ends_of text at l (Ignored n) e) in
     rw (at_ignored text at n l e) (further_back text at n _ s e (more (at + (1 + n)) (omega arith) i))
-described text at u b l (Found kind n) e more =
+tells_head text at u b l (Found kind n) e more =
     let s = sound_of text at l (Found kind n) e in
     let o : at + n + 1 ≡ at + (1 + n) = omega arith in
     let m : at + (1 + n) - at ≡ 1 + n = omega arith in
@@ -172,16 +172,16 @@ described text at u b l (Found kind n) e more =
     let t = found_token (drop at text) kind n (omega (arith, s.0, length-drop at text)) (sym e) in
     rw (at_found text at n kind l e)
     (record { behind = omega arith; gap = gap_none text at at (omega arith); some = omega arith; within = omega (arith, s.0); text = refl; form = rw m t; start = b; end = i }, more (at + (1 + n)) (omega arith) i)
-described text at u b l (Wrong code n) e more =
+tells_head text at u b l (Wrong code n) e more =
     let s = sound_of text at l (Wrong code n) e in
     rw (at_wrong text at n code l e) (omega arith, s.0, ⊎_elim (λ z. let i : at ≡ at + n = omega (arith, z) in rw i at b) (λ a. IsCharBoundary-before_ascii text (at + n) s.0 a) s.1)
 
-describes_by : (fuel : ℕ) (text : List ℕ) (at : ℕ) → IsUtf8 text → IsCharBoundary text at → length text ≤ at + fuel → Describes text at (lexed at (drop at text))
+describes_by : (fuel : ℕ) (text : List ℕ) (at : ℕ) → IsUtf8 text → IsCharBoundary text at → length text ≤ at + fuel → Describes text at (lex_from at (drop at text))
 describes_by zero text at u b l = rw (lexed_none at at text (omega arith)) (gap_none text at (length text) (omega arith))
 describes_by (suc fuel) text at u b l = ⊎_elim
-    (λ w. described text at u b w (head (drop at text)) refl (λ k m c. describes_by fuel text k u c (omega arith)))
+    (λ w. tells_head text at u b w (head (drop at text)) refl (λ k m c. describes_by fuel text k u c (omega arith)))
     (λ w. rw (lexed_none at at text w) (gap_none text at (length text) w))
     (cases_lt at (length text))
 
-pub describes : (text : List ℕ) → IsUtf8 text → Describes text 0 (lexed 0 text)
+pub describes : (text : List ℕ) → IsUtf8 text → Describes text 0 (lex_from 0 text)
 describes text u = describes_by (length text) text 0 u (IsCharBoundary-start text u) (omega arith)

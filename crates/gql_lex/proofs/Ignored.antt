@@ -13,10 +13,10 @@ use Rattle.gql_plain.specs.Names.{is_name_start, is_name_byte}
 use Rattle.gql_lex.specs.Numbers.{sign_len, digits_len, int_len, is_in_i64}
 use Rattle.gql_lex.specs.Strings.{text_end, block_end}
 use Rattle.gql_lex.specs.Heads.{comment, int_before, number, string, string_head, head}
-use Rattle.gql_lex.specs.Sources.{Source, ended, lexed, read, read_head}
+use Rattle.gql_lex.specs.Sources.{Source, ended, lex_from, read, read_head}
 use Rattle.gql_lex.specs.Descriptions.{IsIgnored}
 use Rattle.gql_lex.proofs.Reading.{lexed_ignored}
-use Rattle.gql_lex.proofs.Fronts.{chosen}
+use Rattle.gql_lex.proofs.Fronts.{choice}
 use Rattle.gql_lex.proofs.Whole.{step_same, step_kept, three_shorter}
 
 -- ---- the offset does not matter
@@ -92,7 +92,7 @@ comment_kept cs n j l e = ⊎_elim
     let t = comment_cut cs j (omega arith) w.0 in
     rw (r, t, q) refl)
     (λ w. absurd (no_wrong (1 + prefix_len may_stand cs) n w.1))
-    (chosen ((eqb (length cs) (prefix_len may_stand cs)) || is_line_end (get_or cs (prefix_len may_stand cs) 0)) _ _ _ e)
+    (choice ((eqb (length cs) (prefix_len may_stand cs)) || is_line_end (get_or cs (prefix_len may_stand cs) 0)) _ _ _ e)
 
 mark_kept : (bs : List ℕ) (n j : ℕ) → is_mark bs ≡ true → Ignored 2 ≡ Ignored n → n < j → is_mark (take j bs) ≡ true
 mark_kept bs n j t e l =
@@ -138,4 +138,4 @@ gap_more bs at n to l e m w g =
     let x = lexed_ignored 0 n (take (to - at) (drop at bs)) s (sym h) in
     let y : drop (1 + n) (take (to - at) (drop at bs)) ≡ take (to - (at + (1 + n))) (drop (at + (1 + n)) bs)
     = ap (λ z. drop (1 + n) (take z (drop at bs))) k ∙ drop-take (1 + n) (to - (at + (1 + n))) (drop at bs) ∙ ap (λ z. take (to - (at + (1 + n))) z) (drop-drop (1 + n) at bs) in
-    x ∙ ap (λ z. lexed (0 + (1 + n)) z) y ∙ shift 0 0 (0 + (1 + n)) (take (to - (at + (1 + n))) (drop (at + (1 + n)) bs)) g
+    x ∙ ap (λ z. lex_from (0 + (1 + n)) z) y ∙ shift 0 0 (0 + (1 + n)) (take (to - (at + (1 + n))) (drop (at + (1 + n)) bs)) g

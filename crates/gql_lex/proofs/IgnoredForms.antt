@@ -9,7 +9,7 @@ use Rattle.gql_lex.specs.declared.tokens.Head.TheVariants.{Ignored, Found, Wrong
 use Rattle.gql_lex.specs.Characters.{is_ignored, is_mark, is_line_end, may_stand}
 use Rattle.gql_lex.specs.Heads.{comment}
 use Rattle.gql_lex.specs.Lexemes.{IsIgnored, IgnoredText}
-use Rattle.gql_lex.proofs.Fronts.{chosen, three_bytes, number_by, string_by, head_by}
+use Rattle.gql_lex.proofs.Fronts.{choice, three_bytes, number_by, string_by, head_by}
 use Rattle.gql_lex.proofs.LongestToken.{run_passes, take_one_more}
 
 -- the form, and where a comment ends
@@ -45,7 +45,7 @@ unfolding comment
 comment_passed [] n h e = absurd (omega (arith, h))
 comment_passed (c ∷ cs) n h e =
     ⊎_elim (λ w. ends w.0 (passed_len (prefix_len may_stand cs) n w.1)) (λ w. absurd (wrong_no 1 (1 + prefix_len may_stand cs) n w.1))
-    (chosen (eqb (length cs) (prefix_len may_stand cs) || is_line_end (get_or cs (prefix_len may_stand cs) 0)) _ _ _ e)
+    (choice (eqb (length cs) (prefix_len may_stand cs) || is_line_end (get_or cs (prefix_len may_stand cs) 0)) _ _ _ e)
   where
     ends : (eqb (length cs) (prefix_len may_stand cs) || is_line_end (get_or cs (prefix_len may_stand cs) 0)) ≡ true → prefix_len may_stand cs ≡ n → Passed (c ∷ cs) n
     ends o m =

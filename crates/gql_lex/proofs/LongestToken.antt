@@ -13,7 +13,7 @@ use Rattle.gql_lex.specs.Heads.{number, string, string_head, head}
 use Rattle.gql_lex.specs.Lexemes.{is_whole, is_int, Part, character, escape, unicode, AreParts, parts_then, BlockPart, block_then, AreBlockParts, IsLexeme, LongestToken}
 use Rattle.gql_lex.specs.Numbers.{sign_len, digits_len, int_len}
 use Rattle.gql_lex.specs.Strings.{text_end, block_end}
-use Rattle.gql_lex.proofs.Fronts.{chosen, begins, found_len, number_kind, three_bytes}
+use Rattle.gql_lex.proofs.Fronts.{choice, begins, found_len, number_kind, three_bytes}
 use Rattle.gql_lex.proofs.StringKinds.{string_text, string_block}
 use Rattle.gql_lex.proofs.StringParts.{parts_then-append, text_ends, text_parts, block_then-append, block_ends, block_parts}
 use Rattle.gql_lex.proofs.TokenTexts.{number_found}
@@ -251,7 +251,7 @@ text_longest_of ps rest kind n all e =
     let f : string_head Text 0 (Ok (length (parts_then ps []))) ≡ Found kind n = subst (λ r. string_head Text 0 r ≡ Found kind n) (text_ends ps rest all) w.1 in
     let m : 0 + length (parts_then ps []) ≡ n = found_len Text kind _ n f in
     omega (arith, m))
-    (chosen (is_two_quotes (parts_then ps rest)) _ _ _ e)
+    (choice (is_two_quotes (parts_then ps rest)) _ _ _ e)
 
 text_longest : (text rest : List ℕ) (kind : TokenKind) (n : ℕ) → IsLexeme Text text → head (text ++ rest) ≡ Found kind n → length text ≤ n + 1
 text_longest text rest kind n is e =

@@ -153,9 +153,9 @@ texts_drop (suc n) (x ∷ xs) = texts_drop n xs
 texts_take : (n : ℕ) (ls : List (Bor (List ℕ))) → texts (take n ls) ≡ take n (texts ls)
 texts_take n ls = sym (take-map (λ (x : Bor (List ℕ)). x.now) n ls)
 
-pub trimmed : (ls : List (Bor (List ℕ))) (s e : ℕ) → s ≡ prefix_len is_blank_line (texts ls) → e ≡ length (drop s ls) - suffix_len is_blank_line (texts (drop s ls))
+pub trims : (ls : List (Bor (List ℕ))) (s e : ℕ) → s ≡ prefix_len is_blank_line (texts ls) → e ≡ length (drop s ls) - suffix_len is_blank_line (texts (drop s ls))
     → texts (take e (drop s ls)) ≡ without_blank_end (without_blank_start (texts ls))
-trimmed ls s e p q =
+trims ls s e p q =
     let k : length (texts (drop s ls)) ≡ length (drop s ls) = length-map (drop s ls) (λ (x : Bor (List ℕ)). x.now) in
     let t : e ≡ length (texts (drop s ls)) - suffix_len is_blank_line (texts (drop s ls)) = omega (arith, q, k) in
     let w : without_blank_end (texts (drop s ls)) ≡ without_blank_end (without_blank_start (texts ls)) = ap (λ x. without_blank_end x) (texts_drop s ls ∙ ap (λ n. drop n (texts ls)) p) in

@@ -8,7 +8,7 @@ use Rattle.gql_lex.specs.Characters.{is_two_quotes}
 use Rattle.gql_lex.specs.Strings.{text_end, block_end}
 use Rattle.gql_lex.specs.Heads.{string, string_head, IsToken}
 use Rattle.gql_lex.specs.Values.{IsTextRest, IsBlockRest}
-use Rattle.gql_lex.proofs.Fronts.{chosen, begins}
+use Rattle.gql_lex.proofs.Fronts.{choice, begins}
 
 text_found : (r : Result ℕ ℕ) (n : ℕ) → string_head Text 0 r ≡ Found Text n → r ≡ Ok n
 text_found (Ok m) n e =
@@ -32,12 +32,12 @@ text_not_block (Err code) n e = cc
 pub string_text : (cs : List ℕ) (n : ℕ) → string cs ≡ Found Text n → (is_two_quotes cs ≡ false) × (text_end 0 cs ≡ Ok n)
 unfolding string
 string_text cs n e =
-    ⊎_elim (λ w. absurd (block_not_text (block_end 0 (drop 2 cs)) n w.1)) (λ w. (w.0, text_found (text_end 0 cs) n w.1)) (chosen (is_two_quotes cs) _ _ _ e)
+    ⊎_elim (λ w. absurd (block_not_text (block_end 0 (drop 2 cs)) n w.1)) (λ w. (w.0, text_found (text_end 0 cs) n w.1)) (choice (is_two_quotes cs) _ _ _ e)
 
 pub string_block : (cs : List ℕ) (n : ℕ) → string cs ≡ Found Block n → (is_two_quotes cs ≡ true) × ((m : ℕ) × (block_end 0 (drop 2 cs) ≡ Ok m) × (2 + m ≡ n))
 unfolding string
 string_block cs n e =
-    ⊎_elim (λ w. (w.0, block_found (block_end 0 (drop 2 cs)) n w.1)) (λ w. absurd (text_not_block (text_end 0 cs) n w.1)) (chosen (is_two_quotes cs) _ _ _ e)
+    ⊎_elim (λ w. (w.0, block_found (block_end 0 (drop 2 cs)) n w.1)) (λ w. absurd (text_not_block (text_end 0 cs) n w.1)) (choice (is_two_quotes cs) _ _ _ e)
 
 pub text_token : (text : List ℕ) → IsToken Text text → (get_or text 0 0 ≡ 34) × IsTextRest (drop 1 text)
 unfolding IsToken

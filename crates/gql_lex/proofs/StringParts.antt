@@ -6,7 +6,7 @@ use Rattle.gql_lex.specs.Characters.{may_stand, may_stand_in_block, is_three_quo
 use Rattle.gql_lex.specs.Lexemes.{Part, character, escape, unicode, IsPart, AreParts, part_then, parts_then, BlockPart, letter, quotes, block_then, AreBlockParts}
 use Rattle.gql_lex.specs.Strings.{further, and_then, escape_len, text_end, block_end, is_simple_escape, is_hex, is_four_hex, code_of_hex, is_surrogate}
 use Rattle.gql_lex.proofs.Skips.{text_quote, text_escape, text_plain, text_end-skip, block_quotes, block_escape, block_plain, block_end-skip}
-use Rattle.gql_lex.proofs.Fronts.{chosen, three_bytes}
+use Rattle.gql_lex.proofs.Fronts.{choice, three_bytes}
 
 pub ok_inj : (m n : ℕ) → ◌≡◌ {A = Result ℕ ℕ} (Ok m) (Ok n) → m ≡ n
 ok_inj m n e = cc
@@ -87,15 +87,15 @@ unicode_escape c cs m e =
     (λ w. let p = and_parts (eqb c 117) (is_four_hex cs) w.0 in
     ⊎_elim (λ v. absurd (ok_not_err 5 m v.1))
     (λ v. let u = eqb-true c 117 p.0 in rw u (four_hex cs m p.1 v.0 (sym (ok_inj 5 m v.1))))
-    (chosen (is_surrogate (code_of_hex cs)) _ _ _ w.1))
+    (choice (is_surrogate (code_of_hex cs)) _ _ _ w.1))
     (λ w. absurd (ok_not_err 4 m w.1))
-    (chosen (eqb c 117 && is_four_hex cs) _ _ _ e)
+    (choice (eqb c 117 && is_four_hex cs) _ _ _ e)
 
 escape_is : (cs : List ℕ) (m : ℕ) → escape_len cs ≡ Ok m → Escaped cs m
 unfolding escape_len
 escape_is [] m e = absurd (ok_not_err 4 m e)
 escape_is (c ∷ cs) m e =
-    ⊎_elim (λ w. inl (c, (cs, refl, w.0, sym (ok_inj 1 m w.1)))) (λ w. unicode_escape c cs m w.1) (chosen (is_simple_escape c) _ _ _ e)
+    ⊎_elim (λ w. inl (c, (cs, refl, w.0, sym (ok_inj 1 m w.1)))) (λ w. unicode_escape c cs m w.1) (choice (is_simple_escape c) _ _ _ e)
 
 -- by what stands in front, where shorter bytes are known
 text_first : (k c : ℕ) (cs : List ℕ) (n : ℕ) → length (c ∷ cs) ≤ suc k → ((xs : List ℕ) (m : ℕ) → length xs ≤ k → text_end 0 xs ≡ Ok m → BeginsText xs m)
@@ -105,9 +105,9 @@ text_first k c cs n l next e =
     ⊎_elim
     (λ w. let q = eqb-true c 34 w.0 in rw q ([], tt, (cs, refl, sym (ok_inj 1 n w.1))))
     (λ w. ⊎_elim (λ v. escaped (eqb-true c 92 v.0) (escape_len cs) refl v.1) (λ v.
-    ⊎_elim (λ u. plain (eqb-false c 34 w.0) (eqb-false c 92 v.0) u.0 u.1) (λ u. absurd (ok_not_err 4 n u.1)) (chosen (may_stand c) _ _ _ v.1))
-    (chosen (eqb c 92) _ _ _ w.1))
-    (chosen (eqb c 34) _ _ _ e)
+    ⊎_elim (λ u. plain (eqb-false c 34 w.0) (eqb-false c 92 v.0) u.0 u.1) (λ u. absurd (ok_not_err 4 n u.1)) (choice (may_stand c) _ _ _ v.1))
+    (choice (eqb c 92) _ _ _ w.1))
+    (choice (eqb c 34) _ _ _ e)
   where
     plain : ¬ (c ≡ 34) → ¬ (c ≡ 92) → may_stand c ≡ true → further 1 (text_end 0 cs) ≡ Ok n → BeginsText (c ∷ cs) n
     plain q b m f =
@@ -196,9 +196,9 @@ block_first k c cs n l next e =
     ⊎_elim
     (λ w. let q = three_bytes 34 34 34 (c ∷ cs) (lit< tt) w.0 in ([], tt, (q.0, q.1, sym (ok_inj 3 n w.1))))
     (λ w. ⊎_elim (λ v. escaped v.0 v.1) (λ v.
-    ⊎_elim (λ u. plain w.0 v.0 u.0 u.1) (λ u. absurd (ok_not_err 4 n u.1)) (chosen (may_stand_in_block c) _ _ _ v.1))
-    (chosen (is_escaped_quotes (c ∷ cs)) _ _ _ w.1))
-    (chosen (is_three_quotes (c ∷ cs)) _ _ _ e)
+    ⊎_elim (λ u. plain w.0 v.0 u.0 u.1) (λ u. absurd (ok_not_err 4 n u.1)) (choice (may_stand_in_block c) _ _ _ v.1))
+    (choice (is_escaped_quotes (c ∷ cs)) _ _ _ w.1))
+    (choice (is_three_quotes (c ∷ cs)) _ _ _ e)
   where
     plain : is_three_quotes (c ∷ cs) ≡ false → is_escaped_quotes (c ∷ cs) ≡ false → may_stand_in_block c ≡ true → further 1 (block_end 0 cs) ≡ Ok n → BeginsBlock (c ∷ cs) n
     plain q b m f =

@@ -136,9 +136,9 @@ pub record Escaped (bs : List ℕ) : Type 0 where
   pub within : 1 + escaped_len (drop 1 bs) < length bs
   pub last : get_or bs (escaped_len (drop 1 bs)) 0 < 128
 
-pub taken : (r : Result ℕ ℕ) (next : ℕ → Result ℕ ℕ) (m : ℕ) → and_then r next ≡ Ok m → (n : ℕ) × (r ≡ Ok n) × (next n ≡ Ok m)
-taken (Ok n) next m e = (n, refl, e)
-taken (Err code) next m e = (0, cc, cc)
+pub takes : (r : Result ℕ ℕ) (next : ℕ → Result ℕ ℕ) (m : ℕ) → and_then r next ≡ Ok m → (n : ℕ) × (r ≡ Ok n) × (next n ≡ Ok m)
+takes (Ok n) next m e = (n, refl, e)
+takes (Err code) next m e = (0, cc, cc)
 
 the_none : (code l : ℕ) → further 0 (Err code) ≡ Ok l → ⊥
 the_none code l e = cc
@@ -180,7 +180,7 @@ escape_step (c ∷ es) e l s n =
     let b = backslash_of c es s n in
     let f = ne_eqb c 34 n in
     let g = eq-eqb c 92 b in
-    let t = taken (escape_len es) (λ k. further 1 (text_end k es)) (suc (length es)) (rw (f, g) at e) in
+    let t = takes (escape_len es) (λ k. further 1 (text_end k es)) (suc (length es)) (rw (f, g) at e) in
     let o = ok_from (escape_len es) t.0 t.1 in
     let k = escape_ok es o in
     let m = same_ok (escape_len es) t.0 (escaped_len es) t.1 k.is in

@@ -10,7 +10,7 @@ use Rattle.gql_lex.specs.Characters.{is_punctuator, is_spread, is_float_mark, is
 use Rattle.gql_plain.specs.Names.{is_name_byte}
 use Rattle.gql_lex.specs.Numbers.{sign_len, digits_len, int_len, is_in_i64}
 use Rattle.gql_lex.specs.Heads.{int_before, number, IsToken}
-use Rattle.gql_lex.proofs.Fronts.{chosen, begins, wrong_found}
+use Rattle.gql_lex.proofs.Fronts.{choice, begins, wrong_found}
 use Rattle.gql_lex.proofs.Digits.{run_digits, zero_digit}
 
 pub punct_text : (text : List ℕ) → IsToken Punct text → (is_punctuator (get_or text 0 0) ≡ true) ⊎ (is_spread text ≡ true)
@@ -28,12 +28,12 @@ int_found : (text rest : List ℕ) (n : ℕ) → int_before text rest ≡ Found 
 unfolding int_before
 int_found text rest n e =
     ⊎_elim (λ w. absurd (wrong_found 3 0 Int n w.1)) (λ w. ⊎_elim (λ v. absurd (wrong_found 2 0 Int n v.1)) (λ v. ⊎_elim (λ u. let q = u.1 in (cc, u.0)) (λ u. absurd (wrong_found 2 0 Int n u.1))
-    (chosen (is_in_i64 text) _ _ _ v.1)) (chosen (is_name_byte (get_or rest 0 0)) _ _ _ w.1)) (chosen (is_float_mark (get_or rest 0 0)) _ _ _ e)
+    (choice (is_in_i64 text) _ _ _ v.1)) (choice (is_name_byte (get_or rest 0 0)) _ _ _ w.1)) (choice (is_float_mark (get_or rest 0 0)) _ _ _ e)
 
 pub number_found : (bs : List ℕ) (n : ℕ) → number bs ≡ Found Int n → ¬ (digits_len (drop (sign_len bs) bs) ≡ 0) × ((length (take (int_len bs) bs) - 1 ≡ n) × (is_in_i64 (take (int_len bs) bs) ≡ true))
 unfolding number
 number_found bs n e =
-    ⊎_elim (λ w. absurd (wrong_found 2 0 Int n w.1)) (λ w. (eqb-false _ 0 w.0, int_found (take (int_len bs) bs) (drop (int_len bs) bs) n w.1)) (chosen (eqb (digits_len (drop (sign_len bs) bs)) 0) _ _ _ e)
+    ⊎_elim (λ w. absurd (wrong_found 2 0 Int n w.1)) (λ w. (eqb-false _ 0 w.0, int_found (take (int_len bs) bs) (drop (int_len bs) bs) n w.1)) (choice (eqb (digits_len (drop (sign_len bs) bs)) 0) _ _ _ e)
 
 digits_by : (bs : List ℕ) (b : Bool) → eqb (get_or bs 0 0) 48 ≡ b → AllDigits 10 (take (cond b 1 (prefix_len is_digit bs)) bs)
 digits_by bs true e = zero_digit bs (eqb-true (get_or bs 0 0) 48 e)

@@ -13,8 +13,8 @@ use Rattle.gql_lex.specs.Strings.{further, and_then, escape_len, text_end, block
 use Rattle.gql_lex.specs.Heads.{comment, int_before, number, string, string_head, head, IsToken}
 use Rattle.gql_lex.proofs.Extents.{stands_within, text_end-closes, block_end-closes, Closes, digits_some}
 use Rattle.gql_lex.proofs.Skips.{text_end-skip, block_end-skip}
-use Rattle.gql_lex.proofs.Fronts.{chosen, no_comment, wrong_found, ignored_found}
-use Rattle.gql_lex.proofs.Texts.{further_one, taken, not_unicode, is_simple, ok_from, unicode_is}
+use Rattle.gql_lex.proofs.Fronts.{choice, no_comment, wrong_found, ignored_found}
+use Rattle.gql_lex.proofs.Texts.{further_one, takes, not_unicode, is_simple, ok_from, unicode_is}
 
 -- ---- the same tests
 
@@ -117,9 +117,9 @@ escape_local es i j e l = ⊎_elim
 the_none : (i code j : ℕ) → ¬ (further i (Err code) ≡ Ok j)
 the_none i code j e = cc
 
-skipped : (i j : ℕ) (r : Result ℕ ℕ) → further i r ≡ Ok j → i ≤ j
-skipped i j (Ok k) e = let p : i + k ≡ j = cc in omega arith
-skipped i j (Err code) e = absurd (the_none i code j e)
+skips : (i j : ℕ) (r : Result ℕ ℕ) → further i r ≡ Ok j → i ≤ j
+skips i j (Ok k) e = let p : i + k ≡ j = cc in omega arith
+skips i j (Err code) e = absurd (the_none i code j e)
 
 no_quote : (bs : List ℕ) (r : Result ℕ ℕ) → IfOk r (Closes bs) → ¬ (r ≡ Ok 0)
 no_quote bs (Ok zero) c e = omega (arith, c.1 0)
@@ -129,9 +129,9 @@ no_quote bs (Err code) c e = cc
 escape_on : (cs : List ℕ) (j : ℕ) → ((i : ℕ) → text_end i cs ≡ Ok j → text_end i (take j cs) ≡ Ok j)
     → and_then (escape_len cs) (λ n. further 1 (text_end n cs)) ≡ Ok (suc j) → and_then (escape_len (take j cs)) (λ n. further 1 (text_end n (take j cs))) ≡ Ok (suc j)
 escape_on cs j h e =
-    let t = taken (escape_len cs) (λ n. further 1 (text_end n cs)) (suc j) e in
+    let t = takes (escape_len cs) (λ n. further 1 (text_end n cs)) (suc j) e in
     let f = further_one (text_end t.0 cs) j t.2 in
-    let l = skipped t.0 j (text_end 0 (drop t.0 cs)) (sym (text_end-skip t.0 cs) ∙ f) in
+    let l = skips t.0 j (text_end 0 (drop t.0 cs)) (sym (text_end-skip t.0 cs) ∙ f) in
     let x = escape_local cs t.0 j t.1 l in
     rw x (on_more (text_end t.0 cs) (text_end t.0 (take j cs)) j (h t.0) t.2)
 
@@ -149,7 +149,7 @@ block_on : (cs : List ℕ) (j : ℕ) → (block_end 3 cs ≡ Ok j → block_end 
     → (is_escaped_quotes (c ∷ take j cs) ≡ true) × (further 1 (block_end 3 (take j cs)) ≡ Ok (suc j))
 block_on cs j h c s e =
     let f = further_one (block_end 3 cs) j e in
-    let l = skipped 3 j (block_end 0 (drop 3 cs)) (sym (block_end-skip 3 cs) ∙ f) in
+    let l = skips 3 j (block_end 0 (drop 3 cs)) (sym (block_end-skip 3 cs) ∙ f) in
     let p = and_parts (eqb c 92) (is_three_quotes cs) s in
     (and_from (eqb c 92) (is_three_quotes (take j cs)) p.0 (quotes_kept cs j l ∙ p.1), on_more (block_end 3 cs) (block_end 3 (take j cs)) j h e)
 
@@ -253,7 +253,7 @@ int_found : (text rest : List ℕ) (k : TokenKind) (n : ℕ) → int_before text
 unfolding int_before
 int_found text rest k n e =
     ⊎_elim (λ w. absurd (wrong_found 3 0 k n w.1)) (λ w. ⊎_elim (λ v. absurd (wrong_found 2 0 k n v.1)) (λ v. ⊎_elim (λ u. (u.1, u.0)) (λ u. absurd (wrong_found 2 0 k n u.1))
-    (chosen (is_in_i64 text) _ _ _ v.1)) (chosen (is_name_byte (get_or rest 0 0)) _ _ _ w.1)) (chosen (is_float_mark (get_or rest 0 0)) _ _ _ e)
+    (choice (is_in_i64 text) _ _ _ v.1)) (choice (is_name_byte (get_or rest 0 0)) _ _ _ w.1)) (choice (is_float_mark (get_or rest 0 0)) _ _ _ e)
 
 int_alone : (text : List ℕ) → is_in_i64 text ≡ true → int_before text [] ≡ Found Int (length text - 1)
 unfolding int_before
@@ -283,7 +283,7 @@ number_from bs k n l d h =
 number_kept : (bs : List ℕ) (k : TokenKind) (n : ℕ) → 0 < length bs → number bs ≡ Found k n → number (take (1 + n) bs) ≡ Found k n
 unfolding number
 number_kept bs k n l e =
-    ⊎_elim (λ w. absurd (wrong_found 2 0 k n w.1)) (λ w. number_from bs k n l (eqb-false _ 0 w.0) (int_found (take (int_len bs) bs) (drop (int_len bs) bs) k n w.1)) (chosen (eqb (digits_len (drop (sign_len bs) bs)) 0) _ _ _ e)
+    ⊎_elim (λ w. absurd (wrong_found 2 0 k n w.1)) (λ w. number_from bs k n l (eqb-false _ 0 w.0) (int_found (take (int_len bs) bs) (drop (int_len bs) bs) k n w.1)) (choice (eqb (digits_len (drop (sign_len bs) bs)) 0) _ _ _ e)
 
 -- ---- any token
 

@@ -2,11 +2,11 @@
 use Rattle.std.specs.Prelude.{◌≡◌, ℕ, ◌<◌, ◌≤◌, List, length, IsCharBoundary}
 use Rattle.std.specs.List.{between}
 use Rattle.gql_lex.specs.Heads.{IsToken}
-use Rattle.gql_lex.specs.Sources.{Piece, Source, ended, faulty, token, lexed}
+use Rattle.gql_lex.specs.Sources.{Piece, Source, ended, faulty, token, lex_from}
 
 -- only ignored text
 abbrev pub IsIgnored : List ℕ → Type 0
-IsIgnored bs = lexed 0 bs ≡ ended
+IsIgnored bs = lex_from 0 bs ≡ ended
 
 -- a token stands in the text at its offsets, with only ignored text between it and the offset `from`, and is one whole token
 pub record StandsAt (whole : List ℕ) (from : ℕ) (p : Piece) : Type 0 where

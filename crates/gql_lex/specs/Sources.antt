@@ -31,5 +31,5 @@ read (suc n) at (c ∷ cs) = read n (at + 1) cs
 read zero at (c ∷ cs) = read_head (head (c ∷ cs)) at (c ∷ cs) (λ n. read n (at + 1) cs)
 
 -- what the bytes from the offset `at` on hold
-abbrev pub lexed : (at : ℕ) → List ℕ → Source
-lexed at bs = read 0 at bs
+abbrev pub lex_from : (at : ℕ) → List ℕ → Source
+lex_from at bs = read 0 at bs

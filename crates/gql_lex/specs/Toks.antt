@@ -3,7 +3,7 @@ use Rattle.std.specs.Prelude.{ℕ, cond, ◌==◌, List, [], ◌∷◌, slice_in
 use Rattle.gql_lex.specs.declared.tokens.TokenKind.{TokenKind}
 use Rattle.gql_lex.specs.declared.tokens.TokenKind.TheVariants.{Punct, Name, Int, Text, Block}
 use Rattle.gql_lex.specs.Numbers.{int_value}
-use Rattle.gql_lex.specs.Sources.{Piece, Source, ended, faulty, token, lexed}
+use Rattle.gql_lex.specs.Sources.{Piece, Source, ended, faulty, token, lex_from}
 use Rattle.gql_lex.specs.Values.{string_value_of}
 
 -- `! $ & ( ) ... : = @ [ ] { | }`, then Name with its bytes, Int with its value, and Text and Block with what they say
@@ -49,4 +49,4 @@ toks_of (token p rest) = option_map (λ ts. tok_of_piece p ∷ ts) (toks_of rest
 
 -- the tokens of a text that has no lexical fault
 abbrev pub tokens_of : List ℕ → Option (List Tok)
-tokens_of bs = toks_of (lexed 0 bs)
+tokens_of bs = toks_of (lex_from 0 bs)

@@ -3,7 +3,7 @@ ghost use Rattle.std.specs.Prelude.{◌≡◌, IfOk, IfSome};
 ghost use Rattle.gql_lex.specs.Answers.{Gives};
 ghost use Rattle.gql_lex.specs.Descriptions.{Describes};
 ghost use Rattle.gql_lex.specs.Heads.{IsToken};
-ghost use Rattle.gql_lex.specs.Sources.{lexed};
+ghost use Rattle.gql_lex.specs.Sources.{lex_from};
 
 use crate::heads::head;
 use crate::tokens::{Head, LexFault, Token};
@@ -20,13 +20,13 @@ pub struct Lexer<'a> {
 impl<'a> Model for Lexer<'a> {
     ghost use Rattle.std.specs.Prelude.{◌≤◌, length, drop};
     ghost use Rattle.gql_lex.specs.Codes.{coded_source};
-    ghost use Rattle.gql_lex.specs.Sources.{Source, lexed};
+    ghost use Rattle.gql_lex.specs.Sources.{Source, lex_from};
 
     ghost Value = { Source };
 
     ghost coded = { coded_source };
 
-    ghost view = { λ l. lexed l.at (drop l.at l.text.now) };
+    ghost view = { λ l. lex_from l.at (drop l.at l.text.now) };
 
     ghost invariant = { λ l. l.at ≤ length l.text.now };
 }
@@ -34,7 +34,7 @@ impl<'a> Model for Lexer<'a> {
 impl<'a> Lexer<'a> {
     /// A lexer at the start of a text.
     pub fn new(text: &'a str) -> Lexer<'a>
-        ensures ahead { result ≡ lexed 0 text.now }
+        ensures ahead { result ≡ lex_from 0 text.now }
         ensures describes { Describes text.now 0 result }
     {
         Lexer { text, at: 0 }

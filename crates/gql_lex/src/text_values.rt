@@ -81,7 +81,7 @@ fn plain_end(bytes: &[u8], at: usize) -> usize
 }
 
 /// The character of an escape in the rest of a Text, and where the escape ends.
-fn unescaped(bytes: &[u8], at: usize) -> (char, usize)
+fn unescape(bytes: &[u8], at: usize) -> (char, usize)
     requires within { at < length bytes.now }
     requires rest { IsTextRest (drop at bytes.now) }
     requires escape { slice_index bytes.now at ≡ 92 }
@@ -108,7 +108,7 @@ pub fn text_value(alloc: Global, text: &str) -> Result<String, AllocError>
         if bytes[end] == b'"' {
             return Ok(value);
         }
-        let (character, behind) = unescaped(bytes, end);
+        let (character, behind) = unescape(bytes, end);
         value.push(character)?;
         at = behind;
     }

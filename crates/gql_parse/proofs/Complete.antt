@@ -3,7 +3,7 @@ use Rattle.std.proofs.Common.{◌≡◌, ◌≤◌, ℕ, zero, suc, ◌+◌, Boo
 use Rattle.std.specs.List.{AllByRecursion}
 use Rattle.gql_lex.specs.Toks as tok
 use Rattle.gql_lex.specs.Toks.{Tok}
-use Rattle.gql_ast.specs.Sels.{Sels, end, field, spread, inline, followed}
+use Rattle.gql_ast.specs.Sels.{Sels, end, field, spread, inline, sels_append}
 use Rattle.gql_ast.specs.Ty.{Ty}
 use Rattle.gql_ast.specs.TypeView.{ty_of}
 use Rattle.gql_ast.specs.Value.{Val, members_of}
@@ -38,13 +38,13 @@ use Rattle.gql_syntax.specs.Words.{on_word, kind_word}
 
 -- ---- trees one behind the other
 
-followed-end : (s : Sels) → followed s end ≡ s
+followed-end : (s : Sels) → sels_append s end ≡ s
 followed-end end = refl
 followed-end (field a n xs ds s rest) = ap (λ r. field a n xs ds s r) (followed-end rest)
 followed-end (spread n ds rest) = ap (λ r. spread n ds r) (followed-end rest)
 followed-end (inline o ds s rest) = ap (λ r. inline o ds s r) (followed-end rest)
 
-followed_assoc : (s t u : Sels) → followed (followed s t) u ≡ followed s (followed t u)
+followed_assoc : (s t u : Sels) → sels_append (sels_append s t) u ≡ sels_append s (sels_append t u)
 followed_assoc end t u = refl
 followed_assoc (field a n xs ds s rest) t u = ap (λ r. field a n xs ds s r) (followed_assoc rest t u)
 followed_assoc (spread n ds rest) t u = ap (λ r. spread n ds r) (followed_assoc rest t u)
@@ -250,7 +250,7 @@ module _ (limit : ℕ) where
       let o = reads_set f.inside.room s (within_field f xs ds) ts ls read (omega (arith, e)) some g (subst (λ l. Shallow limit l) (braced_some level_mark s level (spell_selections level_mark s level) ls some) h) in (
         ap (λ r. to (in_directives (further false ds (on_field f xs))) r) (braced_some token_mark s level (spell_selections token_mark s level) ts some)
             ∙ o.reached
-            ∙ ap (λ r. to (set (record { room = r; before = followed f.inside.before (field f.alias f.name xs ds s end); up = f.inside.up })) ts) (sym o.more),
+            ∙ ap (λ r. to (set (record { room = r; before = sels_append f.inside.before (field f.alias f.name xs ds s end); up = f.inside.up })) ts) (sym o.more),
         o.shallow,
       )
 
@@ -266,7 +266,7 @@ module _ (limit : ℕ) where
   -- what comes behind one selection
   reads_rest : (i : Inside) (one rest : Sels) (ts : List Tok) (ls : List ℕ) → Reads rest → i.room + level_of i.up ≡ limit → ShapedSelections rest
       → Shallow limit (spell_selections level_mark rest (level_of i.up) ls) → Follows 0 ts
-      → (to (set (then_selection i one)) (spell_selections token_mark rest (level_of i.up) ts) ≡ to (set (then_selection i (followed one rest))) ts) × Shallow limit ls
+      → (to (set (then_selection i one)) (spell_selections token_mark rest (level_of i.up) ts) ≡ to (set (then_selection i (sels_append one rest))) ts) × Shallow limit ls
   reads_rest i one rest ts ls read e f h n =
       let behind = read (then_selection i one) ts ls e f h n in
       (behind.0 ∙ ap (λ b. to (set (record { room = i.room; before = b; up = i.up })) ts) (followed_assoc i.before one rest), behind.1)
@@ -322,7 +322,7 @@ module _ (limit : ℕ) where
       let opened = reads_set i.room s (of_inline i.before o ds i.up) ts ls read (omega (arith, e)) some g (subst (λ l. Shallow limit l) (braced_some level_mark s level (spell_selections level_mark s level) ls some) h) in (
         ap (λ r. to (in_directives (further false ds (on_inline i o))) r) (braced_some token_mark s level (spell_selections token_mark s level) ts some)
             ∙ opened.reached
-            ∙ ap (λ r. to (set (record { room = r; before = followed i.before (inline o ds s end); up = i.up })) ts) (sym opened.more),
+            ∙ ap (λ r. to (set (record { room = r; before = sels_append i.before (inline o ds s end); up = i.up })) ts) (sym opened.more),
         opened.shallow,
       )
 

@@ -3,7 +3,7 @@ use Rattle.std.proofs.Common.{◌≡◌, ℕ, suc, ◌+◌, Bool, true, false, c
 use Rattle.gql_lex.specs.Sources.{Piece, Source, ended, faulty, token}
 use Rattle.gql_lex.specs.Toks as tok
 use Rattle.gql_lex.specs.Toks.{Tok, tok_of_piece}
-use Rattle.gql_ast.specs.Sels.{Sels, end, field, spread, inline, followed}
+use Rattle.gql_ast.specs.Sels.{Sels, end, field, spread, inline, sels_append}
 use Rattle.gql_ast.specs.SelectionView.{sel_of}
 use Rattle.gql_ast.specs.declared.selection.Selection.{Selection}
 use Rattle.gql_ast.specs.declared.selection.Selection.TheVariants as S
@@ -11,7 +11,7 @@ use Rattle.gql_ast.specs.Ty.{Ty}
 use Rattle.gql_ast.specs.Value.{Val}
 use Rattle.gql_ast.specs.declared.directive.Directive.{Directive}
 use Rattle.gql_parse.specs.Documents.{SomeSelection}
-use Rattle.gql_parse.specs.Going.{Outcome, Goes, run_on, opening, closed}
+use Rattle.gql_parse.specs.Going.{Outcome, Goes, run_on, opening, after_set}
 use Rattle.gql_parse.specs.Machine.{VariableName, Typed, Up, of_bare, of_operation, of_fragment, of_field, of_inline, Inside, OpenField, Owner, on_field, on_spread, on_inline, State, in_type, typed, in_value, set, named, field_named, dotted, on, in_arguments, in_directives, advance, finish, then_selection, open_set, close_set, field_of, within_field, after_directives, dotted_name, with_arguments, with_default, typed_variable, after_type}
 use Rattle.gql_syntax.specs.Answers.{Tells, Misses, call_read}
 use Rattle.gql_syntax.specs.Machine.{Directing, first, further, want, outer, Typing, want_type, whole, Holder}
@@ -226,14 +226,14 @@ module _ (size : ℕ) where
       same (faulty code at) t a c = absurd c
       same (token p rest) t a c = sym c ∙ a
 
-  close_set-closed : (room : ℕ) (s : Sels) (up : Up) → close_set room s up ≡ closed (room + 1) s up
+  close_set-closed : (room : ℕ) (s : Sels) (up : Up) → close_set room s up ≡ after_set (room + 1) s up
   close_set-closed room s (of_bare ws) = refl
   close_set-closed room s (of_operation o vs ds) = refl
   close_set-closed room s (of_fragment f ds) = refl
   close_set-closed room s (of_field b a n xs ds up) =
-      let e : suc room ≡ room + 1 = omega arith in ap (λ r. set (record { room = r; before = followed b (field a n xs ds s end); up = up })) e
+      let e : suc room ≡ room + 1 = omega arith in ap (λ r. set (record { room = r; before = sels_append b (field a n xs ds s end); up = up })) e
   close_set-closed room s (of_inline b o ds up) =
-      let e : suc room ≡ room + 1 = omega arith in ap (λ r. set (record { room = r; before = followed b (inline o ds s end); up = up })) e
+      let e : suc room ≡ room + 1 = omega arith in ap (λ r. set (record { room = r; before = sels_append b (inline o ds s end); up = up })) e
 
   may_close : (room : ℕ) (s : Sels) (up : Up) → SomeSelection s → advance nesting_limit (set (record { room = room; before = s; up = up })) tok.close_brace ≡ Ok (close_set room s up)
   may_close room end up h = absurd h
@@ -242,7 +242,7 @@ module _ (size : ℕ) where
   may_close room (inline o ds s rest) up h = refl
 
   pub closes : (room : ℕ) (s : Sels) (up : Up) (src : Source) → SomeSelection s → next_is 125 src ≡ true
-      → run_on size (set (record { room = room; before = s; up = up })) src ≡ run_on size (closed (room + 1) s up) (behind src)
+      → run_on size (set (record { room = room; before = s; up = up })) src ≡ run_on size (after_set (room + 1) s up) (behind src)
   closes room s up src h a =
       takes _ (close_set room s up) tok.close_brace src (at_comes 125 tok.close_brace src close_brace_at a) (may_close room s up h)
       ∙ ap (λ x. run_on size x (behind src)) (close_set-closed room s up)
@@ -318,8 +318,8 @@ module _ (size : ℕ) where
 
 -- ---- what readers answer, where the size is told of a later text that is the same
 
-pub resized : (m n : ℕ) (x y : State) (src rest : Source) → m ≡ n → run_on m x src ≡ run_on m y rest → run_on n x src ≡ run_on n y rest
-resized m n x y src rest e h = subst (λ k. run_on k x src ≡ run_on k y rest) e h
+pub same_course : (m n : ℕ) (x y : State) (src rest : Source) → m ≡ n → run_on m x src ≡ run_on m y rest → run_on n x src ≡ run_on n y rest
+same_course m n x y src rest e h = subst (λ k. run_on k x src ≡ run_on k y rest) e h
 
 pub resized_tells : (m n : ℕ) (f : Fault) (x : State) (src : Source) → m ≡ n → Tells f (run_on m x src) → Tells f (run_on n x src)
 resized_tells m n f x src e h = subst (λ k. Tells f (run_on k x src)) e h
@@ -392,7 +392,7 @@ module _ (size : ℕ) where
       by t e = refl
 
 -- a selection stands there
-pub some_selection : (b : Sels) (x : Selection) → SomeSelection (followed b (sel_of x))
+pub some_selection : (b : Sels) (x : Selection) → SomeSelection (sels_append b (sel_of x))
 some_selection end (S.Field a n xs ds s) = tt
 some_selection end (S.Spread n ds) = tt
 some_selection end (S.Inline o ds s) = tt

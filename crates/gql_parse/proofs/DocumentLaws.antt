@@ -6,7 +6,7 @@ use Rattle.gql_parse.specs.Machine.{State, advance}
 use Rattle.gql_parse.proofs.Complete.{complete}
 use Rattle.gql_parse.proofs.Ends.{ends_own}
 use Rattle.gql_parse.proofs.Lifts.{advance-lifts, advance-opens, lift-so_far, lift-level, lift-seated, lift-finish}
-use Rattle.gql_parse.proofs.Mapped.{written}
+use Rattle.gql_parse.proofs.Mapped.{finish_writes}
 use Rattle.gql_parse.proofs.Shapes.{document_shape}
 use Rattle.gql_parse.proofs.Standing.{document_machine, Seated, lift}
 use Rattle.gql_parse.proofs.Steps.{Steps, Takes, advance-steps}
@@ -24,7 +24,7 @@ document_laws = record {
   shallow = λ limit s t next h e. (takes limit s t next h e).shallow;
   seated = λ limit s t next h e. (takes limit s t next h e).seated;
   deep = λ limit s t h e. subst (λ r. Steps limit (document_machine.so_far s) t (document_machine.level_at s t) r) e (advance-steps limit s t h);
-  written = written;
+  written = finish_writes;
   lift_start = λ k limit. refl;
   lift_step = λ k limit s t next e. from_lifts (lift k) next (advance-lifts k limit s t) e;
   lift_unexpected = λ k limit s t e. from_lifts_unexpected (lift k) (advance-lifts k limit s t) e;

@@ -2,7 +2,7 @@
 use Rattle.std.proofs.Common.{◌≡◌, ℕ, suc, ◌+◌, Bool, true, false, List, [], ◌∷◌, ◌++◌, Some, None, Ok, refl, ap, ◌∙◌, arith}
 use Rattle.gql_lex.specs.Toks as tok
 use Rattle.gql_lex.specs.Toks.{Tok}
-use Rattle.gql_ast.specs.Sels.{Sels, end, field, spread, inline, followed}
+use Rattle.gql_ast.specs.Sels.{Sels, end, field, spread, inline, sels_append}
 use Rattle.gql_ast.specs.Ty.{Ty}
 use Rattle.gql_ast.specs.Ty as ty
 use Rattle.gql_ast.specs.Value.{Val}
@@ -63,7 +63,7 @@ module _ (limit : ℕ) where
     finishes = record { last = between (ws ++ w ∷ []); reached = refl; finished = written_behind ws w };
   }
 
-  some-followed : (s t : Sels) → SomeSelection t → SomeSelection (followed s t)
+  some-followed : (s t : Sels) → SomeSelection t → SomeSelection (sels_append s t)
   some-followed end t h = h
   some-followed (field a n xs ds s rest) t h = tt
   some-followed (spread n ds rest) t h = tt
@@ -80,27 +80,27 @@ module _ (limit : ℕ) where
   ends_closed room s (of_operation o vs ds) = ends_between o.before (full (D.Operation (operation_of o vs ds s)))
   ends_closed room s (of_fragment f ds) = ends_between f.before (full (D.Fragment (fragment_of f ds s)))
   ends_closed room s (of_field b a n xs ds up) =
-      let set_then = followed b (field a n xs ds s end) in
+      let set_then = sels_append b (field a n xs ds s end) in
       by_token _ tok.close_brace tt (close_set (suc room) set_then up) (may_close-some (suc room) set_then up (some-followed b (field a n xs ds s end) tt)) (ends_closed (suc room) set_then up)
   ends_closed room s (of_inline b o ds up) =
-      let set_then = followed b (inline o ds s end) in
+      let set_then = sels_append b (inline o ds s end) in
       by_token _ tok.close_brace tt (close_set (suc room) set_then up) (may_close-some (suc room) set_then up (some-followed b (inline o ds s end) tt)) (ends_closed (suc room) set_then up)
 
   -- behind a selection
-  closing : (i : Inside) (s : Sels) → SomeSelection s → may_close i.room (followed i.before s) i.up ≡ Ok (close_set i.room (followed i.before s) i.up)
-  closing i s h = may_close-some i.room (followed i.before s) i.up (some-followed i.before s h)
+  closing : (i : Inside) (s : Sels) → SomeSelection s → may_close i.room (sels_append i.before s) i.up ≡ Ok (close_set i.room (sels_append i.before s) i.up)
+  closing i s h = may_close-some i.room (sels_append i.before s) i.up (some-followed i.before s h)
 
   ends_named : (i : Inside) (n : List ℕ) → Ends (named i n)
-  ends_named i n = by_token _ tok.close_brace tt _ (closing i (field None n [] [] end end) tt) (ends_closed i.room (followed i.before (field None n [] [] end end)) i.up)
+  ends_named i n = by_token _ tok.close_brace tt _ (closing i (field None n [] [] end end) tt) (ends_closed i.room (sels_append i.before (field None n [] [] end end)) i.up)
 
   ends_field : (f : OpenField) → Ends (field_named f)
-  ends_field f = by_token _ tok.close_brace tt _ (closing f.inside (field_of f [] []) tt) (ends_closed f.inside.room (followed f.inside.before (field_of f [] [])) f.inside.up)
+  ends_field f = by_token _ tok.close_brace tt _ (closing f.inside (field_of f [] []) tt) (ends_closed f.inside.room (sels_append f.inside.before (field_of f [] [])) f.inside.up)
 
   ends_set : (i : Inside) → Ends (set i)
   ends_set i = by_token _ (tok.name one_name) refl (named i one_name) refl (ends_named i one_name)
 
   ends_on_field : (f : OpenField) (xs : List (List ℕ × Val)) (ds : List Directive) → Ends (in_directives (further false ds (on_field f xs)))
-  ends_on_field f xs ds = by_token _ tok.close_brace tt _ (closing f.inside (field_of f xs ds) tt) (ends_closed f.inside.room (followed f.inside.before (field_of f xs ds)) f.inside.up)
+  ends_on_field f xs ds = by_token _ tok.close_brace tt _ (closing f.inside (field_of f xs ds) tt) (ends_closed f.inside.room (sels_append f.inside.before (field_of f xs ds)) f.inside.up)
 
 -- ---- what has to open a set
 
@@ -156,17 +156,17 @@ module _ (limit : ℕ) where
     token = tok.close_brace;
     form = tt;
     passed = tt;
-    next = λ ds. close_set (1 + f.inside.room) (followed f.inside.before (field_of f xs ds)) f.inside.up;
+    next = λ ds. close_set (1 + f.inside.room) (sels_append f.inside.before (field_of f xs ds)) f.inside.up;
     stepped = λ ds. closing (1 + limit) (lift_inside 1 f.inside) (field_of f xs ds) tt;
-    ends = λ ds. ends_closed (1 + limit) (1 + f.inside.room) (followed f.inside.before (field_of f xs ds)) f.inside.up;
+    ends = λ ds. ends_closed (1 + limit) (1 + f.inside.room) (sels_append f.inside.before (field_of f xs ds)) f.inside.up;
   }
   passes_on (on_spread i n) = record {
     token = tok.close_brace;
     form = tt;
     passed = tt;
-    next = λ ds. close_set (1 + i.room) (followed i.before (spread n ds end)) i.up;
+    next = λ ds. close_set (1 + i.room) (sels_append i.before (spread n ds end)) i.up;
     stepped = λ ds. closing (1 + limit) (lift_inside 1 i) (spread n ds end) tt;
-    ends = λ ds. ends_closed (1 + limit) (1 + i.room) (followed i.before (spread n ds end)) i.up;
+    ends = λ ds. ends_closed (1 + limit) (1 + i.room) (sels_append i.before (spread n ds end)) i.up;
   }
   passes_on (on_inline i o) = record {
     token = tok.open_brace;

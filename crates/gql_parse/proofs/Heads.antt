@@ -15,7 +15,7 @@ use Rattle.gql_ast.specs.declared.value.ValueTree.{ValueTree}
 use Rattle.gql_ast.specs.declared.variable.VariableDef.{VariableDef}
 use Rattle.gql_parse.specs.Documents.{Written, fragment_word, spell_variables, spell_variables_part}
 use Rattle.gql_parse.specs.Going.{run_on, opening}
-use Rattle.gql_parse.specs.Machine.{Opening, Titled, VariableName, Typed, of_bare, of_operation, of_fragment, on_variable, on_operation, on_fragment, between, kinded, called, variables, dollar, variable_named, in_type, typed, in_value, fragment_begun, fragment_named, fragment_on, in_directives, advance, variables_with, with_default, other, word_of, begun, fragment_name, fragment_condition}
+use Rattle.gql_parse.specs.Machine.{Opening, Titled, VariableName, Typed, of_bare, of_operation, of_fragment, on_variable, on_operation, on_fragment, between, kinded, called, variables, dollar, variable_named, in_type, typed, in_value, fragment_begun, fragment_named, fragment_on, in_directives, advance, variables_with, with_default, other, word_of, begin_definition, fragment_name, fragment_condition}
 use Rattle.gql_syntax.specs.Answers.{Tells, default_read, as_default}
 use Rattle.gql_syntax.specs.Machine.{further, want, outer, want_type, whole}
 use Rattle.gql_syntax.specs.Nexts.{behind, is_at, next_is, next_word, Comes, stopped_at}
@@ -164,9 +164,9 @@ module _ (size : ℕ) where
   bare_opens ws src e = opens_there size (between ws) nesting_limit (of_bare ws) src refl e
 
   pub kind_begins : (ws : List Written) (n : List ℕ) (k : Kind) (src : Source) → next_word src ≡ Some n → n ≡ kind_word k → run_on size (between ws) src ≡ run_on size (kinded ws k) (behind src)
-  kind_begins ws n k src w e = takes_name size (between ws) (kinded ws k) n src w (ap (λ m. begun ws (word_of m)) e ∙ known k)
+  kind_begins ws n k src w e = takes_name size (between ws) (kinded ws k) n src w (ap (λ m. begin_definition ws (word_of m)) e ∙ known k)
     where
-      known : (k : Kind) → begun ws (word_of (kind_word k)) ≡ Ok (kinded ws k)
+      known : (k : Kind) → begin_definition ws (word_of (kind_word k)) ≡ Ok (kinded ws k)
       known Query = refl
       known Mutation = refl
       known Subscription = refl
@@ -200,7 +200,7 @@ module _ (size : ℕ) where
   definition_unknown ws n src e w f h = unread ws src e (λ t c. on t (comes_word (Some n) src t w c))
     where
       on : (t : Tok) → next.word_of t ≡ Some n → advance nesting_limit (between ws) t ≡ Err unexpected
-      on (tok.name m) w = let same : m ≡ n = cc in ap (λ x. begun ws (word_of x)) same ∙ ap (λ x. begun ws x) (no_definition n f h)
+      on (tok.name m) w = let same : m ≡ n = cc in ap (λ x. begin_definition ws (word_of x)) same ∙ ap (λ x. begin_definition ws x) (no_definition n f h)
       on t w = cc
 
   pub kinded_ends : (ws : List Written) (k : Kind) (src : Source) → next_word src ≡ None → run_on size (kinded ws k) src ≡ run_on size (called (record { before = ws; kind = k; name = None })) src

@@ -2,12 +2,12 @@
 use Rattle.std.proofs.Common.{◌≡◌, ℕ, zero, suc, ◌+◌, Bool, true, false, bytes_eq, List, [], ◌∷◌, None, Result, Ok, refl, sym, ap, arith}
 use Rattle.gql_lex.specs.Toks as tok
 use Rattle.gql_lex.specs.Toks.{Tok}
-use Rattle.gql_ast.specs.Sels.{Sels, end, field, spread, inline, followed}
+use Rattle.gql_ast.specs.Sels.{Sels, end, field, spread, inline, sels_append}
 use Rattle.gql_ast.specs.declared.directive.Directive.{Directive}
 use Rattle.gql_ast.specs.declared.document.Kind.{Kind}
 use Rattle.gql_ast.specs.declared.variable.VariableDef.{VariableDef}
 use Rattle.gql_parse.specs.Documents.{Written}
-use Rattle.gql_parse.specs.Machine.{Opening, Typed, Up, of_bare, of_operation, of_fragment, of_field, of_inline, Inside, OpenField, Owner, on_variable, on_operation, on_fragment, on_field, on_spread, on_inline, State, between, kinded, called, variables, dollar, variable_named, in_type, typed, in_value, fragment_begun, fragment_named, fragment_on, set, named, aliased, field_named, dotted, on, in_arguments, in_directives, advance, finish, then_selection, open_set, close_set, may_close, at_set, at_variables, variables_with, field_of, within_field, after_directives, at_directives, at_called, at_kinded, Word, kind, fragment, other, word_of, begun, at_definition, at_typed, at_field, at_named, dotted_name, at_dotted, fragment_name, fragment_condition, with_default, with_arguments, typed_variable, after_type}
+use Rattle.gql_parse.specs.Machine.{Opening, Typed, Up, of_bare, of_operation, of_fragment, of_field, of_inline, Inside, OpenField, Owner, on_variable, on_operation, on_fragment, on_field, on_spread, on_inline, State, between, kinded, called, variables, dollar, variable_named, in_type, typed, in_value, fragment_begun, fragment_named, fragment_on, set, named, aliased, field_named, dotted, on, in_arguments, in_directives, advance, finish, then_selection, open_set, close_set, may_close, at_set, at_variables, variables_with, field_of, within_field, after_directives, at_directives, at_called, at_kinded, Word, kind, fragment, other, word_of, begin_definition, at_definition, at_typed, at_field, at_named, dotted_name, at_dotted, fragment_name, fragment_condition, with_default, with_arguments, typed_variable, after_type}
 use Rattle.gql_parse.proofs.Standing.{so_far, level_at, owner_level, SeatedInside, Seated, SeatedOwner, lift_inside, lift_field, lift_owner, lift, variable_ground, typed_ground, field_ground, owner_ground}
 use Rattle.gql_syntax.proofs.ArgumentLaws.{arguments_lifts, arguments_opens, lift_arguments_so_far, lift_arguments_level, lift_arguments_seated}
 use Rattle.gql_syntax.proofs.DirectiveLaws.{directives_lifts, directives_opens, lift_directives_so_far, lift_directives_level, lift_directives_seated}
@@ -35,8 +35,8 @@ close_set-lift : (k room : ℕ) (s : Sels) (up : Up) → close_set (k + room) s 
 close_set-lift k room s (of_bare ws) = refl
 close_set-lift k room s (of_operation o vs ds) = refl
 close_set-lift k room s (of_fragment f ds) = refl
-close_set-lift k room s (of_field b a n xs ds up) = ap (λ r. set (record { room = r; before = followed b (field a n xs ds s end); up = up })) (sym (one_more k room))
-close_set-lift k room s (of_inline b o ds up) = ap (λ r. set (record { room = r; before = followed b (inline o ds s end); up = up })) (sym (one_more k room))
+close_set-lift k room s (of_field b a n xs ds up) = ap (λ r. set (record { room = r; before = sels_append b (field a n xs ds s end); up = up })) (sym (one_more k room))
+close_set-lift k room s (of_inline b o ds up) = ap (λ r. set (record { room = r; before = sels_append b (inline o ds s end); up = up })) (sym (one_more k room))
 
 may_close-lifts : (k room : ℕ) (s : Sels) (up : Up) → Lifts (lift k) (may_close room s up) (may_close (k + room) s up)
 may_close-lifts k room end up = refl
@@ -124,12 +124,12 @@ at_kinded-opens : (limit : ℕ) (ws : List Written) (n : Kind) (t : Tok) → Ope
 at_kinded-opens limit ws n (tok.name m) = tt
 at_kinded-opens limit ws n t = at_called-opens limit (record { before = ws; kind = n; name = None }) t
 
-begun-lifts : (k : ℕ) (ws : List Written) (w : Word) → Lifts (lift k) (begun ws w) (begun ws w)
+begun-lifts : (k : ℕ) (ws : List Written) (w : Word) → Lifts (lift k) (begin_definition ws w) (begin_definition ws w)
 begun-lifts k ws (kind n) = refl
 begun-lifts k ws fragment = refl
 begun-lifts k ws other = refl
 
-begun-opens : (ws : List Written) (w : Word) (x : Result State Halt) → Opens (begun ws w) x
+begun-opens : (ws : List Written) (w : Word) (x : Result State Halt) → Opens (begin_definition ws w) x
 begun-opens ws (kind n) x = tt
 begun-opens ws fragment x = tt
 begun-opens ws other x = tt

@@ -1,6 +1,6 @@
 -- A document has as many places as nodes.
 use Rattle.std.proofs.Common.{◌≡◌, ℕ, ◌+◌, List, [], ◌∷◌, length, map, Option, Some, None, refl, sym, ap, ◌∙◌, arith}
-use Rattle.gql_lex.specs.Sources.{lexed}
+use Rattle.gql_lex.specs.Sources.{lex_from}
 use Rattle.gql_lex.specs.Toks.{Tok}
 use Rattle.gql_ast.specs.Sels.{Sels, end, field, spread, inline}
 use Rattle.gql_ast.specs.TypeView.{ty_of}
@@ -14,7 +14,7 @@ use Rattle.gql_parse.specs.Trees.{IsDocument}
 use Rattle.gql_parse.proofs.Mapped.{map-definition}
 use Rattle.gql_syntax.specs.Nodes.{name_nodes}
 use Rattle.gql_syntax.specs.Spelling.{Mark, spell_arguments, spell_directives, spell_default}
-use Rattle.gql_syntax.proofs.Marks.{mapped}
+use Rattle.gql_syntax.proofs.Marks.{map_mark}
 use Rattle.gql_syntax.proofs.NodeCounts.{total, node_mark, arguments_total, directives_total, type_total, default_total, placed_count, same_count}
 
 name_total : (a : Option (List ℕ)) (n : List ℕ) (ts : List ℕ) → total (spell_name node_mark a n ts) ≡ 2 + name_nodes a + total ts
@@ -112,10 +112,10 @@ document_total (w ∷ ws) h =
 abbrev both : Mark (Tok × ℕ)
 both t level nodes = (t, nodes)
 
-map-spelled : {Y : Type 0} (f : Tok × ℕ → Y) (first : ℕ) (ws : List Written) → map f (spell_definitions both first ws) ≡ spell_definitions (mapped f both) first ws
+map-spelled : {Y : Type 0} (f : Tok × ℕ → Y) (first : ℕ) (ws : List Written) → map f (spell_definitions both first ws) ≡ spell_definitions (map_mark f both) first ws
 map-spelled f first [] = refl
 map-spelled f first (w ∷ ws) =
-    map-definition f both first w (spell_definitions both 0 ws) ∙ ap (λ r. spell_definition (mapped f both) first w r) (map-spelled f 0 ws)
+    map-definition f both first w (spell_definitions both 0 ws) ∙ ap (λ r. spell_definition (map_mark f both) first w r) (map-spelled f 0 ws)
 
 pub place_count : (file : ℕ) (text : List ℕ) (p : Placed Document) → IsDocument file text p → length p.places ≡ document_nodes p.tree
 place_count file text p d =
@@ -123,7 +123,7 @@ place_count file text p d =
     let counts : length (nodes_of ws) ≡ length (documents.tokens ws) =
     same_count (λ (x : Tok × ℕ). x.0) (λ (x : Tok × ℕ). x.1) (spell_definitions both 1 ws) (documents.tokens ws) (nodes_of ws)
     (map-spelled (λ (x : Tok × ℕ). x.0) 1 ws) (map-spelled (λ (x : Tok × ℕ). x.1) 1 ws) in
-    let e = placed_count file text (nodes_of ws) (lexed 0 text) [] (documents.tokens ws) d.tree.tokens counts in
+    let e = placed_count file text (nodes_of ws) (lex_from 0 text) [] (documents.tokens ws) d.tree.tokens counts in
     ap (λ ps. length ps) d.tree.places ∙ e ∙ none (total (nodes_of ws)) ∙ document_total ws d.tree.formed.0 ∙ ap (λ ds. 1 + definitions_nodes ds) (sym d.definitions)
   where
     none : (n : ℕ) → 0 + n ≡ n

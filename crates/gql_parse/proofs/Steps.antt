@@ -5,7 +5,7 @@ use Rattle.std.proofs.lemmas.Slice.Eq.{bytes_eq-Decides}
 use Rattle.std.specs.List.{AllByRecursion}
 use Rattle.gql_lex.specs.Toks as tok
 use Rattle.gql_lex.specs.Toks.{Tok}
-use Rattle.gql_ast.specs.Sels.{Sels, end, field, spread, inline, followed}
+use Rattle.gql_ast.specs.Sels.{Sels, end, field, spread, inline, sels_append}
 use Rattle.gql_ast.specs.declared.directive.Directive.{Directive}
 use Rattle.gql_ast.specs.declared.document.Definition.TheVariants as D
 use Rattle.gql_ast.specs.declared.document.Kind.{Kind}
@@ -15,13 +15,13 @@ use Rattle.gql_ast.specs.declared.variable.VariableDef.{VariableDef}
 use Rattle.gql_syntax.proofs.BuiltTrees.{value_of-value_tree, ty_of-type_tree}
 use Rattle.gql_parse.specs.Documents.{Written, bare, full, spell_braces, spell_selections, spell_operation, spell_fragment, spell_variables, SomeSelection, fragment_word}
 use Rattle.gql_parse.proofs.Shapes.{ShapedSelections, ShapedVariable, ShapedWritten}
-use Rattle.gql_parse.specs.Machine.{Opening, VariableName, Typed, Up, of_bare, of_operation, of_fragment, of_field, of_inline, Inside, OpenField, Owner, on_variable, on_operation, on_fragment, on_field, on_spread, on_inline, State, between, kinded, called, variables, dollar, variable_named, in_type, typed, in_value, fragment_begun, fragment_named, fragment_on, set, named, aliased, field_named, dotted, on, in_arguments, in_directives, advance, then_selection, open_set, operation_of, fragment_of, close_set, may_close, at_set, at_variables, variable_of, variables_with, field_of, within_field, after_directives, at_directives, at_called, at_kinded, Word, kind, fragment, other, word_of, begun, at_definition, typed_variable, at_typed, after_type, with_default, at_field, at_named, with_arguments, dotted_name, at_dotted, fragment_name, fragment_condition}
+use Rattle.gql_parse.specs.Machine.{Opening, VariableName, Typed, Up, of_bare, of_operation, of_fragment, of_field, of_inline, Inside, OpenField, Owner, on_variable, on_operation, on_fragment, on_field, on_spread, on_inline, State, between, kinded, called, variables, dollar, variable_named, in_type, typed, in_value, fragment_begun, fragment_named, fragment_on, set, named, aliased, field_named, dotted, on, in_arguments, in_directives, advance, then_selection, open_set, operation_of, fragment_of, close_set, may_close, at_set, at_variables, variable_of, variables_with, field_of, within_field, after_directives, at_directives, at_called, at_kinded, Word, kind, fragment, other, word_of, begin_definition, at_definition, typed_variable, at_typed, after_type, with_default, at_field, at_named, with_arguments, dotted_name, at_dotted, fragment_name, fragment_condition}
 use Rattle.gql_parse.proofs.Fronts.{flat, definitions_front, definitions_front-push, spell_selections-followed, spell_variables-push, level_of, up_front, set_front, opening_front, variables_front, typed_front, field_front, owner_front}
 use Rattle.gql_parse.proofs.Standing.{so_far, brace_level, field_level, owner_level, level_at, ShapedDefinitions, ShapedUp, SeatedInside, ShapedVariables, ShapedTyped, ShapedFragmentName, SeatedOwner, owner_constant, Seated, variable_ground, typed_ground, field_ground, owner_ground}
 use Rattle.gql_syntax.proofs.Laws.{Leveled}
 use Rattle.gql_syntax.proofs.ArgumentLaws.{arguments_sounds, arguments_shallows, arguments_seats, arguments_deeps}
 use Rattle.gql_syntax.proofs.DirectiveLaws.{directives_sounds, directives_shallows, directives_seats, directives_deeps}
-use Rattle.gql_syntax.proofs.Standing.{leveled, IfTooDeep}
+use Rattle.gql_syntax.proofs.Standing.{mark_level, IfTooDeep}
 use Rattle.gql_syntax.proofs.TypeLaws.{type_sounds, type_shallows, type_seats, type_deeps}
 use Rattle.gql_syntax.proofs.ValueLaws.{value_sounds, value_shallows, value_seats, value_deeps}
 use Rattle.gql_syntax.proofs.Shapes.{ShapedDirectives, ShapedDefault, ShapedType, ShapedValue}
@@ -36,7 +36,7 @@ pub all-push : {A : Type 0} (P : A → Type 0) (xs : List A) (x : A) → AllByRe
 all-push P [] x h p = (p, tt)
 all-push P (y ∷ ys) x h p = (h.0, all-push P ys x h.1 p)
 
-pub shaped-followed : (s t : Sels) → ShapedSelections s → ShapedSelections t → ShapedSelections (followed s t)
+pub shaped-followed : (s t : Sels) → ShapedSelections s → ShapedSelections t → ShapedSelections (sels_append s t)
 shaped-followed end t h k = k
 shaped-followed (field a n xs ds s rest) t h k = (h.0, h.1, h.2, shaped-followed rest t h.3 k)
 shaped-followed (spread n ds rest) t h k = (h.0, h.1, shaped-followed rest t h.2 k)
@@ -62,10 +62,10 @@ Steps limit front t level (Err unexpected) = Unit {0}
 Steps limit front t level (Err too_deep) = limit < level
 
 -- the same behind what is read alike
-pub moved : (limit : ℕ) (front to : List Leveled → List Leveled) (t : Tok) (level : ℕ) (r : Result State Halt) → ((ts : List Leveled) → front ts ≡ to ts) → Steps limit front t level r → Steps limit to t level r
-moved limit front to t level (Ok s) e h = record { sound = λ ts. h.sound ts ∙ e ((t, level) ∷ ts); shallow = h.shallow; seated = h.seated }
-moved limit front to t level (Err unexpected) e h = tt
-moved limit front to t level (Err too_deep) e h = h
+pub step_moves : (limit : ℕ) (front to : List Leveled → List Leveled) (t : Tok) (level : ℕ) (r : Result State Halt) → ((ts : List Leveled) → front ts ≡ to ts) → Steps limit front t level r → Steps limit to t level r
+step_moves limit front to t level (Ok s) e h = record { sound = λ ts. h.sound ts ∙ e ((t, level) ∷ ts); shallow = h.shallow; seated = h.seated }
+step_moves limit front to t level (Err unexpected) e h = tt
+step_moves limit front to t level (Err too_deep) e h = h
 
 -- a step that opens nothing
 pub flat_step : (limit : ℕ) (front : List Leveled → List Leveled) (t : Tok) (next : State) → ((ts : List Leveled) → so_far next ts ≡ front ((t, 0) ∷ ts)) → Seated limit next → Takes limit front t 0 next
@@ -80,35 +80,35 @@ open_set-steps limit (suc room) up e f = record {
 }
 
 close_set-takes : (limit room : ℕ) (s : Sels) (up : Up) → SomeSelection s → room + level_of up ≡ limit → ShapedSelections s → ShapedUp up
-    → Takes limit (λ ts. up_front up ((tok.open_brace, level_of up) ∷ spell_selections leveled s (level_of up) ts)) tok.close_brace 0 (close_set room s up)
+    → Takes limit (λ ts. up_front up ((tok.open_brace, level_of up) ∷ spell_selections mark_level s (level_of up) ts)) tok.close_brace 0 (close_set room s up)
 close_set-takes limit room s (of_bare ws) some e h f = flat_step _ _ _ _ (λ ts. definitions_front-push ws (bare s) ts) (all-push ShapedWritten ws (bare s) f (some, h))
 close_set-takes limit room s (of_operation o vs ds) some e h f =
     flat_step _ _ _ _
     (λ ts. definitions_front-push o.before (full (D.Operation (operation_of o vs ds s))) ts
-    ∙ ap (λ r. definitions_front o.before (spell_operation leveled 0 (operation_of o vs ds end) r)) (braced_some leveled s 1 (spell_selections leveled s 1) ts some))
+    ∙ ap (λ r. definitions_front o.before (spell_operation mark_level 0 (operation_of o vs ds end) r)) (braced_some mark_level s 1 (spell_selections mark_level s 1) ts some))
     (all-push ShapedWritten o.before (full (D.Operation (operation_of o vs ds s))) f.0 (f.1, f.2, (some, h)))
 close_set-takes limit room s (of_fragment t ds) some e h f =
     flat_step _ _ _ _
     (λ ts. definitions_front-push t.before (full (D.Fragment (fragment_of t ds s))) ts
-    ∙ ap (λ r. definitions_front t.before (spell_fragment leveled 0 (fragment_of t ds end) r)) (braced_some leveled s 1 (spell_selections leveled s 1) ts some))
+    ∙ ap (λ r. definitions_front t.before (spell_fragment mark_level 0 (fragment_of t ds end) r)) (braced_some mark_level s 1 (spell_selections mark_level s 1) ts some))
     (all-push ShapedWritten t.before (full (D.Fragment (fragment_of t ds s))) f.0 (f.1, f.2, (some, h)))
 close_set-takes limit room s (of_field b a n xs ds up) some e h f =
     flat_step _ _ _ _
     (λ ts. ap (λ r. up_front up ((tok.open_brace, level_of up) ∷ r))
-    (spell_selections-followed leveled b (field a n xs ds s end) (level_of up) ts
-    ∙ ap (λ r. spell_selections leveled b (level_of up) (spell_selections leveled (field a n xs ds end end) (level_of up) r))
-    (braced_some leveled s (level_of up + 1) (spell_selections leveled s (level_of up + 1)) ts some)))
+    (spell_selections-followed mark_level b (field a n xs ds s end) (level_of up) ts
+    ∙ ap (λ r. spell_selections mark_level b (level_of up) (spell_selections mark_level (field a n xs ds end end) (level_of up) r))
+    (braced_some mark_level s (level_of up + 1) (spell_selections mark_level s (level_of up + 1)) ts some)))
     (record { room = omega (arith, e); formed = shaped-followed b (field a n xs ds s end) f.0 (f.1, f.2, h, tt); up = f.3 })
 close_set-takes limit room s (of_inline b o ds up) some e h f =
     flat_step _ _ _ _
     (λ ts. ap (λ r. up_front up ((tok.open_brace, level_of up) ∷ r))
-    (spell_selections-followed leveled b (inline o ds s end) (level_of up) ts
-    ∙ ap (λ r. spell_selections leveled b (level_of up) (spell_selections leveled (inline o ds end end) (level_of up) r))
-    (braced_some leveled s (level_of up + 1) (spell_selections leveled s (level_of up + 1)) ts some)))
+    (spell_selections-followed mark_level b (inline o ds s end) (level_of up) ts
+    ∙ ap (λ r. spell_selections mark_level b (level_of up) (spell_selections mark_level (inline o ds end end) (level_of up) r))
+    (braced_some mark_level s (level_of up + 1) (spell_selections mark_level s (level_of up + 1)) ts some)))
     (record { room = omega (arith, e); formed = shaped-followed b (inline o ds s end) f.0 (f.1, some, h, tt); up = f.2 })
 
 may_close-steps : (limit room : ℕ) (s : Sels) (up : Up) → room + level_of up ≡ limit → ShapedSelections s → ShapedUp up
-    → Steps limit (λ ts. up_front up ((tok.open_brace, level_of up) ∷ spell_selections leveled s (level_of up) ts)) tok.close_brace 0 (may_close room s up)
+    → Steps limit (λ ts. up_front up ((tok.open_brace, level_of up) ∷ spell_selections mark_level s (level_of up) ts)) tok.close_brace 0 (may_close room s up)
 may_close-steps limit room end up e h f = tt
 may_close-steps limit room (field a n xs ds s rest) up e h f = close_set-takes limit room (field a n xs ds s rest) up tt e h f
 may_close-steps limit room (spread n ds rest) up e h f = close_set-takes limit room (spread n ds rest) up tt e h f
@@ -121,10 +121,10 @@ at_set-steps limit i tok.close_brace h = may_close-steps limit i.room i.before i
 at_set-steps limit i t h = tt
 
 -- behind one selection more
-selection-steps : (limit : ℕ) (i : Inside) (s : Sels) (t : Tok) → SeatedInside limit i → ShapedSelections s → Steps limit (λ ts. set_front i (spell_selections leveled s (level_of i.up) ts)) t 0 (at_set (then_selection i s) t)
+selection-steps : (limit : ℕ) (i : Inside) (s : Sels) (t : Tok) → SeatedInside limit i → ShapedSelections s → Steps limit (λ ts. set_front i (spell_selections mark_level s (level_of i.up) ts)) t 0 (at_set (then_selection i s) t)
 selection-steps limit i s t h f =
-    moved limit (set_front (then_selection i s)) _ t 0 (at_set (then_selection i s) t)
-    (λ ts. ap (λ r. up_front i.up ((tok.open_brace, level_of i.up) ∷ r)) (spell_selections-followed leveled i.before s (level_of i.up) ts))
+    step_moves limit (set_front (then_selection i s)) _ t 0 (at_set (then_selection i s) t)
+    (λ ts. ap (λ r. up_front i.up ((tok.open_brace, level_of i.up) ∷ r)) (spell_selections-followed mark_level i.before s (level_of i.up) ts))
     (at_set-steps limit (then_selection i s) t (record { room = h.room; formed = shaped-followed i.before s h.formed f; up = h.up }))
 
 at_variables-steps : (limit : ℕ) (o : Opening) (vs : List VariableDef) (t : Tok) → ShapedVariables o vs → Steps limit (variables_front o vs) t 0 (at_variables o vs t)
@@ -134,12 +134,12 @@ at_variables-steps limit o (v ∷ vs) tok.close_paren h = flat_step _ _ _ _ (λ 
 at_variables-steps limit o (v ∷ vs) t h = tt
 
 after_variable-steps : (limit : ℕ) (v : Typed) (default : Option ValueTree) (ds : List Directive) (t : Tok) → ShapedTyped v → ShapedDefault default → ShapedDirectives true ds
-    → Steps limit (λ ts. owner_front (on_variable v default) (spell_directives leveled ds ts)) t 0 (at_variables v.variable.opening (variables_with v default ds) t)
+    → Steps limit (λ ts. owner_front (on_variable v default) (spell_directives mark_level ds ts)) t 0 (at_variables v.variable.opening (variables_with v default ds) t)
 after_variable-steps limit v default ds t h d f =
-    moved limit (variables_front v.variable.opening (variables_with v default ds)) _ t 0 (at_variables v.variable.opening (variables_with v default ds) t)
+    step_moves limit (variables_front v.variable.opening (variables_with v default ds)) _ t 0 (at_variables v.variable.opening (variables_with v default ds) t)
     (λ ts. ap (λ r. opening_front v.variable.opening (flat tok.open_paren ∷ r))
-    (spell_variables-push leveled v.variable.before (variable_of v default ds ∷ []) ts
-    ∙ ap (λ y. spell_variables leveled v.variable.before (flat tok.dollar ∷ flat (tok.name v.variable.name) ∷ flat tok.colon ∷ spell_type leveled y 0 0 (spell_default leveled default (spell_directives leveled ds ts)))) (ty_of-type_tree v.of)))
+    (spell_variables-push mark_level v.variable.before (variable_of v default ds ∷ []) ts
+    ∙ ap (λ y. spell_variables mark_level v.variable.before (flat tok.dollar ∷ flat (tok.name v.variable.name) ∷ flat tok.colon ∷ spell_type mark_level y 0 0 (spell_default mark_level default (spell_directives mark_level ds ts)))) (ty_of-type_tree v.of)))
     (at_variables-steps limit v.variable.opening (variables_with v default ds) t
     (h.0.0, all-push ShapedVariable v.variable.before (variable_of v default ds) h.0.1 (subst ShapedType (sym (ty_of-type_tree v.of)) h.1, d, f)))
 
@@ -148,9 +148,9 @@ brace_level-none tok.open_brace = refl
 brace_level-none t = refl
 
 after_directives-steps : (limit : ℕ) (d : Owner) (ds : List Directive) (t : Tok) → SeatedOwner limit d → ShapedDirectives (owner_constant d) ds
-    → Steps limit (λ ts. owner_front d (spell_directives leveled ds ts)) t (owner_level d t) (after_directives limit d ds t)
+    → Steps limit (λ ts. owner_front d (spell_directives mark_level ds ts)) t (owner_level d t) (after_directives limit d ds t)
 after_directives-steps limit (on_variable v default) ds t h f =
-    subst (λ l. Steps limit (λ ts. owner_front (on_variable v default) (spell_directives leveled ds ts)) t l (at_variables v.variable.opening (variables_with v default ds) t)) (sym (brace_level-none t))
+    subst (λ l. Steps limit (λ ts. owner_front (on_variable v default) (spell_directives mark_level ds ts)) t l (at_variables v.variable.opening (variables_with v default ds) t)) (sym (brace_level-none t))
     (after_variable-steps limit v default ds t h.0 h.1 f)
 after_directives-steps limit (on_operation o vs) ds tok.open_brace h f = open_set-steps limit limit (of_operation o vs ds) refl (h.0, h.1, f)
 after_directives-steps limit (on_operation o vs) ds t h f = tt
@@ -160,7 +160,7 @@ after_directives-steps limit (on_field n xs) ds tok.open_brace h f =
     let e = h.0.room in open_set-steps limit n.inside.room (within_field n xs ds) (omega (arith, e)) (h.0.formed, h.1, f, h.0.up)
 after_directives-steps limit (on_field n xs) ds t h f = selection-steps limit n.inside (field_of n xs ds) t h.0 (h.1, f, tt, tt)
 after_directives-steps limit (on_spread i n) ds t h f =
-    subst (λ l. Steps limit (λ ts. owner_front (on_spread i n) (spell_directives leveled ds ts)) t l (at_set (then_selection i (spread n ds end)) t)) (sym (brace_level-none t))
+    subst (λ l. Steps limit (λ ts. owner_front (on_spread i n) (spell_directives mark_level ds ts)) t l (at_set (then_selection i (spread n ds end)) t)) (sym (brace_level-none t))
     (selection-steps limit i (spread n ds end) t h.0 (h.1, f, tt))
 after_directives-steps limit (on_inline i o) ds tok.open_brace h f =
     let e = h.room in open_set-steps limit i.room (of_inline i.before o ds i.up) (omega (arith, e)) (h.formed, f, h.up)
@@ -187,7 +187,7 @@ same_word n w e = grind (arith, bytes_eq-Decides n w)
 
 -- what is no Name but one of the words
 word-steps : (limit : ℕ) (ws : List Written) (n : List ℕ) (w : Word) → ShapedDefinitions ws → ((k : Kind) → w ≡ kind k → n ≡ kind_word k) → (w ≡ fragment → n ≡ fragment_word)
-    → Steps limit (definitions_front ws) (tok.name n) 0 (begun ws w)
+    → Steps limit (definitions_front ws) (tok.name n) 0 (begin_definition ws w)
 word-steps limit ws n (kind k) h a b = flat_step _ _ _ _ (λ ts. ap (λ m. definitions_front ws (flat (tok.name m) ∷ ts)) (sym (a k refl))) h
 word-steps limit ws n fragment h a b = flat_step _ _ _ _ (λ ts. ap (λ m. definitions_front ws (flat (tok.name m) ∷ ts)) (sym (b refl))) h
 word-steps limit ws n other h a b = tt
@@ -273,7 +273,7 @@ value-steps : (limit : ℕ) (r : Reading Typed) (t : Tok) → Seated limit (in_v
 value-steps limit r t h =
     steps_from limit _ t _ _
     (value_sounds typed_ground in_value with_default so_far (λ r ts. refl)
-    (λ v d ts. ap (λ y. typed_front v (flat tok.equals ∷ spell_value leveled y 0 ts)) (value_of-value_tree d)) r t)
+    (λ v d ts. ap (λ y. typed_front v (flat tok.equals ∷ spell_value mark_level y 0 ts)) (value_of-value_tree d)) r t)
     (value_shallows typed_ground in_value with_default limit r t h)
     (value_seats typed_ground in_value with_default limit (Seated limit) (λ r h. h)
     (λ v d h f. (refl, tt, (h, subst (λ y. ShapedValue true y) (sym (value_of-value_tree d)) f))) r t h)

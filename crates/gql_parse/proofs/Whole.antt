@@ -1,6 +1,6 @@
 -- The text of a file as a document.
 use Rattle.std.proofs.Common.{◌≡◌, ℕ, List, [], map, Ok, IsUtf8, length, refl, sym, ap, subst, ◌∙◌}
-use Rattle.gql_lex.specs.Sources.{lexed}
+use Rattle.gql_lex.specs.Sources.{lex_from}
 use Rattle.gql_ast.specs.declared.document.Definition.{Definition}
 use Rattle.gql_ast.specs.declared.document.Document.{Document}
 use Rattle.gql_ast.specs.declared.fault.ParseFault.TheVariants as parse
@@ -22,11 +22,11 @@ use Rattle.gql_syntax.proofs.Reading.{tree_found, tree_only, one_tree, parse_fau
 
 -- where a file begins
 abbrev pub beginning : (file : ℕ) → List ℕ → Ahead
-beginning file text = record { file = file; text = text; source = lexed 0 text; places = [] }
+beginning file text = record { file = file; text = text; source = lex_from 0 text; places = [] }
 
 -- what is read of the text
 abbrev pub reading : List ℕ → Outcome
-reading text = run_on (length text) (between []) (lexed 0 text)
+reading text = run_on (length text) (between []) (lex_from 0 text)
 
 abbrev pub document_with : List Definition → List FilePlace → Placed Document
 document_with ds places = record { tree = record { definitions = ds }; places = places }
@@ -46,7 +46,7 @@ pub one_document : (file : ℕ) (text : List ℕ) (p q : Placed Document) → Is
 one_document file text p q h k =
     let same : h.written ≡ k.written = one_tree documents document_machine document_laws nodes_of file text h.written k.written p.places q.places h.tree k.tree in
     let definitions : p.tree.definitions ≡ q.tree.definitions = h.definitions ∙ ap (λ ws. map definition_of ws) same ∙ sym k.definitions in
-    let places : p.places ≡ q.places = h.tree.places ∙ ap (λ ws. Rattle.gql_syntax.specs.Places.place_nodes file text [] (nodes_of ws) (lexed 0 text)) same ∙ sym k.tree.places in
+    let places : p.places ≡ q.places = h.tree.places ∙ ap (λ ws. Rattle.gql_syntax.specs.Places.place_nodes file text [] (nodes_of ws) (lex_from 0 text)) same ∙ sym k.tree.places in
     λ i. record { tree = record { definitions = definitions i }; places = places i }
 
 pub tells_reading : (file : ℕ) (text : List ℕ) (from : Ahead) (f : Fault) → from ≡ beginning file text → Tells f (run_on (length from.text) (between []) from.source) → Tells f (reading text)

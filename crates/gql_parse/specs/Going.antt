@@ -2,7 +2,7 @@
 use Rattle.std.specs.Prelude.{◌≡◌, map, ℕ, cond, List, [], ◌∷◌, ◌++◌, Result, Ok, Err}
 use Rattle.gql_lex.specs.Sources.{Source, ended, faulty, token}
 use Rattle.gql_lex.specs.Toks.{tok_of_piece}
-use Rattle.gql_ast.specs.Sels.{Sels, end, field, inline, followed}
+use Rattle.gql_ast.specs.Sels.{Sels, end, field, inline, sels_append}
 use Rattle.gql_ast.specs.declared.document.Definition.{Definition}
 use Rattle.gql_ast.specs.declared.document.Definition.TheVariants as D
 use Rattle.gql_parse.specs.Documents.{Written, bare, full, definition_of, spell_definition, nodes_of}
@@ -33,12 +33,12 @@ opening size room up (token p rest) =
     cond (is_at 123 (tok_of_piece p)) (run_from (advance nesting_limit) finish size (stamp p.start (open_set room up)) rest) (Err (code_of unexpected, p.start))
 
 -- behind a set that was opened where so many more could be
-abbrev pub closed : (room : ℕ) → Sels → Up → State
-closed room s (of_bare ws) = between (ws ++ bare s ∷ [])
-closed room s (of_operation o vs ds) = between (o.before ++ full (D.Operation (operation_of o vs ds s)) ∷ [])
-closed room s (of_fragment f ds) = between (f.before ++ full (D.Fragment (fragment_of f ds s)) ∷ [])
-closed room s (of_field b a n xs ds up) = set (record { room = room; before = followed b (field a n xs ds s end); up = up })
-closed room s (of_inline b o ds up) = set (record { room = room; before = followed b (inline o ds s end); up = up })
+abbrev pub after_set : (room : ℕ) → Sels → Up → State
+after_set room s (of_bare ws) = between (ws ++ bare s ∷ [])
+after_set room s (of_operation o vs ds) = between (o.before ++ full (D.Operation (operation_of o vs ds s)) ∷ [])
+after_set room s (of_fragment f ds) = between (f.before ++ full (D.Fragment (fragment_of f ds s)) ∷ [])
+after_set room s (of_field b a n xs ds up) = set (record { room = room; before = sels_append b (field a n xs ds s end); up = up })
+after_set room s (of_inline b o ds up) = set (record { room = room; before = sels_append b (inline o ds s end); up = up })
 
 -- a definition was read, as it is written, with the places of its nodes; `first` nodes begin where it does already
 pub record DefinitionRead (size first : ℕ) (from to : Ahead) (d : Definition) : Type 0 where

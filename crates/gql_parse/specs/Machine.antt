@@ -3,7 +3,7 @@
 use Rattle.std.specs.Prelude.{ℕ, zero, suc, Bool, true, false, cond, bytes_eq, List, [], ◌∷◌, ◌++◌, Option, Some, None, Result, Ok, Err}
 use Rattle.gql_lex.specs.Toks as tok
 use Rattle.gql_lex.specs.Toks.{Tok}
-use Rattle.gql_ast.specs.Sels.{Sels, end, field, spread, inline, followed}
+use Rattle.gql_ast.specs.Sels.{Sels, end, field, spread, inline, sels_append}
 use Rattle.gql_ast.specs.Ty.{Ty}
 use Rattle.gql_ast.specs.Value.{Val}
 use Rattle.gql_ast.specs.declared.directive.Directive.{Directive}
@@ -104,7 +104,7 @@ pub data State : Type 0 where
 
 -- the set, and one selection more in it
 abbrev pub then_selection : Inside → Sels → Inside
-then_selection i s = record { room = i.room; before = followed i.before s; up = i.up }
+then_selection i s = record { room = i.room; before = sels_append i.before s; up = i.up }
 
 -- a set is opened, where there is room for it
 abbrev pub open_set : (room : ℕ) → Up → Result State Halt
@@ -122,8 +122,8 @@ abbrev pub close_set : (room : ℕ) → Sels → Up → State
 close_set room s (of_bare ws) = between (ws ++ bare s ∷ [])
 close_set room s (of_operation o vs ds) = between (o.before ++ full (D.Operation (operation_of o vs ds s)) ∷ [])
 close_set room s (of_fragment f ds) = between (f.before ++ full (D.Fragment (fragment_of f ds s)) ∷ [])
-close_set room s (of_field b a n xs ds up) = set (record { room = suc room; before = followed b (field a n xs ds s end); up = up })
-close_set room s (of_inline b o ds up) = set (record { room = suc room; before = followed b (inline o ds s end); up = up })
+close_set room s (of_field b a n xs ds up) = set (record { room = suc room; before = sels_append b (field a n xs ds s end); up = up })
+close_set room s (of_inline b o ds up) = set (record { room = suc room; before = sels_append b (inline o ds s end); up = up })
 
 -- a set is not empty
 abbrev pub may_close : (room : ℕ) → Sels → Up → Result State Halt
@@ -194,13 +194,13 @@ word_of n =
     cond (bytes_eq n fragment_word) fragment (cond (bytes_eq n (kind_word Query)) (kind Query)
     (cond (bytes_eq n (kind_word Mutation)) (kind Mutation) (cond (bytes_eq n (kind_word Subscription)) (kind Subscription) other)))
 
-abbrev pub begun : List Written → Word → Result State Halt
-begun ws (kind k) = Ok (kinded ws k)
-begun ws fragment = Ok (fragment_begun ws)
-begun ws other = Err unexpected
+abbrev pub begin_definition : List Written → Word → Result State Halt
+begin_definition ws (kind k) = Ok (kinded ws k)
+begin_definition ws fragment = Ok (fragment_begun ws)
+begin_definition ws other = Err unexpected
 
 abbrev pub at_definition : (limit : ℕ) → List Written → Tok → Result State Halt
-at_definition limit ws (tok.name n) = begun ws (word_of n)
+at_definition limit ws (tok.name n) = begin_definition ws (word_of n)
 at_definition limit ws tok.open_brace = open_set limit (of_bare ws)
 at_definition limit ws t = Err unexpected
 

@@ -1,11 +1,11 @@
 //! Selection sets (GraphQL, October 2021, sections 2.4 to 2.8).
 ghost use Rattle.std.specs.Prelude.{◌≡◌, ◌+◌, ◌<◌, ◌≤◌, ◌∷◌, [], ℕ, List, true, false, length, IfOk, OnOk};
 ghost use Rattle.gql_ast.specs.SelectionView.{sel_of};
-ghost use Rattle.gql_ast.specs.Sels.{Sels, end, field, followed};
+ghost use Rattle.gql_ast.specs.Sels.{Sels, end, field, sels_append};
 ghost use Rattle.gql_ast.specs.declared.directive.Directive.{Directive};
 ghost use Rattle.gql_ast.specs.Value.{Val};
 ghost use Rattle.gql_parse.specs.Documents.{spell_braces, spell_name, spell_on, spell_selections, SomeSelection};
-ghost use Rattle.gql_parse.specs.Going.{run_on, Goes, opening, closed};
+ghost use Rattle.gql_parse.specs.Going.{run_on, Goes, opening, after_set};
 ghost use Rattle.gql_parse.specs.Machine.{Up, Inside, OpenField, on_field, on_inline, set, field_named, in_directives};
 ghost use Rattle.gql_syntax.specs.Answers.{node_count};
 ghost use Rattle.gql_syntax.specs.Machine.{further};
@@ -27,7 +27,7 @@ pub(crate) fn read_set(
     nodes: usize,
     cursor: &mut Cursor<'_>,
 ) -> Result<Selections, Fault>
-    ensures reads { (up : Up) → Goes result (opening (length cursor.old.text) room up cursor.old.source) (λ s. run_on (length cursor.old.text) (closed room s up) cursor.new.source) }
+    ensures reads { (up : Up) → Goes result (opening (length cursor.old.text) room up cursor.old.source) (λ s. run_on (length cursor.old.text) (after_set room s up) cursor.new.source) }
     ensures some { IfOk result SomeSelection }
     ensures places { IfOk result (λ s. (level : ℕ) (ns : List ℕ) → lay (nodes ∷ spell_selections node_count s level (0 ∷ ns)) cursor.old ≡ lay ns cursor.new) }
     ensures taken { OnOk result (token_count cursor.new.source < token_count cursor.old.source) }
@@ -43,10 +43,18 @@ pub(crate) fn read_set(
     read_selections(alloc, room - 1, cursor)
 }
 
+/// Returns the selections without spare room; takes no memory.
+fn fit(mut selections: Selections) -> Selections
+    ensures { result ≡ selections }
+{
+    selections.items.shrink_to_fit();
+    selections
+}
+
 /// Reads the selections of a set, after its `{`, and its `}`.
 #[cycle(selections)]
 fn read_selections(alloc: Global, room: u32, cursor: &mut Cursor<'_>) -> Result<Selections, Fault>
-    ensures reads { (up : Up) → Goes result (run_on (length cursor.old.text) (set (record { room = room; before = end; up = up })) cursor.old.source) (λ s. run_on (length cursor.old.text) (closed (room + 1) s up) cursor.new.source) }
+    ensures reads { (up : Up) → Goes result (run_on (length cursor.old.text) (set (record { room = room; before = end; up = up })) cursor.old.source) (λ s. run_on (length cursor.old.text) (after_set (room + 1) s up) cursor.new.source) }
     ensures some { IfOk result SomeSelection }
     ensures places { IfOk result (λ s. (level : ℕ) (ns : List ℕ) → lay (spell_selections node_count s level (0 ∷ ns)) cursor.old ≡ lay ns cursor.new) }
     ensures taken { OnOk result (token_count cursor.new.source < token_count cursor.old.source) }
@@ -61,7 +69,7 @@ fn read_selections(alloc: Global, room: u32, cursor: &mut Cursor<'_>) -> Result<
         selections.push(selection)?;
         if cursor.next_is(b'}') {
             cursor.skip(0)?;
-            return Ok(selections);
+            return Ok(fit(selections));
         }
     }
 }
@@ -70,7 +78,7 @@ fn read_selections(alloc: Global, room: u32, cursor: &mut Cursor<'_>) -> Result<
 #[cycle(selections)]
 fn read_selection(alloc: Global, room: u32, cursor: &mut Cursor<'_>) -> Result<Selection, Fault>
     requires unclosed { next_is 125 cursor.old.source ≡ false }
-    ensures reads { (before : Sels) (up : Up) → Goes result (run_on (length cursor.old.text) (set (record { room = room; before = before; up = up })) cursor.old.source) (λ s. run_on (length cursor.old.text) (set (record { room = room; before = followed before (sel_of s); up = up })) cursor.new.source) }
+    ensures reads { (before : Sels) (up : Up) → Goes result (run_on (length cursor.old.text) (set (record { room = room; before = before; up = up })) cursor.old.source) (λ s. run_on (length cursor.old.text) (set (record { room = room; before = sels_append before (sel_of s); up = up })) cursor.new.source) }
     ensures places { IfOk result (λ s. (level : ℕ) (ns : List ℕ) → lay (spell_selections node_count (sel_of s) level ns) cursor.old ≡ lay ns cursor.new) }
     ensures taken { OnOk result (token_count cursor.new.source < token_count cursor.old.source) }
     ensures same { OnOk result (cursor.new.text ≡ cursor.old.text) }
@@ -86,7 +94,7 @@ fn read_selection(alloc: Global, room: u32, cursor: &mut Cursor<'_>) -> Result<S
 fn read_field(alloc: Global, room: u32, cursor: &mut Cursor<'_>) -> Result<Selection, Fault>
     requires unclosed { next_is 125 cursor.old.source ≡ false }
     requires field { next_is 46 cursor.old.source ≡ false }
-    ensures reads { (before : Sels) (up : Up) → Goes result (run_on (length cursor.old.text) (set (record { room = room; before = before; up = up })) cursor.old.source) (λ s. run_on (length cursor.old.text) (set (record { room = room; before = followed before (sel_of s); up = up })) cursor.new.source) }
+    ensures reads { (before : Sels) (up : Up) → Goes result (run_on (length cursor.old.text) (set (record { room = room; before = before; up = up })) cursor.old.source) (λ s. run_on (length cursor.old.text) (set (record { room = room; before = sels_append before (sel_of s); up = up })) cursor.new.source) }
     ensures places { IfOk result (λ s. (level : ℕ) (ns : List ℕ) → lay (spell_selections node_count (sel_of s) level ns) cursor.old ≡ lay ns cursor.new) }
     ensures taken { OnOk result (token_count cursor.new.source < token_count cursor.old.source) }
     ensures same { OnOk result (cursor.new.text ≡ cursor.old.text) }
@@ -138,7 +146,7 @@ fn read_field_name(alloc: Global, cursor: &mut Cursor<'_>) -> Result<FieldName, 
 #[cycle(selections)]
 fn read_optional_set(alloc: Global, room: u32, cursor: &mut Cursor<'_>) -> Result<Selections, Fault>
     requires { next_is 64 cursor.old.source ≡ false }
-    ensures reads { (f : OpenField) (xs : List (List ℕ × Val)) (ds : List Directive) → f.inside.room ≡ room → Goes result (run_on (length cursor.old.text) (in_directives (further false ds (on_field f xs))) cursor.old.source) (λ s. run_on (length cursor.old.text) (set (record { room = room; before = followed f.inside.before (field f.alias f.name xs ds s end); up = f.inside.up })) cursor.new.source) }
+    ensures reads { (f : OpenField) (xs : List (List ℕ × Val)) (ds : List Directive) → f.inside.room ≡ room → Goes result (run_on (length cursor.old.text) (in_directives (further false ds (on_field f xs))) cursor.old.source) (λ s. run_on (length cursor.old.text) (set (record { room = room; before = sels_append f.inside.before (field f.alias f.name xs ds s end); up = f.inside.up })) cursor.new.source) }
     ensures places { IfOk result (λ s. (level : ℕ) (ns : List ℕ) → lay (spell_braces node_count s level (spell_selections node_count s level) ns) cursor.old ≡ lay ns cursor.new) }
     ensures taken { OnOk result (token_count cursor.new.source ≤ token_count cursor.old.source) }
     ensures same { OnOk result (cursor.new.text ≡ cursor.old.text) }
@@ -153,7 +161,7 @@ fn read_optional_set(alloc: Global, room: u32, cursor: &mut Cursor<'_>) -> Resul
 #[cycle(selections)]
 fn read_spread(alloc: Global, room: u32, cursor: &mut Cursor<'_>) -> Result<Selection, Fault>
     requires { next_is 46 cursor.old.source ≡ true }
-    ensures reads { (before : Sels) (up : Up) → Goes result (run_on (length cursor.old.text) (set (record { room = room; before = before; up = up })) cursor.old.source) (λ s. run_on (length cursor.old.text) (set (record { room = room; before = followed before (sel_of s); up = up })) cursor.new.source) }
+    ensures reads { (before : Sels) (up : Up) → Goes result (run_on (length cursor.old.text) (set (record { room = room; before = before; up = up })) cursor.old.source) (λ s. run_on (length cursor.old.text) (set (record { room = room; before = sels_append before (sel_of s); up = up })) cursor.new.source) }
     ensures places { IfOk result (λ s. (level : ℕ) (ns : List ℕ) → lay (spell_selections node_count (sel_of s) level ns) cursor.old ≡ lay ns cursor.new) }
     ensures taken { OnOk result (token_count cursor.new.source < token_count cursor.old.source) }
     ensures same { OnOk result (cursor.new.text ≡ cursor.old.text) }
@@ -180,7 +188,7 @@ fn read_inline(
     on: Option<Name>,
     cursor: &mut Cursor<'_>,
 ) -> Result<Selection, Fault>
-    ensures reads { (before : Sels) (up : Up) → Goes result (run_on (length cursor.old.text) (in_directives (further false [] (on_inline (record { room = room; before = before; up = up }) on))) cursor.old.source) (λ s. run_on (length cursor.old.text) (set (record { room = room; before = followed before (sel_of s); up = up })) cursor.new.source) }
+    ensures reads { (before : Sels) (up : Up) → Goes result (run_on (length cursor.old.text) (in_directives (further false [] (on_inline (record { room = room; before = before; up = up }) on))) cursor.old.source) (λ s. run_on (length cursor.old.text) (set (record { room = room; before = sels_append before (sel_of s); up = up })) cursor.new.source) }
     ensures places { IfOk result (λ s. (level : ℕ) (ns : List ℕ) (c : Ahead) → ((ms : List ℕ) → lay (1 ∷ spell_on node_count on ms) c ≡ lay ms cursor.old) → lay (spell_selections node_count (sel_of s) level ns) c ≡ lay ns cursor.new) }
     ensures taken { OnOk result (token_count cursor.new.source < token_count cursor.old.source) }
     ensures same { OnOk result (cursor.new.text ≡ cursor.old.text) }

@@ -1,3 +1,4 @@
+pub mod Booleans
 pub mod EndOfLists
 pub mod InOrder
 pub mod JsonLevels

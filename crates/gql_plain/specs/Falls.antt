@@ -2,7 +2,7 @@
 use Rattle.std.specs.Prelude.{ℕ, ◌≤◌, List, [], ◌∷◌}
 use Rattle.std.proofs.Common.{arith}
 use Rattle.gql_plain.specs.Tree.{weight, trees_of, trees_weight, members_of, members_weight}
-use Rattle.gql_plain.specs.Shown.{tree_of, shown, shown_members}
+use Rattle.gql_plain.specs.Shown.{tree_of, plain_trees, shown_members}
 use Rattle.gql_plain.specs.declared.plain.Plain.{Plain}
 use Rattle.gql_plain.specs.declared.plain.Plain.TheVariants.{Null, Bool as Truth, Int, Text, List as Listed, Tree as Object}
 use Rattle.gql_plain.specs.declared.plain.Pairs.TheDeep.{deep-Plain}
@@ -17,7 +17,7 @@ deep-le_weight (Text s) = omega arith
 deep-le_weight (Listed ts) = omega arith
 deep-le_weight (Object ms) = omega arith
 
-pub most_deep-le_trees_weight : (ps : List Plain) → most deep-Plain ps ≤ trees_weight (trees_of (shown ps))
+pub most_deep-le_trees_weight : (ps : List Plain) → most deep-Plain ps ≤ trees_weight (trees_of (plain_trees ps))
 most_deep-le_trees_weight [] = omega arith
 most_deep-le_trees_weight (p ∷ ps) = omega (arith, deep-le_weight p, most_deep-le_trees_weight ps)
 

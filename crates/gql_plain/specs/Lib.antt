@@ -3,6 +3,7 @@ pub mod Counted
 pub mod Equal
 pub mod Falls
 pub mod FromJson
+pub mod Limits
 pub mod Names
 pub mod Order
 pub mod Shown

@@ -12,8 +12,8 @@ tree_of (Text s) = text s
 tree_of (Listed ts) = list (trees_of ts)
 tree_of (Object ms) = object (members_of ms)
 
-abbrev pub shown : List Plain → List Tree
-shown ps = map tree_of ps
+abbrev pub plain_trees : List Plain → List Tree
+plain_trees ps = map tree_of ps
 
 abbrev pub shown_members : List (List ℕ × Plain) → List (List ℕ × Tree)
 shown_members es = map (λ e. (e.0, tree_of e.1)) es

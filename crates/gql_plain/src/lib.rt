@@ -5,6 +5,7 @@
 mod equal;
 pub mod from_value;
 pub mod ids;
+pub mod limits;
 pub mod memory;
 pub mod plain;
 pub mod shared;
@@ -15,6 +16,7 @@ pub mod words;
 
 pub use from_value::{PlainFault, plain_of};
 pub use ids::{Conn, Ids, OptIds};
+pub use limits::MAX_LINE;
 pub use memory::NoMemory;
 pub use plain::{Pairs, Plain, Plains};
 pub use shared::SharedText;

@@ -2,7 +2,7 @@
 ghost use Rattle.std.specs.Prelude.{◌≡◌, ◌==◌, [], ◌∷◌, ◌++◌, length, map, option_map, IfOk, OnOk, OnErr};
 ghost use Rattle.std.specs.Map.{keys_of};
 ghost use Rattle.gql_plain.specs.Order.{IsAfter, member_at};
-ghost use Rattle.gql_plain.specs.Shown.{tree_of, shown, shown_members};
+ghost use Rattle.gql_plain.specs.Shown.{tree_of, plain_trees, shown_members};
 
 use crate::memory::NoMemory;
 use crate::words::Words;
@@ -46,9 +46,9 @@ impl Model for Plains {
 
     ghost coded = { coded_trees };
 
-    ghost use Rattle.gql_plain.specs.Shown.{shown};
+    ghost use Rattle.gql_plain.specs.Shown.{plain_trees};
 
-    ghost view = { λ a. shown a.items.items };
+    ghost view = { λ a. plain_trees a.items.items };
 
     ghost size = { λ ts. trees_weight (trees_of ts) };
 
@@ -135,7 +135,7 @@ impl Plains {
 
     /// The trees; takes no memory.
     pub fn as_slice(&self) -> &[Plain]
-        ensures { shown result.now ≡ self.now }
+        ensures { plain_trees result.now ≡ self.now }
     {
         self.items.as_slice()
     }

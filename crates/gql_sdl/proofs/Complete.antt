@@ -108,23 +108,23 @@ default-no_bang None ds ts h = directives-no_bang ds ts h
 default-no_bang (Some v) ds ts h = tt
 
 -- where directives have ended and a calm token follows
-abbrev settled : Owner → List Directive → State
-settled (on_schema f) ds = in_directives (further true ds (on_schema f))
-settled (on_scalar f n) ds = head (front_then f (scalar n ds))
-settled (on_fielded h) ds = head (heading_then h ds [])
-settled (on_union f n) ds = head (front_then f (union n ds false []))
-settled (on_enum f n) ds = head (front_then f (enum n ds []))
-settled (on_object f n) ds = head (front_then f (input n ds []))
-settled (on_input i v) ds = inputs i.input.inputs (input_then i v ds) None
-settled (on_field a u) ds = fields a.field.fields (field_then a u ds) None
-settled (on_value v) ds = enum_values v.values (value_then v ds) None
+abbrev settle_owner : Owner → List Directive → State
+settle_owner (on_schema f) ds = in_directives (further true ds (on_schema f))
+settle_owner (on_scalar f n) ds = head (front_then f (scalar n ds))
+settle_owner (on_fielded h) ds = head (heading_then h ds [])
+settle_owner (on_union f n) ds = head (front_then f (union n ds false []))
+settle_owner (on_enum f n) ds = head (front_then f (enum n ds []))
+settle_owner (on_object f n) ds = head (front_then f (input n ds []))
+settle_owner (on_input i v) ds = inputs i.input.inputs (input_then i v ds) None
+settle_owner (on_field a u) ds = fields a.field.fields (field_then a u ds) None
+settle_owner (on_value v) ds = enum_values v.values (value_then v ds) None
 
 module _ (limit : ℕ) where
   -- what the machine makes of the tokens
   abbrev pub on : State → List Tok → Option (List Described)
   on s ts = outcome (advance limit) finish s ts
 
-  pub settles : (o : Owner) (ds : List Directive) (ts : List Tok) → Calm ts → on (in_directives (further true ds o)) ts ≡ on (settled o ds) ts
+  pub settles : (o : Owner) (ds : List Directive) (ts : List Tok) → Calm ts → on (in_directives (further true ds o)) ts ≡ on (settle_owner o ds) ts
   settles (on_schema f) ds ts h = refl
   settles (on_scalar f n) ds [] h = refl
   settles (on_scalar f n) ds (tok.text d ∷ ts) h = refl
@@ -233,7 +233,7 @@ module _ (limit : ℕ) where
   -- ---- inputs
 
   reads_ending : (o : Owner) (ds : List Directive) (ts : List Tok) → ShapedDirectives true ds → DirectivesFit ds → Calm ts
-      → on (directives_of o) (spell_directives token_mark ds ts) ≡ on (settled o ds) ts
+      → on (directives_of o) (spell_directives token_mark ds ts) ≡ on (settle_owner o ds) ts
   reads_ending o ds ts h f c = reads_directives o ds ts h f (calm-unled ts c) ∙ settles o ds ts c
 
   default-skips : (i : TypedInput) (ts : List Tok) → NoEquals ts → on (input_default i) ts ≡ on (directives_of (on_input i None)) ts

@@ -19,8 +19,8 @@ use Rattle.gql_syntax.specs.Texts.{nesting_limit}
 use Rattle.gql_syntax.specs.declared.fault.Fault.{Fault}
 use Rattle.gql_syntax.specs.declared.fault.Fault.TheVariants.{Wrong, NoMemory}
 use Rattle.gql_sdl.specs.Machine as machine
-use Rattle.gql_sdl.specs.Machine.{Front, Fielded, Heading, Fields, fielded_word, Titled, Word, titled, a_schema, a_directive, spelled, titled_word, begin_definition, entitle, Owner, State, head, title, in_directives, directives_of, front_then, advance, finish}
-use Rattle.gql_sdl.specs.Reads.{run_on, Read, Fails, Reads, Anywhere, Begins, MayDefine, MayDescribe, behind_all, behind_definition, whole, start, spell_first, spell_definition, spell_all, ReadSchema, MayOpen, unopened, Locating, LocatingOn, before_repeatable, repeated, before_locations, behind_locations, spell_locations, Led, Entitled, before_implements, behind_implements, NoDirective, before_fields, behind_fields, FieldedAt, MayFielded, fielded_head, fielded_end, fielded_of, spell_fielded}
+use Rattle.gql_sdl.specs.Machine.{Front, Fielded, Heading, Fields, fielded_word, Titled, Word, titled, a_schema, a_directive, word_text, titled_word, begin_definition, entitle, Owner, State, head, title, in_directives, directives_of, front_then, advance, finish}
+use Rattle.gql_sdl.specs.Reads.{run_on, Read, Fails, Reads, Anywhere, Begins, MayDefine, MayDescribe, behind_all, behind_definition, whole, start, spell_first, spell_definition, spell_all, ReadSchema, MayOpen, before_inputs, Locating, LocatingOn, before_repeatable, set_repeatable, before_locations, behind_locations, spell_locations, Led, Entitled, before_implements, behind_implements, NoDirective, before_fields, behind_fields, FieldedAt, MayFielded, fielded_head, fielded_end, fielded_of, spell_fielded}
 use Rattle.gql_sdl.specs.Schemas as written
 use Rattle.gql_sdl.specs.Schemas.{Description, Described, NotEmpty, Written, WrittenInput, definition_of, inputs_of, spell_described, spell_definitions, spell_repeatable, written_of, field_of, spell_written, spell_implements, spell_fields_part, spell_argument_defs, spell_input_fields}
 use Rattle.gql_sdl.specs.declared.definitions.TypeWithFields.{TypeWithFields}
@@ -267,11 +267,11 @@ module _ (a b c d : Ahead) (n : List ℕ) (s : b.source ≡ behind a.source) (t 
   text_d2 : d.text ≡ a.text
   text_d2 = t3 ∙ t2 ∙ t
 
-  pub directive-no_arguments : (f : Fault) → Fails (MayOpen 40 41) unopened d f → Fails (Begins (codes "directive")) head a f
+  pub directive-no_arguments : (f : Fault) → Fails (MayOpen 40 41) before_inputs d f → Fails (Begins (codes "directive")) head a f
   directive-no_arguments f h =
-      fails-rest (codes "directive") a d (MayOpen 40 41) unopened (λ f. machine.of_directive f n) text_d2 (to_arguments a b s t c sign s2 t2 d n w s3) (λ f. (refl, refl, tt)) f h
+      fails-rest (codes "directive") a d (MayOpen 40 41) before_inputs (λ f. machine.of_directive f n) text_d2 (to_arguments a b s t c sign s2 t2 d n w s3) (λ f. (refl, refl, tt)) f h
 
-  module _ (e : Ahead) (args : List InputTree) (r : Read (MayOpen 40 41) unopened machine.after_inputs (spell_argument_defs node_count) inputs_of d e args) where
+  module _ (e : Ahead) (args : List InputTree) (r : Read (MayOpen 40 41) before_inputs machine.after_inputs (spell_argument_defs node_count) inputs_of d e args) where
     abbrev locating_at : Front → Locating
     locating_at f = record { front = f; title = n; arguments = r.written }
 
@@ -282,7 +282,7 @@ module _ (a b c d : Ahead) (n : List ℕ) (s : b.source ≡ behind a.source) (t 
     pub directive-no_marks : (f : Fault) → Fails Anywhere before_repeatable e f → Fails (Begins (codes "directive")) head a f
     directive-no_marks f h = fails-rest (codes "directive") a e Anywhere before_repeatable locating_at (r.text ∙ text_d2) to_marks (λ f. tt) f h
 
-    module _ (g : Ahead) (rep : Bool) (q : Read Anywhere before_repeatable repeated (λ (r : Bool) (ns : List ℕ). spell_repeatable node_count r (0 ∷ ns)) (λ r. r) e g rep) where
+    module _ (g : Ahead) (rep : Bool) (q : Read Anywhere before_repeatable set_repeatable (λ (r : Bool) (ns : List ℕ). spell_repeatable node_count r (0 ∷ ns)) (λ r. r) e g rep) where
       abbrev locating_on : Front → LocatingOn
       locating_on f = record { directive = locating_at f; repeatable = q.written }
 

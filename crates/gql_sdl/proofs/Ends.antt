@@ -21,7 +21,7 @@ use Rattle.gql_syntax.proofs.Standing.{directives_on, type_on, value_on}
 use Rattle.gql_syntax.proofs.TypeLaws.{type_end, type_end-form, type_ends}
 use Rattle.gql_syntax.proofs.ValueLaws.{value_end, value_end-form, value_ends}
 use Rattle.gql_syntax.specs.Built.{type_tree, value_tree}
-use Rattle.gql_sdl.specs.Machine.{Titled, a_scalar, with_fields, a_union, an_enum, an_input, Front, Fields, OpenField, Inputs, of_field, of_directive, of_object, TypedInput, ArguedField, Typed, input_type, field_type, Owner, on_schema, on_scalar, on_fielded, on_union, on_enum, on_object, on_input, on_field, on_value, Listing, implementing, uniting, locating, State, head, title, entitled, directive_sign, directive_title, directive_arguments, directive_on, listing, listing_led, listing_more, listing_next, roots, root_colon, root_name, fields, field_arguments, field_colon, inputs, input_colon, input_default, enum_values, in_directives, in_type, in_value, front_then, heading_then, field_then, input_then, value_then, directives_of, closed, after_inputs, after_directives, typed_state, after_type, behind_default, listing_name, front_ends, advance, finish}
+use Rattle.gql_sdl.specs.Machine.{Titled, a_scalar, with_fields, a_union, an_enum, an_input, Front, Fields, OpenField, Inputs, of_field, of_directive, of_object, TypedInput, ArguedField, Typed, input_type, field_type, Owner, on_schema, on_scalar, on_fielded, on_union, on_enum, on_object, on_input, on_field, on_value, Listing, implementing, uniting, locating, State, head, title, entitled, directive_sign, directive_title, directive_arguments, directive_on, listing, listing_led, listing_more, listing_next, roots, root_colon, root_name, fields, field_arguments, field_colon, inputs, input_colon, input_default, enum_values, in_directives, in_type, in_value, front_then, heading_then, field_then, input_then, value_then, directives_of, close, after_inputs, after_directives, typed_state, after_type, behind_default, listing_name, front_ends, advance, finish}
 use Rattle.gql_sdl.specs.Schemas.{Description, WrittenInput, WrittenField, Written, scalar, union, enum, input, schema, Described}
 use Rattle.gql_sdl.proofs.States.{machine}
 
@@ -29,7 +29,7 @@ front_ends-then : (before : List Described) (d : Described) → front_ends (befo
 front_ends-then [] d = refl
 front_ends-then (b ∷ before) d = refl
 
-closed-then : {A : Type 0} (before : List A) (a : A) (to : State) → closed (before ++ a ∷ []) None to ≡ Ok to
+closed-then : {A : Type 0} (before : List A) (a : A) (to : State) → close (before ++ a ∷ []) None to ≡ Ok to
 closed-then [] a to = refl
 closed-then (b ∷ before) a to = refl
 
@@ -49,7 +49,7 @@ module _ (limit : ℕ) where
 
   -- the same where the last token closes what is not empty
   behind_close : {A : Type 0} (s to : State) (ts : List Tok) → AreToks ts → (before : List A) (a : A)
-      → reach (advance limit) s ts ≡ reach_from (advance limit) (closed (before ++ a ∷ []) None to) [] → Ends to → Ends s
+      → reach (advance limit) s ts ≡ reach_from (advance limit) (close (before ++ a ∷ []) None to) [] → Ends to → Ends s
   behind_close s to ts f before a e c = behind_tokens s to ts f (e ∙ ap (λ r. reach_from (advance limit) r []) (closed-then before a to)) c
 
   pub head-ends : (f : Front) → Ends (head f)

@@ -10,8 +10,8 @@ use Rattle.gql_syntax.specs.Answers.{node_count}
 use Rattle.gql_syntax.specs.Nexts.{is_at, next_is, Comes}
 use Rattle.gql_syntax.specs.Run.{unexpected}
 use Rattle.gql_syntax.specs.Texts.{nesting_limit}
-use Rattle.gql_sdl.specs.Machine.{Front, Inputs, of_field, of_directive, of_object, State, inputs, after_inputs, closed, advance, finish}
-use Rattle.gql_sdl.specs.Reads.{run_on, InputsAt, inputs_at, input_at, opener, closer, MayOpen, MayInput, unopened, Undirected}
+use Rattle.gql_sdl.specs.Machine.{Front, Inputs, of_field, of_directive, of_object, State, inputs, after_inputs, close, advance, finish}
+use Rattle.gql_sdl.specs.Reads.{run_on, InputsAt, inputs_at, input_at, opener, closer, MayOpen, MayInput, before_inputs, Undirected}
 use Rattle.gql_sdl.specs.Schemas.{WrittenInput, NotEmpty, spell_input, spell_inputs, spell_argument_defs}
 use Rattle.gql_sdl.proofs.Fronts.{inputs-then}
 use Rattle.gql_sdl.proofs.Goings.{alike}
@@ -20,7 +20,7 @@ use Rattle.gql_sdl.proofs.Loops.{ListOf, ListLaws}
 abbrev pub inputs_list : (opening closing : ℕ) → ListOf Inputs InputsAt WrittenInput InputTree
 inputs_list opening closing = record {
   May = MayOpen opening closing;
-  unopened = unopened;
+  unopened = before_inputs;
   open_at = λ i ws. inputs i ws None;
   close_at = after_inputs;
   closing = closing;
@@ -33,7 +33,7 @@ inputs_list opening closing = record {
   spell = spell_input node_count;
 }
 
-closed-some : {A : Type 0} (all : List A) (to : State) → NotEmpty all → closed all None to ≡ Ok to
+closed-some : {A : Type 0} (all : List A) (to : State) → NotEmpty all → close all None to ≡ Ok to
 closed-some [] to h = absurd h
 closed-some (a ∷ all) to h = refl
 
@@ -47,7 +47,7 @@ inputs-stop (of_field f) = refl
 inputs-stop (of_directive f n) = refl
 inputs-stop (of_object f n ds) = refl
 
-inputs-open : (i : Inputs) → advance nesting_limit (unopened i) (punctuator_of (opener i)) ≡ Ok (inputs i [] None)
+inputs-open : (i : Inputs) → advance nesting_limit (before_inputs i) (punctuator_of (opener i)) ≡ Ok (inputs i [] None)
 inputs-open (of_field f) = refl
 inputs-open (of_directive f n) = refl
 inputs-open (of_object f n ds) = refl
@@ -69,27 +69,27 @@ inputs_laws opening closing = record {
 }
 
 pub inputs-opens : (opening closing : ℕ) (s : Source) → next_is opening s ≡ true → (i : Inputs) → MayOpen opening closing i s
-    → (c : ℕ) × (next_is c s ≡ true) × (advance nesting_limit (unopened i) (punctuator_of c) ≡ Ok (inputs i [] None))
-inputs-opens opening closing s n i m = (opening, n, subst (λ c. advance nesting_limit (unopened i) (punctuator_of c) ≡ Ok (inputs i [] None)) m.0 (inputs-open i))
+    → (c : ℕ) × (next_is c s ≡ true) × (advance nesting_limit (before_inputs i) (punctuator_of c) ≡ Ok (inputs i [] None))
+inputs-opens opening closing s n i m = (opening, n, subst (λ c. advance nesting_limit (before_inputs i) (punctuator_of c) ≡ Ok (inputs i [] None)) m.0 (inputs-open i))
 
 pub inputs-absent : (opening closing : ℕ) (s : Source) → next_is opening s ≡ false → (i : Inputs) (size : ℕ) → MayOpen opening closing i s
-    → run_on size (unopened i) s ≡ run_on size (after_inputs i []) s
+    → run_on size (before_inputs i) s ≡ run_on size (after_inputs i []) s
 inputs-absent opening closing s n i size m =
-    alike size (unopened i) (after_inputs i []) s (same_end i)
+    alike size (before_inputs i) (after_inputs i []) s (same_end i)
     (λ t c. same i t c (subst (λ o. is_at o t ≡ false) (sym m.0) (not_at opening s t c n)) m.2)
   where
-    same_end : (i : Inputs) → finish (unopened i) ≡ finish (after_inputs i [])
+    same_end : (i : Inputs) → finish (before_inputs i) ≡ finish (after_inputs i [])
     same_end (of_field f) = refl
     same_end (of_directive f n) = refl
     same_end (of_object f n ds) = refl
 
     undirected : (f : Front) (n : List ℕ) (ds : List Directive) (t : Tok) → is_at 123 t ≡ false → is_at 64 t ≡ false
-        → advance nesting_limit (unopened (of_object f n ds)) t ≡ advance nesting_limit (after_inputs (of_object f n ds) []) t
+        → advance nesting_limit (before_inputs (of_object f n ds)) t ≡ advance nesting_limit (after_inputs (of_object f n ds) []) t
     undirected f n ds tok.open_brace e d = absurd (cc)
     undirected f n ds tok.at_sign e d = absurd (cc)
     undirected f n ds t e d = refl
 
-    same : (i : Inputs) (t : Tok) → Comes s t → is_at (opener i) t ≡ false → Undirected i s → advance nesting_limit (unopened i) t ≡ advance nesting_limit (after_inputs i []) t
+    same : (i : Inputs) (t : Tok) → Comes s t → is_at (opener i) t ≡ false → Undirected i s → advance nesting_limit (before_inputs i) t ≡ advance nesting_limit (after_inputs i []) t
     same (of_field f) tok.open_paren c e d = absurd (cc)
     same (of_field f) t c e d = refl
     same (of_directive f n) tok.open_paren c e d = absurd (cc)

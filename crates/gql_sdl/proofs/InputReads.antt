@@ -19,8 +19,8 @@ use Rattle.gql_syntax.specs.Spelling.{spell_type, spell_default, spell_directive
 use Rattle.gql_syntax.specs.Texts.{nesting_limit}
 use Rattle.gql_syntax.specs.declared.fault.Fault.{Fault}
 use Rattle.gql_syntax.specs.Built.{value_tree}
-use Rattle.gql_sdl.specs.Machine.{of_field, of_directive, of_object, OpenInput, TypedInput, input_type, on_input, State, inputs, input_colon, input_default, in_directives, in_type, directives_of, closed, advance, finish, input_then}
-use Rattle.gql_sdl.specs.Reads.{run_on, Read, Fails, Reads, Member, an_input, a_field, opened, Named, named, spell_named, closer, MayName, InputsAt, MayInput, inputs_at, input_at}
+use Rattle.gql_sdl.specs.Machine.{of_field, of_directive, of_object, OpenInput, TypedInput, input_type, on_input, State, inputs, input_colon, input_default, in_directives, in_type, directives_of, close, advance, finish, input_then}
+use Rattle.gql_sdl.specs.Reads.{run_on, Read, Fails, Reads, Member, an_input, a_field, open_member, Named, name_member, spell_named, closer, MayName, InputsAt, MayInput, inputs_at, input_at}
 use Rattle.gql_sdl.specs.Schemas.{Description, WrittenInput, spell_input}
 use Rattle.gql_syntax.proofs.BuiltTrees.{type_tree-ty_of, value_tree-value_of}
 use Rattle.gql_sdl.proofs.Goings.{on-token, on-name, on-sign, alike, on-type, on-default, on-directives, fails-missed, fails-behind}
@@ -55,7 +55,7 @@ abbrev MayTok : Member → Tok → Type 0
 MayTok (an_input i ws) t = is_at (closer i) t ≡ false
 MayTok (a_field f fs) t = is_at 125 t ≡ false
 
-plain-stops : (k : Member) (t : Tok) → word_of t ≡ None → is_text t ≡ false → MayTok k t → advance nesting_limit (opened k None) t ≡ Err unexpected
+plain-stops : (k : Member) (t : Tok) → word_of t ≡ None → is_text t ≡ false → MayTok k t → advance nesting_limit (open_member k None) t ≡ Err unexpected
 plain-stops (an_input i ws) (tok.name n) w x m = absurd (cc)
 plain-stops (an_input i ws) (tok.text n) w x m = absurd (cc)
 plain-stops (an_input (of_field f) ws) tok.close_paren w x m = absurd (cc)
@@ -70,11 +70,11 @@ plain-stops (a_field f fs) (tok.text n) w x m = absurd (cc)
 plain-stops (a_field f fs) tok.close_brace w x m = absurd (cc)
 plain-stops (a_field f fs) t w x m = refl
 
-closed-described : {A : Type 0} (all : List A) (d : List ℕ) (to : State) → closed all (Some d) to ≡ Err unexpected
+closed-described : {A : Type 0} (all : List A) (d : List ℕ) (to : State) → close all (Some d) to ≡ Err unexpected
 closed-described [] d to = refl
 closed-described (a ∷ more) d to = refl
 
-described-stops : (k : Member) (d : List ℕ) (t : Tok) → word_of t ≡ None → advance nesting_limit (opened k (Some d)) t ≡ Err unexpected
+described-stops : (k : Member) (d : List ℕ) (t : Tok) → word_of t ≡ None → advance nesting_limit (open_member k (Some d)) t ≡ Err unexpected
 described-stops (an_input i ws) d (tok.name n) w = absurd (cc)
 described-stops (an_input (of_field f) ws) d tok.close_paren w = closed-described ws d _
 described-stops (an_input (of_field f) ws) d tok.close_brace w = refl
@@ -87,7 +87,7 @@ described-stops (a_field f fs) d (tok.name n) w = absurd (cc)
 described-stops (a_field f fs) d tok.close_brace w = closed-described fs d _
 described-stops (a_field f fs) d t w = refl
 
-open-ends : (k : Member) (d : Description) → finish (opened k d) ≡ None
+open-ends : (k : Member) (d : Description) → finish (open_member k d) ≡ None
 open-ends (an_input i ws) d = refl
 open-ends (a_field f fs) d = refl
 
@@ -95,11 +95,11 @@ may-tok : (k : Member) (s : Source) (t : Tok) → Comes s t → MayName k s → 
 may-tok (an_input i ws) s t c m = not_at (closer i) s t c m
 may-tok (a_field f fs) s t c m = not_at 125 s t c m
 
-takes-name : (k : Member) (d : Description) (n : List ℕ) → advance nesting_limit (opened k d) (tok.name n) ≡ Ok (named k (record { description = d; title = n }))
+takes-name : (k : Member) (d : Description) (n : List ℕ) → advance nesting_limit (open_member k d) (tok.name n) ≡ Ok (name_member k (record { description = d; title = n }))
 takes-name (an_input i ws) d n = refl
 takes-name (a_field f fs) d n = refl
 
-takes-text : (k : Member) (d : List ℕ) → advance nesting_limit (opened k None) (tok.text d) ≡ Ok (opened k (Some d))
+takes-text : (k : Member) (d : List ℕ) → advance nesting_limit (open_member k None) (tok.text d) ≡ Ok (open_member k (Some d))
 takes-text (an_input i ws) d = refl
 takes-text (a_field f fs) d = refl
 
@@ -108,17 +108,17 @@ takes-text (a_field f fs) d = refl
 -- a name without a description
 pub plain-name : (a b : Ahead) (r : Result (List ℕ) Fault) → next_is_text a.source ≡ false → IfOk r (λ n. next_word a.source ≡ Some n) → OnOk r (b.source ≡ behind a.source)
     → OnOk r ((ns : List ℕ) → lay (2 ∷ ns) a ≡ lay ns b) → b.text ≡ a.text → IfErr r (λ f. Misses f (next_word a.source ≡ None) (stopped_at (length a.text) a.source))
-    → Reads MayName (λ k. opened k None) named spell_named (λ (w : Named). w.title) a b r
+    → Reads MayName (λ k. open_member k None) name_member spell_named (λ (w : Named). w.title) a b r
 plain-name a b (Ok n) x w s l t f = record {
   written = record { description = None; title = n };
   viewed = refl;
-  goes = λ k size e m. on-name size (opened k None) (named k (record { description = None; title = n })) a.source n w (takes-name k None n) ∙ ap (run_on size (named k (record { description = None; title = n }))) (sym s);
+  goes = λ k size e m. on-name size (open_member k None) (name_member k (record { description = None; title = n })) a.source n w (takes-name k None n) ∙ ap (run_on size (name_member k (record { description = None; title = n }))) (sym s);
   nodes = l;
   taken = subst (λ s. token_count s ≤ token_count a.source) (sym s) (behind-count a.source);
   text = t;
 }
 plain-name a b (Err e) x w s l t f =
-    fails-missed MayName (λ k. opened k None) a (next_word a.source ≡ None) e f
+    fails-missed MayName (λ k. open_member k None) a (next_word a.source ≡ None) e f
     (λ k m miss. (open-ends k None, λ t c. plain-stops k t (no_word a.source t c miss) (not_text a.source t c x) (may-tok k a.source t c m)))
 
 -- a name behind a description
@@ -126,29 +126,29 @@ pub described-name : (a b c : Ahead) (r : Result (List ℕ) Fault) → next_is_t
     → ((ns : List ℕ) → lay (0 ∷ ns) a ≡ lay ns b) → b.text ≡ a.text
     → IfOk r (λ n. next_word b.source ≡ Some n) → OnOk r (c.source ≡ behind b.source)
     → OnOk r ((ns : List ℕ) → lay (2 ∷ ns) b ≡ lay ns c) → c.text ≡ b.text → IfErr r (λ f. Misses f (next_word b.source ≡ None) (stopped_at (length b.text) b.source))
-    → Reads MayName (λ k. opened k None) named spell_named (λ (w : Named). w.title) a c r
+    → Reads MayName (λ k. open_member k None) name_member spell_named (λ (w : Named). w.title) a c r
 described-name a b c (Ok n) x s l t w s2 l2 t2 f =
     let d = comes_text a.source x in
     let written : Named = record { description = Some d.0; title = n } in record {
       written = written;
       viewed = refl;
-      goes = λ k size e m. on-token size (opened k None) (opened k (Some d.0)) a.source (tok.text d.0) d.1 (takes-text k d.0) ∙ ap (run_on size (opened k (Some d.0))) (sym s)
-          ∙ on-name size (opened k (Some d.0)) (named k written) b.source n w (takes-name k (Some d.0) n) ∙ ap (run_on size (named k written)) (sym s2);
+      goes = λ k size e m. on-token size (open_member k None) (open_member k (Some d.0)) a.source (tok.text d.0) d.1 (takes-text k d.0) ∙ ap (run_on size (open_member k (Some d.0))) (sym s)
+          ∙ on-name size (open_member k (Some d.0)) (name_member k written) b.source n w (takes-name k (Some d.0) n) ∙ ap (run_on size (name_member k written)) (sym s2);
       nodes = λ ns. l (2 ∷ ns) ∙ l2 ns;
       taken = omega (arith, behind-count a.source, behind-count b.source, ap token_count s, ap token_count s2);
       text = t2 ∙ t;
     }
 described-name a b c (Err e) x s l t w s2 l2 t2 f =
     let d = comes_text a.source x in
-    fails-behind MayName (λ k. opened k None) (λ (k : Member) (s : Source). Unit {0}) (λ k. opened k (Some d.0)) a b (λ k. k) t
-    (λ k size e m. on-token size (opened k None) (opened k (Some d.0)) a.source (tok.text d.0) d.1 (takes-text k d.0) ∙ ap (run_on size (opened k (Some d.0))) (sym s))
+    fails-behind MayName (λ k. open_member k None) (λ (k : Member) (s : Source). Unit {0}) (λ k. open_member k (Some d.0)) a b (λ k. k) t
+    (λ k size e m. on-token size (open_member k None) (open_member k (Some d.0)) a.source (tok.text d.0) d.1 (takes-text k d.0) ∙ ap (run_on size (open_member k (Some d.0))) (sym s))
     (λ k m. tt) e
-    (fails-missed (λ (k : Member) (s : Source). Unit {0}) (λ k. opened k (Some d.0)) b (next_word b.source ≡ None) e f
+    (fails-missed (λ (k : Member) (s : Source). Unit {0}) (λ k. open_member k (Some d.0)) b (next_word b.source ≡ None) e f
     (λ k m miss. (open-ends k (Some d.0), λ t c. described-stops k d.0 t (no_word b.source t c miss))))
 
 -- ---- inputs
 
-module _ (a b : Ahead) (n : List ℕ) (r : Read MayName (λ k. opened k None) named spell_named (λ (w : Named). w.title) a b n) where
+module _ (a b : Ahead) (n : List ℕ) (r : Read MayName (λ k. open_member k None) name_member spell_named (λ (w : Named). w.title) a b n) where
   abbrev pub open_input : InputsAt → OpenInput
   open_input k = record { inputs = k.inputs; before = k.before; description = r.written.description; title = n }
 
@@ -239,13 +239,13 @@ input_colon-stops : (i : OpenInput) (t : Tok) → is_at 58 t ≡ false → advan
 input_colon-stops i tok.colon e = absurd (cc)
 input_colon-stops i t e = refl
 
-module _ (a b : Ahead) (n : List ℕ) (r : Read MayName (λ k. opened k None) named spell_named (λ (w : Named). w.title) a b n) (f : Fault) where
+module _ (a b : Ahead) (n : List ℕ) (r : Read MayName (λ k. open_member k None) name_member spell_named (λ (w : Named). w.title) a b n) (f : Fault) where
   pub input-no_colon : Misses f (next_is 58 b.source ≡ false) (stopped_at (length b.text) b.source) → Fails MayInput inputs_at a f
   input-no_colon m =
       fails-behind MayInput inputs_at (λ (i : OpenInput) (s : Source). Unit {0}) (λ i. input_colon i) a b (open_input a b n r) r.text (to_colon a b n r) (λ k m. tt) f
       (fails-missed (λ (i : OpenInput) (s : Source). Unit {0}) (λ i. input_colon i) b (next_is 58 b.source ≡ false) f m
       (λ i x miss. (refl, λ t c. input_colon-stops i t (not_at 58 b.source t c miss))))
 
-pub input-no_name : (a : Ahead) (f : Fault) → Fails MayName (λ k. opened k None) a f → Fails MayInput inputs_at a f
+pub input-no_name : (a : Ahead) (f : Fault) → Fails MayName (λ k. open_member k None) a f → Fails MayInput inputs_at a f
 input-no_name a f h =
-    fails-behind MayInput inputs_at MayName (λ k. opened k None) a a (λ k. an_input k.inputs k.before) refl (λ k size z m. refl) (λ k m. m) f h
+    fails-behind MayInput inputs_at MayName (λ k. open_member k None) a a (λ k. an_input k.inputs k.before) refl (λ k size z m. refl) (λ k m. m) f h

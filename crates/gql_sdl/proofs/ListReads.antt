@@ -13,7 +13,7 @@ use Rattle.gql_syntax.specs.Texts.{nesting_limit}
 use Rattle.gql_syntax.specs.Words.{on_word}
 use Rattle.gql_syntax.specs.declared.fault.Fault.{Fault}
 use Rattle.gql_sdl.specs.Machine.{Front, Fielded, Listing, implementing, uniting, locating, listing_then, listing_more_of, listing_name, location_of, implements_word, repeatable_word, State, head, entitled, listing, listing_led, listing_more, listing_next, directive_on, directives_of, on_fielded, heading_of, front_then, at_directives, advance, finish}
-use Rattle.gql_sdl.specs.Reads.{run_on, Read, Fails, Reads, Anywhere, Led, Names, for_type, for_union, names_listing, names_separator, MayList, before_names, behind_names, spell_names, NamesAt, led, MayLead, MayNames, led_names, behind_led_names, before_implements, behind_implements, Uniting, before_union_members, behind_union_members, NoDirective, Locating, before_repeatable, repeated, before_locations, behind_locations, LocatingAt, MayLocate, led_locating, behind_led_locations, spell_led, spell_locations}
+use Rattle.gql_sdl.specs.Reads.{run_on, Read, Fails, Reads, Anywhere, Led, Names, for_type, for_union, names_listing, names_separator, MayList, before_names, behind_names, spell_names, NamesAt, lead, MayLead, MayNames, led_names, behind_led_names, before_implements, behind_implements, Uniting, before_union_members, behind_union_members, NoDirective, Locating, before_repeatable, set_repeatable, before_locations, behind_locations, LocatingAt, MayLocate, led_locating, behind_led_locations, spell_led, spell_locations}
 use Rattle.gql_sdl.specs.Schemas.{location_word, NotEmpty, union, spell_separated, spell_implements, spell_members_part, spell_repeatable}
 use Rattle.gql_sdl.proofs.Goings.{on-name, on-sign, alike, fails-behind, fails-missed, fails-stopped}
 use Rattle.gql_sdl.proofs.InputReads.{behind-count}
@@ -37,7 +37,7 @@ names_separated separator = record {
 }
 
 names-first : (names : Names) (leading : Bool) (n : List ℕ)
-    → advance nesting_limit (led leading (names_listing names [])) (tok.name n) ≡ Ok (listing_more leading (names_listing names (n ∷ [])))
+    → advance nesting_limit (lead leading (names_listing names [])) (tok.name n) ≡ Ok (listing_more leading (names_listing names (n ∷ [])))
 names-first (for_type f k m) true n = refl
 names-first (for_type f k m) false n = refl
 names-first (for_union f m ds) true n = refl
@@ -58,16 +58,16 @@ name-wanted leading l (tok.name n) e = absurd (cc)
 name-wanted leading l t e = refl
 
 names-no_first : (names : Names) (leading : Bool) (t : Tok) → word_of t ≡ None → (leading ≡ false → is_at (names_separator names) t ≡ false)
-    → advance nesting_limit (led leading (names_listing names [])) t ≡ Err unexpected
+    → advance nesting_limit (lead leading (names_listing names [])) t ≡ Err unexpected
 names-no_first names true t w s = name-wanted true (names_listing names []) t w
 names-no_first (for_type f k m) false tok.ampersand w s = let h = s refl in absurd (cc)
 names-no_first (for_type f k m) false t w s = name-wanted false (implementing f k m []) t w
 names-no_first (for_union f m ds) false tok.bar w s = let h = s refl in absurd (cc)
 names-no_first (for_union f m ds) false t w s = name-wanted false (uniting f m ds []) t w
 
-unled : (separator : ℕ) (leading : Bool) (s : Source) (t : Tok) → Comes s t → MayLead separator leading s → leading ≡ false → is_at separator t ≡ false
-unled separator true s t c m e = absurd (cc)
-unled separator false s t c m e = not_at separator s t c m
+has_no_lead : (separator : ℕ) (leading : Bool) (s : Source) (t : Tok) → Comes s t → MayLead separator leading s → leading ≡ false → is_at separator t ≡ false
+has_no_lead separator true s t c m e = absurd (cc)
+has_no_lead separator false s t c m e = not_at separator s t c m
 
 names-end : (names : Names) (leading : Bool) (ns : List (List ℕ)) (t : Tok) → is_at (names_separator names) t ≡ false
     → advance nesting_limit (listing_more leading (names_listing names ns)) t ≡ advance nesting_limit (behind_names names (record { leading = leading; all = ns })) t
@@ -81,7 +81,7 @@ names-finish : (names : Names) (leading : Bool) (ns : List (List ℕ))
 names-finish (for_type f k m) leading ns = refl
 names-finish (for_union f m ds) leading ns = refl
 
-led-unfinished : (leading : Bool) (l : Listing) → finish (led leading l) ≡ None
+led-unfinished : (leading : Bool) (l : Listing) → finish (lead leading l) ≡ None
 led-unfinished true l = refl
 led-unfinished false l = refl
 
@@ -91,7 +91,7 @@ names_laws separator = record {
   takes_separator = λ k s ws m. subst (λ c. advance nesting_limit (listing_more k.leading (names_listing k.names ws)) (punctuator_of c) ≡ Ok (listing_next k.leading (names_listing k.names ws))) m.0
       (names-separator k.names k.leading ws);
   takes_next = λ k ws w. names-next k.names k.leading ws w;
-  no_first = λ k s m miss t c. names-no_first k.names k.leading t (no_word s t c miss) (λ e. subst (λ o. is_at o t ≡ false) (sym m.0) (unled separator k.leading s t c m.1 e));
+  no_first = λ k s m miss t c. names-no_first k.names k.leading t (no_word s t c miss) (λ e. subst (λ o. is_at o t ≡ false) (sym m.0) (has_no_lead separator k.leading s t c m.1 e));
   no_next = λ k ws s miss t c. name-wanted k.leading (names_listing k.names ws) t (no_word s t c miss);
   unfinished_first = λ k. led-unfinished k.leading (names_listing k.names []);
   unfinished_next = λ k ws. refl;
@@ -285,7 +285,7 @@ located-name : (k : LocatingAt) (leading : Bool) (ls : List Location) (l : Locat
 located-name k leading ls l =
     ap (λ o. listing_more_of leading (option_map (λ l. locations_of k (ls ++ l ∷ [])) o)) (location_of-location l)
 
-locations-first : (k : LocatingAt) (leading : Bool) (l : Location) → advance nesting_limit (led leading (locations_of k [])) (tok.name (location_word l)) ≡ Ok (listing_more leading (locations_of k (l ∷ [])))
+locations-first : (k : LocatingAt) (leading : Bool) (l : Location) → advance nesting_limit (lead leading (locations_of k [])) (tok.name (location_word l)) ≡ Ok (listing_more leading (locations_of k (l ∷ [])))
 locations-first k true l = located-name k true [] l
 locations-first k false l = located-name k false [] l
 
@@ -307,7 +307,7 @@ location-wanted k leading ls s miss t c = on_cases (word-cases s t c)
     on_cases (inr w) = ap (λ t. listing_name leading (locations_of k ls) t) w.1 ∙ unlocated-name k leading ls w.0 (no-location s miss w.0 w.2)
 
 locations-no_first : (k : LocatingAt) (leading : Bool) (t : Tok) → (leading ≡ false → is_at 124 t ≡ false) → listing_name leading (locations_of k []) t ≡ Err unexpected
-    → advance nesting_limit (led leading (locations_of k [])) t ≡ Err unexpected
+    → advance nesting_limit (lead leading (locations_of k [])) t ≡ Err unexpected
 locations-no_first k true t s h = h
 locations-no_first k false tok.bar s h = let e = s refl in absurd (cc)
 locations-no_first k false t s h = h
@@ -321,7 +321,7 @@ locations_laws = record {
   takes_first = λ k l. locations-first k k.leading l;
   takes_separator = λ k s ls m. refl;
   takes_next = λ k ls l. located-name k k.leading ls l;
-  no_first = λ k s m miss t c. locations-no_first k k.leading t (unled 124 k.leading s t c m) (location-wanted k k.leading [] s miss t c);
+  no_first = λ k s m miss t c. locations-no_first k k.leading t (has_no_lead 124 k.leading s t c m) (location-wanted k k.leading [] s miss t c);
   no_next = λ k ls s miss t c. location-wanted k k.leading ls s miss t c;
   unfinished_first = λ k. led-unfinished k.leading (locations_of k []);
   unfinished_next = λ k ls. refl;
@@ -374,40 +374,40 @@ locations-unled-fail a f n h =
 -- ---- `repeatable` and `on`
 
 pub on-read : (a b : Ahead) → next_word a.source ≡ Some on_word → b.source ≡ behind a.source → ((ns : List ℕ) → lay (0 ∷ ns) a ≡ lay ns b) → b.text ≡ a.text
-    → Read Anywhere before_repeatable repeated (λ (r : Bool) (ns : List ℕ). spell_repeatable node_count r (0 ∷ ns)) (λ r. r) a b false
+    → Read Anywhere before_repeatable set_repeatable (λ (r : Bool) (ns : List ℕ). spell_repeatable node_count r (0 ∷ ns)) (λ r. r) a b false
 on-read a b n s l t = record {
   written = false;
   viewed = refl;
-  goes = λ k size z m. on-name size (before_repeatable k) (repeated k false) a.source on_word n refl ∙ ap (run_on size (repeated k false)) (sym s);
+  goes = λ k size z m. on-name size (before_repeatable k) (set_repeatable k false) a.source on_word n refl ∙ ap (run_on size (set_repeatable k false)) (sym s);
   nodes = l;
   taken = subst (λ s. token_count s ≤ token_count a.source) (sym s) (behind-count a.source);
   text = t;
 }
 
-abbrev marked : Locating → State
-marked k = directive_on k.front k.title k.arguments true
+abbrev with_repeatable : Locating → State
+with_repeatable k = directive_on k.front k.title k.arguments true
 
 pub repeatable-read : (a b c : Ahead) → next_word a.source ≡ Some repeatable_word → b.source ≡ behind a.source → ((ns : List ℕ) → lay (0 ∷ ns) a ≡ lay ns b) → b.text ≡ a.text
     → next_word b.source ≡ Some on_word → c.source ≡ behind b.source → ((ns : List ℕ) → lay (0 ∷ ns) b ≡ lay ns c) → c.text ≡ b.text
-    → Read Anywhere before_repeatable repeated (λ (r : Bool) (ns : List ℕ). spell_repeatable node_count r (0 ∷ ns)) (λ r. r) a c true
+    → Read Anywhere before_repeatable set_repeatable (λ (r : Bool) (ns : List ℕ). spell_repeatable node_count r (0 ∷ ns)) (λ r. r) a c true
 repeatable-read a b c n s l t n2 s2 l2 t2 = record {
   written = true;
   viewed = refl;
-  goes = λ k size z m. on-name size (before_repeatable k) (marked k) a.source repeatable_word n refl ∙ ap (run_on size (marked k)) (sym s)
-      ∙ on-name size (marked k) (repeated k true) b.source on_word n2 refl ∙ ap (run_on size (repeated k true)) (sym s2);
+  goes = λ k size z m. on-name size (before_repeatable k) (with_repeatable k) a.source repeatable_word n refl ∙ ap (run_on size (with_repeatable k)) (sym s)
+      ∙ on-name size (with_repeatable k) (set_repeatable k true) b.source on_word n2 refl ∙ ap (run_on size (set_repeatable k true)) (sym s2);
   nodes = λ ns. l (0 ∷ ns) ∙ l2 ns;
   taken = omega (arith, ap token_count s, ap token_count s2, behind-count a.source, behind-count b.source);
   text = t2 ∙ t;
 }
 
-marked-stops : (k : Locating) (t : Tok) → ((m : List ℕ) → t ≡ tok.name m → bytes_eq m on_word ≡ false) → advance nesting_limit (marked k) t ≡ Err unexpected
-marked-stops k (tok.name m) h = ap (λ b. cond b (Ok (repeated k true)) (Err unexpected)) (h m refl)
+marked-stops : (k : Locating) (t : Tok) → ((m : List ℕ) → t ≡ tok.name m → bytes_eq m on_word ≡ false) → advance nesting_limit (with_repeatable k) t ≡ Err unexpected
+marked-stops k (tok.name m) h = ap (λ b. cond b (Ok (set_repeatable k true)) (Err unexpected)) (h m refl)
 marked-stops k t h = refl
 
 unlocated-stops : (k : Locating) (t : Tok) → ((m : List ℕ) → t ≡ tok.name m → bytes_eq m repeatable_word ≡ false) → ((m : List ℕ) → t ≡ tok.name m → bytes_eq m on_word ≡ false)
     → advance nesting_limit (before_repeatable k) t ≡ Err unexpected
 unlocated-stops k (tok.name m) h g =
-    ap (λ b. cond b (Ok (marked k)) (cond (bytes_eq m on_word) (Ok (repeated k false)) (Err unexpected))) (h m refl) ∙ ap (λ b. cond b (Ok (repeated k false)) (Err unexpected)) (g m refl)
+    ap (λ b. cond b (Ok (with_repeatable k)) (cond (bytes_eq m on_word) (Ok (set_repeatable k false)) (Err unexpected))) (h m refl) ∙ ap (λ b. cond b (Ok (set_repeatable k false)) (Err unexpected)) (g m refl)
 unlocated-stops k t h g = refl
 
 -- the word does not come
@@ -425,9 +425,9 @@ other-word s w n t c m same = on_test (bytes_eq m w) refl
 pub repeatable-no_on : (a b : Ahead) (f : Fault) → next_word a.source ≡ Some repeatable_word → b.source ≡ behind a.source → b.text ≡ a.text
     → Misses f (next_word b.source ≢ Some on_word) (stopped_at (length b.text) b.source) → Fails Anywhere before_repeatable a f
 repeatable-no_on a b f n s t m =
-    fails-behind Anywhere before_repeatable (λ (k : Locating) (s : Source). Unit {0}) marked a b (λ k. k) t
-    (λ k size z m. on-name size (before_repeatable k) (marked k) a.source repeatable_word n refl ∙ ap (run_on size (marked k)) (sym s)) (λ k m. tt) f
-    (fails-missed (λ (k : Locating) (s : Source). Unit {0}) marked b (next_word b.source ≢ Some on_word) f m
+    fails-behind Anywhere before_repeatable (λ (k : Locating) (s : Source). Unit {0}) with_repeatable a b (λ k. k) t
+    (λ k size z m. on-name size (before_repeatable k) (with_repeatable k) a.source repeatable_word n refl ∙ ap (run_on size (with_repeatable k)) (sym s)) (λ k m. tt) f
+    (fails-missed (λ (k : Locating) (s : Source). Unit {0}) with_repeatable b (next_word b.source ≢ Some on_word) f m
     (λ k z miss. (refl, λ t c. marked-stops k t (other-word b.source on_word miss t c))))
 
 pub no_on : (a : Ahead) (f : Fault) → next_word a.source ≢ Some repeatable_word → Misses f (next_word a.source ≢ Some on_word) (stopped_at (length a.text) a.source) → Fails Anywhere before_repeatable a f

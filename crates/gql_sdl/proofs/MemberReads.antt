@@ -22,8 +22,8 @@ use Rattle.gql_syntax.specs.Spelling.{spell_type, spell_directives}
 use Rattle.gql_syntax.specs.Texts.{nesting_limit}
 use Rattle.gql_syntax.specs.Words.{kind_word}
 use Rattle.gql_syntax.specs.declared.fault.Fault.{Fault}
-use Rattle.gql_sdl.specs.Machine.{Front, Fields, OpenField, ArguedField, of_field, Values, OpenValue, Typed, field_type, Owner, on_field, on_value, State, fields, field_arguments, field_colon, enum_values, roots, root_colon, root_name, in_directives, in_type, directives_of, closed, after_inputs, field_then, value_then, advance, is_reserved, kind_of, open_root}
-use Rattle.gql_sdl.specs.Reads.{run_on, Read, Fails, Reads, a_field, opened, Named, named, spell_named, MayName, MayOpen, unopened, FieldsAt, fields_at, field_at, MayField, NoDirective, before_fields, behind_fields, ValuesAt, values_at, value_at, behind_value_name, before_values, behind_values, RootsOf, RootsAt, roots_at, root_at, unopened_roots, closed_roots}
+use Rattle.gql_sdl.specs.Machine.{Front, Fields, OpenField, ArguedField, of_field, Values, OpenValue, Typed, field_type, Owner, on_field, on_value, State, fields, field_arguments, field_colon, enum_values, roots, root_colon, root_name, in_directives, in_type, directives_of, close, after_inputs, field_then, value_then, advance, is_reserved, kind_of, open_root}
+use Rattle.gql_sdl.specs.Reads.{run_on, Read, Fails, Reads, a_field, open_member, Named, name_member, spell_named, MayName, MayOpen, before_inputs, FieldsAt, fields_at, field_at, MayField, NoDirective, before_fields, behind_fields, ValuesAt, values_at, value_at, behind_value_name, before_values, behind_values, RootsOf, RootsAt, roots_at, root_at, unopened_roots, closed_roots}
 use Rattle.gql_sdl.specs.Schemas.{Description, WrittenField, WrittenValue, NotEmpty, spell_argument_defs, spell_field, spell_fields, spell_fields_part, spell_enum_value, spell_enum_values, spell_enum_values_part, spell_roots, inputs_of, field_of}
 use Rattle.gql_syntax.proofs.BuiltTrees.{type_tree-ty_of}
 use Rattle.gql_sdl.proofs.Fronts.{fields-then, values-then, roots-then}
@@ -38,11 +38,11 @@ field_colon-stops : (a : ArguedField) (t : Tok) → is_at 58 t ≡ false → adv
 field_colon-stops a tok.colon e = absurd (cc)
 field_colon-stops a t e = refl
 
-pub field-no_name : (a : Ahead) (f : Fault) → Fails MayName (λ k. opened k None) a f → Fails MayField fields_at a f
+pub field-no_name : (a : Ahead) (f : Fault) → Fails MayName (λ k. open_member k None) a f → Fails MayField fields_at a f
 field-no_name a f h =
-    fails-behind MayField fields_at MayName (λ k. opened k None) a a (λ (k : FieldsAt). a_field k.fields k.before) refl (λ k size z m. refl) (λ k m. m) f h
+    fails-behind MayField fields_at MayName (λ k. open_member k None) a a (λ (k : FieldsAt). a_field k.fields k.before) refl (λ k size z m. refl) (λ k m. m) f h
 
-module _ (a b : Ahead) (n : List ℕ) (r : Read MayName (λ k. opened k None) named spell_named (λ (w : Named). w.title) a b n) where
+module _ (a b : Ahead) (n : List ℕ) (r : Read MayName (λ k. open_member k None) name_member spell_named (λ (w : Named). w.title) a b n) where
   abbrev pub open_field : FieldsAt → OpenField
   open_field k = record { fields = k.fields; before = k.before; description = r.written.description; title = n }
 
@@ -51,11 +51,11 @@ module _ (a b : Ahead) (n : List ℕ) (r : Read MayName (λ k. opened k None) na
       r.goes (a_field k.fields k.before) size e m
       ∙ ap (λ n. run_on size (field_arguments (record { fields = k.fields; before = k.before; description = r.written.description; title = n })) b.source) r.viewed
 
-  pub field-no_arguments : (f : Fault) → Fails (MayOpen 40 41) unopened b f → Fails MayField fields_at a f
+  pub field-no_arguments : (f : Fault) → Fails (MayOpen 40 41) before_inputs b f → Fails MayField fields_at a f
   field-no_arguments f h =
-      fails-behind MayField fields_at (MayOpen 40 41) unopened a b (λ k. of_field (open_field k)) r.text to_arguments (λ k m. (refl, refl, tt)) f h
+      fails-behind MayField fields_at (MayOpen 40 41) before_inputs a b (λ k. of_field (open_field k)) r.text to_arguments (λ k m. (refl, refl, tt)) f h
 
-  module _ (c : Ahead) (args : List InputTree) (q : Read (MayOpen 40 41) unopened after_inputs (spell_argument_defs node_count) inputs_of b c args) where
+  module _ (c : Ahead) (args : List InputTree) (q : Read (MayOpen 40 41) before_inputs after_inputs (spell_argument_defs node_count) inputs_of b c args) where
     abbrev pub argued_field : FieldsAt → ArguedField
     argued_field k = record { field = open_field k; arguments = q.written }
 
@@ -131,7 +131,7 @@ module _ (a b : Ahead) (n : List ℕ) (r : Read MayName (λ k. opened k None) na
 
 -- ---- lists of fields
 
-fields-closed : {A : Type 0} (all : List A) (to : State) → NotEmpty all → closed all None to ≡ Ok to
+fields-closed : {A : Type 0} (all : List A) (to : State) → NotEmpty all → close all None to ≡ Ok to
 fields-closed [] to h = absurd h
 fields-closed (a ∷ all) to h = refl
 
@@ -191,7 +191,7 @@ value-stops k (tok.text n) w x m = absurd (cc)
 value-stops k tok.close_brace w x m = absurd (cc)
 value-stops k t w x m = refl
 
-closed-described : {A : Type 0} (all : List A) (d : List ℕ) (to : State) → closed all (Some d) to ≡ Err unexpected
+closed-described : {A : Type 0} (all : List A) (d : List ℕ) (to : State) → close all (Some d) to ≡ Err unexpected
 closed-described [] d to = refl
 closed-described (a ∷ more) d to = refl
 

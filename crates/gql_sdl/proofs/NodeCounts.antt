@@ -1,6 +1,6 @@
 -- A schema has as many places as nodes.
 use Rattle.std.proofs.Common.{◌≡◌, ℕ, ◌+◌, Bool, true, false, List, [], ◌∷◌, length, map, Some, None, refl, sym, ap, ◌∙◌, arith}
-use Rattle.gql_lex.specs.Sources.{lexed}
+use Rattle.gql_lex.specs.Sources.{lex_from}
 use Rattle.gql_lex.specs.Toks as tok
 use Rattle.gql_lex.specs.Toks.{Tok}
 use Rattle.gql_ast.specs.TypeView.{ty_of}
@@ -181,7 +181,7 @@ place_count file text p s =
     let counts : length (nodes_of ws) ≡ length (schemas.tokens ws) =
     same_count (λ (x : Tok × ℕ). x.0) (λ (x : Tok × ℕ). x.1) (spell_definitions both 1 ws) (schemas.tokens ws) (nodes_of ws)
     (map-definitions (λ (x : Tok × ℕ). x.0) both 1 ws) (map-definitions (λ (x : Tok × ℕ). x.1) both 1 ws) in
-    let e = placed_count file text (nodes_of ws) (lexed 0 text) [] (schemas.tokens ws) s.tree.tokens counts in
+    let e = placed_count file text (nodes_of ws) (lex_from 0 text) [] (schemas.tokens ws) s.tree.tokens counts in
     ap (λ ps. length ps) s.tree.places ∙ e ∙ none (total (nodes_of ws)) ∙ schema_total ws s.tree.formed.0 ∙ ap (λ ds. 1 + definitions_nodes ds) (sym s.definitions)
   where
     none : (n : ℕ) → 0 + n ≡ n

@@ -7,7 +7,7 @@ use Rattle.gql_ast.specs.Ty.{Ty}
 use Rattle.gql_syntax.proofs.DirectiveLaws.{directives_sound, directives_shallow, directives_seated, directives_deep, directives_lift_step, directives_lift_unexpected, directives_lift_too_deep, lift_directives_level, lift_directives_so_far, lift_directives_seated}
 use Rattle.gql_syntax.proofs.Laws.{Leveled, Laws, Written, Stepped, Finishes}
 use Rattle.gql_syntax.proofs.Outcomes.{finishes}
-use Rattle.gql_syntax.proofs.Standing.{leveled, GroundLaws, Lifts, Opens, IfTooDeep}
+use Rattle.gql_syntax.proofs.Standing.{mark_level, GroundLaws, Lifts, Opens, IfTooDeep}
 use Rattle.gql_syntax.proofs.TypeLaws.{type_sound, type_shallow, type_seated, type_deep, type_lift_step, type_lift_unexpected, type_lift_too_deep, lift_type_level, lift_type_so_far, lift_type_seated}
 use Rattle.gql_syntax.proofs.ValueLaws.{from_ok, value_sound, value_shallow, value_seated, value_deep, value_lift_step, value_lift_unexpected, value_lift_too_deep, lift_value_level, lift_value_so_far, lift_value_seated}
 use Rattle.gql_syntax.specs.FirstFault.{Grammar, Shallow}
@@ -146,16 +146,16 @@ shallow limit (in_type y) t next h e =
 shallow limit (in_value r) t next h e = value_shallow default_ground in_value behind_default limit r t next h e
 shallow limit s t next h e = omega arith
 
-seated : (limit : ℕ) (s : State) (t : Tok) (next : State) → Seated limit s → advance limit s t ≡ Ok next → Seated limit next
-seated limit (in_directives d) t next h e =
+keeps_seat : (limit : ℕ) (s : State) (t : Tok) (next : State) → Seated limit s → advance limit s t ≡ Ok next → Seated limit next
+keeps_seat limit (in_directives d) t next h e =
     directives_seated owner_ground (λ o t. 0) limit in_directives after_directives (Seated limit) (λ r h. h)
     (λ o ds t h f. if-seated limit _ t 0 (after_directives o ds t) (after-goes limit o ds t h f)) d t next h e
-seated limit (in_type y) t next h e =
+keeps_seat limit (in_type y) t next h e =
     type_seated typed_ground (λ y t. 0) in_type typed_state (after_type limit) limit (Seated limit) (λ r h. h) (λ y t h f. typed_state-seated limit y t h f)
     (λ y t x h f. if-seated limit _ x 0 (after_type limit y t x) (after_type-goes limit y t x h f)) y t next h e
-seated limit (in_value r) t next h e =
+keeps_seat limit (in_value r) t next h e =
     value_seated default_ground in_value behind_default limit (Seated limit) (λ r h. h) (λ i v h f. valued-seated limit i v h f) r t next h e
-seated limit s t next h e = own-seated limit s t next tt h e
+keeps_seat limit s t next h e = own-seated limit s t next tt h e
 
 deep : (limit : ℕ) (s : State) (t : Tok) → Seated limit s → advance limit s t ≡ Err too_deep → limit < level_at s t
 deep limit (in_directives d) t h e =
@@ -197,18 +197,18 @@ lift_unexpected k limit s t e = rises-unexpected k (advance limit s t) (advance 
 abbrev Opened : (limit : ℕ) → State → Tok → Type 0
 Opened limit s t = Stepped machine (1 + limit) (lift 1 s) t
 
-opened : (limit : ℕ) (s : State) (t : Tok) → ((next : State) × (advance (1 + limit) (lift 1 s) t ≡ Ok next)) → Opened limit s t
-opened limit s t h = record { next = h.0; stepped = h.1 }
+opens : (limit : ℕ) (s : State) (t : Tok) → ((next : State) × (advance (1 + limit) (lift 1 s) t ≡ Ok next)) → Opened limit s t
+opens limit s t h = record { next = h.0; stepped = h.1 }
 
 lift_too_deep : (limit : ℕ) (s : State) (t : Tok) → advance limit s t ≡ Err too_deep → Opened limit s t
 lift_too_deep limit (in_directives d) t e =
-    opened limit (in_directives d) t (directives_lift_too_deep owner_ground (λ o t. 0) limit in_directives after_directives after_directives
+    opens limit (in_directives d) t (directives_lift_too_deep owner_ground (λ o t. 0) limit in_directives after_directives after_directives
     (λ o ds t. rises-opens 1 (after_directives o ds t) (after_directives o ds t) (after-keeps 1 o ds t)) d t e)
 lift_too_deep limit (in_type y) t e =
-    opened limit (in_type y) t (type_lift_too_deep typed_ground (λ y t. 0) in_type typed_state (after_type limit) typed_state (after_type (1 + limit))
+    opens limit (in_type y) t (type_lift_too_deep typed_ground (λ y t. 0) in_type typed_state (after_type limit) typed_state (after_type (1 + limit))
     (λ y t x. rises-opens 1 (after_type limit y t x) (after_type (1 + limit) y t x) (after_type-rises 1 limit y t x)) y t e)
 lift_too_deep limit (in_value r) t e =
-    opened limit (in_value r) t (value_lift_too_deep default_ground in_value behind_default behind_default r t e)
+    opens limit (in_value r) t (value_lift_too_deep default_ground in_value behind_default behind_default r t e)
 lift_too_deep limit s t e = rises-not_deep 1 (advance limit s t) (advance (1 + limit) s t) _ (own-rises 1 limit s t tt) e
 
 lift_so_far : (k : ℕ) (s : State) (ts : List Leveled) → so_far (lift k s) ts ≡ so_far s ts
@@ -238,11 +238,11 @@ lift_finish k (in_type y) = refl
 lift_finish k (in_value r) = refl
 lift_finish k s = refl
 
-written : (limit : ℕ) (s : State) (v : List Described) → Seated limit s → finish s ≡ Some v → Written neat machine s v
-written limit s v h e =
+finish_writes : (limit : ℕ) (s : State) (v : List Described) → Seated limit s → finish s ≡ Some v → Written neat machine s v
+finish_writes limit s v h e =
     let w = finish-whole limit s v h e in record {
-      tokens = ap (map (λ (p : Leveled). p.0)) w.spelled ∙ map-definitions (λ (p : Leveled). p.0) leveled 1 v;
-      levels = ap (map (λ (p : Leveled). p.1)) w.spelled ∙ map-definitions (λ (p : Leveled). p.1) leveled 1 v;
+      tokens = ap (map (λ (p : Leveled). p.0)) w.spelled ∙ map-definitions (λ (p : Leveled). p.0) mark_level 1 v;
+      levels = ap (map (λ (p : Leveled). p.1)) w.spelled ∙ map-definitions (λ (p : Leveled). p.1) mark_level 1 v;
       formed = λ f. (w.not_empty, neat_forms v w.formed (definitions_forms 1 v (written_shapes v w.formed) f));
     }
 
@@ -256,9 +256,9 @@ laws = record {
   empty = λ limit ts. refl;
   sound = sound;
   shallow = shallow;
-  seated = seated;
+  seated = keeps_seat;
   deep = deep;
-  written = written;
+  written = finish_writes;
   lift_start = λ k limit. refl;
   lift_step = lift_step;
   lift_unexpected = lift_unexpected;

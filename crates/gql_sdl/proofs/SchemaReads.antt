@@ -2,7 +2,7 @@
 use Rattle.std.proofs.Common.{◌≡◌, ◌<◌, ◌⊎◌, inl, inr, ℕ, ◌+◌, Bool, true, false, List, [], ◌∷◌, ◌++◌, map, length, Some, None, slice_index, Result, Ok, Err, IsUtf8, refl, sym, ap, subst, ◌∙◌}
 use Rattle.std.specs.List.{AllByRecursion}
 use Rattle.gql_lex.specs.Lines.{place_at}
-use Rattle.gql_lex.specs.Sources.{Source, ended, faulty, token, lexed}
+use Rattle.gql_lex.specs.Sources.{Source, ended, faulty, token, lex_from}
 use Rattle.gql_lex.specs.Toks as tok
 use Rattle.gql_lex.specs.Toks.{Tok, tok_of_piece}
 use Rattle.gql_ast.specs.declared.fault.ParseFault.{ParseFault}
@@ -45,8 +45,8 @@ neatly (enum n ds vs) = enum n ds vs
 neatly (input n ds ws) = input n ds ws
 neatly (directive n ws repeatable leading ls) = directive n ws repeatable leading ls
 
-abbrev tidied : Described → Described
-tidied d = record { description = d.description; written = neatly d.written }
+abbrev tidy : Described → Described
+tidy d = record { description = d.description; written = neatly d.written }
 
 leads-led : {A : Type 0} (b : Bool) (all : List A) → Led (leads b all) all
 leads-led b [] = tt
@@ -83,7 +83,7 @@ neatly-same (enum n ds vs) = refl
 neatly-same (input n ds ws) = refl
 neatly-same (directive n ws repeatable leading ls) = refl
 
-tidied-formed : (ds : List Described) → AllByRecursion (λ d. FormedWritten d.written) ds → AllByRecursion FormedDescribed (map tidied ds)
+tidied-formed : (ds : List Described) → AllByRecursion (λ d. FormedWritten d.written) ds → AllByRecursion FormedDescribed (map tidy ds)
 tidied-formed [] h = tt
 tidied-formed (d ∷ ds) h = ((neatly-formed d.written h.0, neatly-neat d.written), tidied-formed ds h.1)
 
@@ -91,13 +91,13 @@ formed-schema : (v : List Described) → AllByRecursion FormedDescribed v → Al
 formed-schema [] h = tt
 formed-schema (d ∷ ds) h = (h.0.0, formed-schema ds h.1)
 
-tidied-some : (ds : List Described) → NotEmpty ds → NotEmpty (map tidied ds)
+tidied-some : (ds : List Described) → NotEmpty ds → NotEmpty (map tidy ds)
 tidied-some [] h = h
 tidied-some (d ∷ ds) h = tt
 
-tidied-same : (ds : List Described) → map definition_of (map tidied ds) ≡ map definition_of ds
+tidied-same : (ds : List Described) → map definition_of (map tidy ds) ≡ map definition_of ds
 tidied-same [] = refl
-tidied-same (d ∷ ds) = ap (λ x. x ∷ map definition_of (map tidied ds)) (neatly-same d.written) ∙ ap (λ xs. definition_of d ∷ xs) (tidied-same ds)
+tidied-same (d ∷ ds) = ap (λ x. x ∷ map definition_of (map tidy ds)) (neatly-same d.written) ∙ ap (λ xs. definition_of d ∷ xs) (tidied-same ds)
 
 module _ {X : Type 0} (mark : Mark X) where
   implements-neat : (b : Bool) (ns : List (List ℕ)) (ts : List X) → spell_implements mark (leads b ns) ns ts ≡ spell_implements mark b ns ts
@@ -122,22 +122,22 @@ module _ {X : Type 0} (mark : Mark X) where
   described-neat above None w ts = written-neat (above + 1) w ts
   described-neat above (Some d) w ts = ap (λ xs. mark (tok.text d) 0 (above + 1) ∷ xs) (written-neat 0 w ts)
 
-  definitions-neat : (above : ℕ) (ds : List Described) → spell_definitions mark above (map tidied ds) ≡ spell_definitions mark above ds
+  definitions-neat : (above : ℕ) (ds : List Described) → spell_definitions mark above (map tidy ds) ≡ spell_definitions mark above ds
   definitions-neat above [] = refl
   definitions-neat above (d ∷ ds) =
-      described-neat above d.description d.written (spell_definitions mark 0 (map tidied ds))
+      described-neat above d.description d.written (spell_definitions mark 0 (map tidy ds))
       ∙ ap (spell_described mark above d.description d.written) (definitions-neat 0 ds)
 
-tokens-neat : (v : List Described) → schemas.tokens (map tidied v) ≡ schemas.tokens v
+tokens-neat : (v : List Described) → schemas.tokens (map tidy v) ≡ schemas.tokens v
 tokens-neat v = definitions-neat (λ t l n. t) 1 v
 
-levels-neat : (v : List Described) → schemas.levels (map tidied v) ≡ schemas.levels v
+levels-neat : (v : List Described) → schemas.levels (map tidy v) ≡ schemas.levels v
 levels-neat v = definitions-neat (λ t l n. l) 1 v
 
-nodes-neat : (v : List Described) → nodes_of (map tidied v) ≡ nodes_of v
+nodes-neat : (v : List Described) → nodes_of (map tidy v) ≡ nodes_of v
 nodes-neat v = definitions-neat (λ t l n. n) 1 v
 
-spells-neat : (ts : List Tok) (v : List Described) → Spells schemas ts v → Spells neat ts (map tidied v)
+spells-neat : (ts : List Tok) (v : List Described) → Spells schemas ts v → Spells neat ts (map tidy v)
 spells-neat ts v s = record { spelled = tokens-neat v ∙ s.spelled; formed = (tidied-some v s.formed.0, tidied-formed v s.formed.1) }
 
 spells-any : (ts : List Tok) (v : List Described) → Spells neat ts v → Spells schemas ts v
@@ -149,18 +149,18 @@ begins-any : (limit : ℕ) (ts : List Tok) → Begins neat limit ts → Begins s
 begins-any limit ts b = record { behind = b.behind; tree = b.tree; spells = spells-any (ts ++ b.behind) b.tree b.spells; shallow = b.shallow }
 
 unexpected-any : (ts : List Tok) (t : Tok) → Unexpected neat ts t → Unexpected schemas ts t
-unexpected-any ts t u behind v s = u behind (map tidied v) (spells-neat (ts ++ t ∷ behind) v s)
+unexpected-any ts t u behind v s = u behind (map tidy v) (spells-neat (ts ++ t ∷ behind) v s)
 
 too_deep-any : (limit : ℕ) (ts : List Tok) (t : Tok) → TooDeep neat limit ts t → TooDeep schemas limit ts t
 too_deep-any limit ts t d = record {
   behind = d.behind;
   tree = d.tree;
   spells = spells-any (ts ++ t ∷ d.behind) d.tree d.spells;
-  deep = λ more v s. subst (λ ls. limit < slice_index ls (length ts)) (levels-neat v) (d.deep more (map tidied v) (spells-neat (ts ++ t ∷ more) v s));
+  deep = λ more v s. subst (λ ls. limit < slice_index ls (length ts)) (levels-neat v) (d.deep more (map tidy v) (spells-neat (ts ++ t ∷ more) v s));
 }
 
 ahead-any : (limit size : ℕ) (ts : List Tok) (rest : Source) (code at : ℕ) → FaultAhead neat limit size ts rest code at → FaultAhead schemas limit size ts rest code at
-ahead-any limit size ts ended code at h = (h.0, h.1, λ v s. h.2 (map tidied v) (spells-neat ts v s))
+ahead-any limit size ts ended code at h = (h.0, h.1, λ v s. h.2 (map tidy v) (spells-neat ts v s))
 ahead-any limit size ts (faulty c a) code at h = h
 ahead-any limit size ts (token p rest) code at h = (h.0, on_case h.1)
   where
@@ -178,13 +178,13 @@ parse-any file text (parse.Syntax f) h = (h.0, on_case h.1)
   where
     on_case : NoText text f ⊎ FaultAtOffset neat text f → NoText text f ⊎ FaultAtOffset schemas text f
     on_case (inl x) = inl x
-    on_case (inr x) = inr (record { at = x.at; utf8 = x.utf8; first = first-any nesting_limit (length text) (lexed 0 text) f.code x.at x.first; line = x.line; column = x.column })
+    on_case (inr x) = inr (record { at = x.at; utf8 = x.utf8; first = first-any nesting_limit (length text) (lex_from 0 text) f.code x.at x.first; line = x.line; column = x.column })
 
 -- ---- the public call
 
 -- the cursor at the start of a text
 abbrev pub at_start : (file : ℕ) → List ℕ → Ahead
-at_start file text = record { file = file; text = text; source = lexed 0 text; places = [] }
+at_start file text = record { file = file; text = text; source = lex_from 0 text; places = [] }
 
 pub schema-found : (file : ℕ) (text : List ℕ) (end : Ahead) (ds : List SchemaDef) → IsUtf8 text → ReadSchema (at_start file text) end ds
     → IsSchema file text (record { tree = record { definitions = ds }; places = end.places })
@@ -196,24 +196,24 @@ schema-found file text end ds u r =
     }
 
 -- a schema of the text is read
-tree-read : (file : ℕ) (text : List ℕ) (p : Placed SchemaTree) (s : IsSchema file text p) → read_text neat machine laws text ≡ Ok (map tidied s.written)
+tree-read : (file : ℕ) (text : List ℕ) (p : Placed SchemaTree) (s : IsSchema file text p) → read_text neat machine laws text ≡ Ok (map tidy s.written)
 tree-read file text p s =
-    tree_only neat machine laws nodes_of file text (map tidied s.written) p.places (record {
+    tree_only neat machine laws nodes_of file text (map tidy s.written) p.places (record {
       utf8 = s.tree.utf8;
       tokens = s.tree.tokens ∙ ap (λ ts. Some ts) (sym (tokens-neat s.written));
       formed = (tidied-some s.written s.tree.formed.0, tidied-formed s.written s.tree.formed.1);
       shallow = subst (Shallow nesting_limit) (sym (levels-neat s.written)) s.tree.shallow;
-      places = s.tree.places ∙ ap (λ ns. place_nodes file text [] ns (lexed 0 text)) (sym (nodes-neat s.written));
+      places = s.tree.places ∙ ap (λ ns. place_nodes file text [] ns (lex_from 0 text)) (sym (nodes-neat s.written));
     })
 
 pub schema-only : (file : ℕ) (text : List ℕ) (end : Ahead) (ds : List SchemaDef) (p : Placed SchemaTree) → ReadSchema (at_start file text) end ds → IsSchema file text p
     → record { tree = record { definitions = ds }; places = end.places } ≡ p
 schema-only file text end ds p r s =
-    let both : Ok r.written ≡ Ok (map tidied s.written) = sym (r.read (length text) refl) ∙ tree-read file text p s in
-    let same : r.written ≡ map tidied s.written = cc in
+    let both : Ok r.written ≡ Ok (map tidy s.written) = sym (r.read (length text) refl) ∙ tree-read file text p s in
+    let same : r.written ≡ map tidy s.written = cc in
     let trees : ds ≡ p.tree.definitions = sym r.viewed ∙ ap (λ ws. map definition_of ws) same ∙ tidied-same s.written ∙ sym s.definitions in
     let places : end.places ≡ p.places =
-    sym r.nodes ∙ ap (λ ws. place_nodes file text [] (nodes_of ws) (lexed 0 text)) same ∙ ap (λ ns. place_nodes file text [] ns (lexed 0 text)) (nodes-neat s.written) ∙ sym s.tree.places in
+    sym r.nodes ∙ ap (λ ws. place_nodes file text [] (nodes_of ws) (lex_from 0 text)) same ∙ ap (λ ns. place_nodes file text [] ns (lex_from 0 text)) (nodes-neat s.written) ∙ sym s.tree.places in
     λ i. record { tree = record { definitions = trees i }; places = places i }
 
 -- a text with a fault is no schema
@@ -223,7 +223,7 @@ no-both r a e p q = absurd (cc)
 pub fault-only : (file : ℕ) (text : List ℕ) (f : Fault) (p : Placed SchemaTree) → Fails {K = Unit {0}} Anywhere start (at_start file text) f → IsSchema file text p
     → fault_in file text f ≡ parse.NoMemory
 fault-only file text (Wrong code at) p h s =
-    absurd (no-both (read_text neat machine laws text) (map tidied s.written) (code, at) (h tt (length text) refl tt) (tree-read file text p s))
+    absurd (no-both (read_text neat machine laws text) (map tidy s.written) (code, at) (h tt (length text) refl tt) (tree-read file text p s))
 fault-only file text NoMemory p h s = refl
 
 pub fault-found : (file : ℕ) (text : List ℕ) (f : Fault) → IsUtf8 text → Fails {K = Unit {0}} Anywhere start (at_start file text) f → IsParseFault schemas file text (fault_in file text f)
@@ -239,10 +239,10 @@ fault-lies file text NoMemory u h = tt
 -- a text has at most one tree
 pub one-schema : (file : ℕ) (text : List ℕ) (p q : Placed SchemaTree) → IsSchema file text p → IsSchema file text q → p ≡ q
 one-schema file text p q s z =
-    let both : Ok (map tidied s.written) ≡ Ok (map tidied z.written) = sym (tree-read file text p s) ∙ tree-read file text q z in
-    let same : map tidied s.written ≡ map tidied z.written = cc in
+    let both : Ok (map tidy s.written) ≡ Ok (map tidy z.written) = sym (tree-read file text p s) ∙ tree-read file text q z in
+    let same : map tidy s.written ≡ map tidy z.written = cc in
     let trees : p.tree.definitions ≡ q.tree.definitions =
     s.definitions ∙ sym (tidied-same s.written) ∙ ap (λ ws. map definition_of ws) same ∙ tidied-same z.written ∙ sym z.definitions in
     let places : p.places ≡ q.places =
-    s.tree.places ∙ ap (λ ns. place_nodes file text [] ns (lexed 0 text)) (sym (nodes-neat s.written) ∙ ap nodes_of same ∙ nodes-neat z.written) ∙ sym z.tree.places in
+    s.tree.places ∙ ap (λ ns. place_nodes file text [] ns (lex_from 0 text)) (sym (nodes-neat s.written) ∙ ap nodes_of same ∙ nodes-neat z.written) ∙ sym z.tree.places in
     λ i. record { tree = record { definitions = trees i }; places = places i }

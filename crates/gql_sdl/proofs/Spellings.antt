@@ -6,7 +6,7 @@ use Rattle.gql_ast.specs.declared.document.Kind.TheVariants as K
 use Rattle.gql_ast.specs.declared.location.Location.{Location}
 use Rattle.gql_ast.specs.declared.location.Location.TheVariants as L
 use Rattle.gql_syntax.specs.Words.{kind_word, IsEnumName, true_word, false_word, null_word}
-use Rattle.gql_sdl.specs.Machine.{an_object, an_interface, a_scalar, with_fields, a_union, an_enum, an_input, Word, a_schema, titled, a_directive, spelled, find_by, words, word_of, kinds, kind_of, all_locations, location_of, is_reserved}
+use Rattle.gql_sdl.specs.Machine.{an_object, an_interface, a_scalar, with_fields, a_union, an_enum, an_input, Word, a_schema, titled, a_directive, word_text, find_by, words, word_of, kinds, kind_of, all_locations, location_of, is_reserved}
 use Rattle.gql_sdl.specs.Schemas.{location_word}
 
 pub same_word : (m n : List ℕ) → bytes_eq m n ≡ true → m ≡ n
@@ -22,8 +22,8 @@ module _ {A : Type 0} (word : A → List ℕ) where
   told_by-word [] n a e = absurd (cc)
   told_by-word (b ∷ more) n a e = on_test b more n a (bytes_eq n (word b)) (same_word n (word b)) (told_by-word more n a) e
 
-pub word_of-word : (n : List ℕ) (w : Word) → word_of n ≡ Some w → n ≡ spelled w
-word_of-word n w e = told_by-word spelled words n w e
+pub word_of-word : (n : List ℕ) (w : Word) → word_of n ≡ Some w → n ≡ word_text w
+word_of-word n w e = told_by-word word_text words n w e
 
 pub kind_of-word : (n : List ℕ) (k : Kind) → kind_of n ≡ Some k → n ≡ kind_word k
 kind_of-word n k e = told_by-word kind_word kinds n k e
@@ -31,7 +31,7 @@ kind_of-word n k e = told_by-word kind_word kinds n k e
 pub location_of-word : (n : List ℕ) (l : Location) → location_of n ≡ Some l → n ≡ location_word l
 location_of-word n l e = told_by-word location_word all_locations n l e
 
-pub word_of-spelled : (w : Word) → word_of (spelled w) ≡ Some w
+pub word_of-spelled : (w : Word) → word_of (word_text w) ≡ Some w
 word_of-spelled a_schema = refl
 word_of-spelled (titled a_scalar) = refl
 word_of-spelled (titled (with_fields an_object)) = refl

@@ -3,12 +3,12 @@ use Rattle.std.proofs.Common.{ℕ, true, List, ◌∷◌, codes}
 use Rattle.gql_lex.specs.Toks as tok
 use Rattle.gql_lex.specs.Toks.{Tok}
 use Rattle.gql_syntax.proofs.Laws.{Leveled, Machine}
-use Rattle.gql_syntax.proofs.Standing.{leveled, Ground, value_level, value_so_far, lift_value, SeatedValue, directives_level, directives_so_far, lift_directives, SeatedDirectives, type_level, type_so_far, lift_type, SeatedType}
+use Rattle.gql_syntax.proofs.Standing.{mark_level, Ground, value_level, value_so_far, lift_value, SeatedValue, directives_level, directives_so_far, lift_directives, SeatedDirectives, type_level, type_so_far, lift_type, SeatedType}
 use Rattle.gql_syntax.proofs.Shapes.{ShapedDirectives}
 use Rattle.gql_syntax.specs.Spelling.{spell_directives}
 use Rattle.gql_syntax.specs.Words.{kind_word}
 use Rattle.std.specs.List.{AllByRecursion}
-use Rattle.gql_sdl.specs.Machine.{titled_word, fielded_word, Owner, TypedInput, Typed, no_front, State, head, title, entitled, directive_sign, directive_title, directive_arguments, directive_on, listing, listing_led, listing_more, listing_next, roots, root_colon, root_name, fields, field_arguments, field_colon, inputs, input_colon, input_default, enum_values, in_directives, in_type, in_value, advance, finish, listed, separator}
+use Rattle.gql_sdl.specs.Machine.{titled_word, fielded_word, Owner, TypedInput, Typed, no_front, State, head, title, entitled, directive_sign, directive_title, directive_arguments, directive_on, listing, listing_led, listing_more, listing_next, roots, root_colon, root_name, fields, field_arguments, field_colon, inputs, input_colon, input_default, enum_values, in_directives, in_type, in_value, advance, finish, listing_names, separator}
 use Rattle.gql_sdl.specs.Schemas.{Described, NotEmpty, spell_description, spell_inputs, spell_argument_defs, spell_fields, spell_enum_values, spell_roots, spell_repeatable}
 use Rattle.gql_sdl.proofs.Shapes.{ShapedInput, ShapedField, ShapedEnumValue}
 use Rattle.gql_sdl.proofs.Fronts.{flat, head_front, fields_front, field_front, argued_front, inputs_front, input_front, typed_input_front, values_front, typed_front, owner_front, listing_front, listed_front}
@@ -37,26 +37,26 @@ so_far (directive_title f) ts = head_front f (flat (tok.name (codes "directive")
 so_far (directive_arguments f n) ts = head_front f (flat (tok.name (codes "directive")) ∷ flat tok.at_sign ∷ flat (tok.name n) ∷ ts)
 so_far (directive_on f n ws repeatable) ts =
     head_front f (flat (tok.name (codes "directive")) ∷ flat tok.at_sign ∷ flat (tok.name n)
-    ∷ spell_argument_defs leveled ws (spell_repeatable leveled repeatable ts))
+    ∷ spell_argument_defs mark_level ws (spell_repeatable mark_level repeatable ts))
 so_far (listing l) ts = listing_front l ts
 so_far (listing_led l) ts = listing_front l (flat (separator l) ∷ ts)
 so_far (listing_more leading l) ts = listed_front leading l ts
 so_far (listing_next leading l) ts = listed_front leading l (flat (separator l) ∷ ts)
 so_far (roots f ds rs) ts =
-    head_front f (flat (tok.name (codes "schema")) ∷ spell_directives leveled ds (flat tok.open_brace ∷ spell_roots leveled rs ts))
+    head_front f (flat (tok.name (codes "schema")) ∷ spell_directives mark_level ds (flat tok.open_brace ∷ spell_roots mark_level rs ts))
 so_far (root_colon f ds rs k) ts =
-    head_front f (flat (tok.name (codes "schema")) ∷ spell_directives leveled ds (flat tok.open_brace
-    ∷ spell_roots leveled rs (flat (tok.name (kind_word k)) ∷ ts)))
+    head_front f (flat (tok.name (codes "schema")) ∷ spell_directives mark_level ds (flat tok.open_brace
+    ∷ spell_roots mark_level rs (flat (tok.name (kind_word k)) ∷ ts)))
 so_far (root_name f ds rs k) ts =
-    head_front f (flat (tok.name (codes "schema")) ∷ spell_directives leveled ds (flat tok.open_brace
-    ∷ spell_roots leveled rs (flat (tok.name (kind_word k)) ∷ flat tok.colon ∷ ts)))
-so_far (fields f fs d) ts = fields_front f (spell_fields leveled fs (spell_description leveled d ts))
+    head_front f (flat (tok.name (codes "schema")) ∷ spell_directives mark_level ds (flat tok.open_brace
+    ∷ spell_roots mark_level rs (flat (tok.name (kind_word k)) ∷ flat tok.colon ∷ ts)))
+so_far (fields f fs d) ts = fields_front f (spell_fields mark_level fs (spell_description mark_level d ts))
 so_far (field_arguments f) ts = field_front f ts
 so_far (field_colon a) ts = argued_front a ts
-so_far (inputs i ws d) ts = inputs_front i (spell_inputs leveled ws (spell_description leveled d ts))
+so_far (inputs i ws d) ts = inputs_front i (spell_inputs mark_level ws (spell_description mark_level d ts))
 so_far (input_colon i) ts = input_front i ts
 so_far (input_default i) ts = typed_input_front i ts
-so_far (enum_values v vs d) ts = values_front v (spell_enum_values leveled vs (spell_description leveled d ts))
+so_far (enum_values v vs d) ts = values_front v (spell_enum_values mark_level vs (spell_description mark_level d ts))
 so_far (in_directives d) ts = directives_so_far owner_ground d ts
 so_far (in_type y) ts = type_so_far typed_ground y ts
 so_far (in_value r) ts = value_so_far default_ground r ts
@@ -81,10 +81,10 @@ Seated limit (directive_sign f) = FrontSeat f
 Seated limit (directive_title f) = FrontSeat f
 Seated limit (directive_arguments f n) = FrontSeat f
 Seated limit (directive_on f n ws repeatable) = FrontSeat f × AllByRecursion ShapedInput ws
-Seated limit (listing l) = ListingSeat l × IsEmpty (listed l)
-Seated limit (listing_led l) = ListingSeat l × IsEmpty (listed l)
-Seated limit (listing_more leading l) = ListingSeat l × NotEmpty (listed l)
-Seated limit (listing_next leading l) = ListingSeat l × NotEmpty (listed l)
+Seated limit (listing l) = ListingSeat l × IsEmpty (listing_names l)
+Seated limit (listing_led l) = ListingSeat l × IsEmpty (listing_names l)
+Seated limit (listing_more leading l) = ListingSeat l × NotEmpty (listing_names l)
+Seated limit (listing_next leading l) = ListingSeat l × NotEmpty (listing_names l)
 Seated limit (roots f ds rs) = FrontSeat f × ShapedDirectives true ds
 Seated limit (root_colon f ds rs k) = FrontSeat f × ShapedDirectives true ds
 Seated limit (root_name f ds rs k) = FrontSeat f × ShapedDirectives true ds

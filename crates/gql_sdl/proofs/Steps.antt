@@ -12,13 +12,13 @@ use Rattle.gql_ast.specs.declared.document.Kind.{Kind}
 use Rattle.gql_ast.specs.declared.location.Location.{Location}
 use Rattle.gql_ast.specs.declared.schema.Root.{Root}
 use Rattle.gql_syntax.proofs.Laws.{Leveled}
-use Rattle.gql_syntax.proofs.Standing.{leveled}
+use Rattle.gql_syntax.proofs.Standing.{mark_level}
 use Rattle.gql_syntax.proofs.Shapes.{ShapedDirectives, ShapedType, ShapedValue}
 use Rattle.gql_syntax.specs.Machine.{at_name, want, outer, want_type, whole}
 use Rattle.gql_syntax.specs.Run.{Halt, unexpected, too_deep}
 use Rattle.gql_syntax.specs.Spelling.{spell_directives, spell_type, spell_value}
 use Rattle.gql_syntax.specs.Words.{on_word, kind_word}
-use Rattle.gql_sdl.specs.Machine.{Fielded, an_object, an_interface, Titled, a_scalar, with_fields, a_union, an_enum, an_input, Word, a_schema, titled, a_directive, spelled, word_of, kind_of, location_of, implements_word, repeatable_word, is_reserved, Front, Heading, Fields, Inputs, of_field, of_directive, of_object, TypedInput, Values, Typed, input_type, field_type, Owner, on_schema, on_scalar, on_fielded, on_union, on_enum, on_object, on_input, on_field, on_value, Listing, implementing, uniting, locating, listed, separator, listing_then, State, head, title, entitled, directive_sign, directive_title, directive_arguments, directive_on, listing, listing_led, listing_more, listing_next, roots, root_colon, root_name, fields, field_arguments, field_colon, inputs, input_colon, input_default, enum_values, in_directives, in_type, in_value, front_then, fielded_written, heading_then, heading_of, field_then, input_then, value_then, directives_of, describe, begin_definition, at_head, entitle, closed, at_fields, close_parens, close_braces, at_inputs, at_values, open_root, at_roots, after_directives, at_directives, after_listing, listing_more_of, listing_name, at_repeatable, at_entitled, at_default, typed_state, after_type, behind_default, advance}
+use Rattle.gql_sdl.specs.Machine.{Fielded, an_object, an_interface, Titled, a_scalar, with_fields, a_union, an_enum, an_input, Word, a_schema, titled, a_directive, word_text, word_of, kind_of, location_of, implements_word, repeatable_word, is_reserved, Front, Heading, Fields, Inputs, of_field, of_directive, of_object, TypedInput, Values, Typed, input_type, field_type, Owner, on_schema, on_scalar, on_fielded, on_union, on_enum, on_object, on_input, on_field, on_value, Listing, implementing, uniting, locating, listing_names, separator, listing_then, State, head, title, entitled, directive_sign, directive_title, directive_arguments, directive_on, listing, listing_led, listing_more, listing_next, roots, root_colon, root_name, fields, field_arguments, field_colon, inputs, input_colon, input_default, enum_values, in_directives, in_type, in_value, front_then, fielded_written, heading_then, heading_of, field_then, input_then, value_then, directives_of, describe, begin_definition, at_head, entitle, close, at_fields, close_parens, close_braces, at_inputs, at_values, open_root, at_roots, after_directives, at_directives, after_listing, listing_more_of, listing_name, at_repeatable, at_entitled, at_default, typed_state, after_type, behind_default, advance}
 use Rattle.gql_sdl.specs.Schemas.{location_word, Description, WrittenInput, WrittenField, WrittenValue, Written, schema, scalar, union, enum, input, directive, NotEmpty, spell_description, spell_inputs, spell_fields, spell_enum_values, spell_leading, spell_further, spell_written}
 use Rattle.gql_sdl.proofs.Shapes.{ShapedInput, ShapedField, ShapedEnumValue, ShapedWritten}
 use Rattle.gql_sdl.proofs.Fronts.{flat, definitions_front, head_front, fields_front, argued_front, inputs_front, input_front, typed_input_front, values_front, typed_front, owner_front, listing_front, listed_front, inputs-then, fields-then, values-then, roots-then, further-then, front-then, heading-then}
@@ -60,12 +60,12 @@ module _ (limit : ℕ) where
   -- ---- definitions
 
   described-goes : (front : List Leveled → List Leveled) (d : Description) (e : List ℕ) (to : Description → State)
-      → ((d : Description) (ts : List Leveled) → so_far (to d) ts ≡ front (spell_description leveled d ts)) → ((d : Description) → Seated limit (to d))
-      → Goes limit (λ ts. front (spell_description leveled d ts)) (tok.text e) 0 (describe d e to)
+      → ((d : Description) (ts : List Leveled) → so_far (to d) ts ≡ front (spell_description mark_level d ts)) → ((d : Description) → Seated limit (to d))
+      → Goes limit (λ ts. front (spell_description mark_level d ts)) (tok.text e) 0 (describe d e to)
   described-goes front None e to s h = goes _ _ (to (Some e)) (s (Some e)) (h (Some e))
   described-goes front (Some d) e to s h = tt
 
-  begin-goes : (f : Front) (n : List ℕ) (w : Option Word) → ((a : Word) → w ≡ Some a → n ≡ spelled a) → FrontSeat f
+  begin-goes : (f : Front) (n : List ℕ) (w : Option Word) → ((a : Word) → w ≡ Some a → n ≡ word_text a) → FrontSeat f
       → Goes limit (head_front f) (tok.name n) 0 (begin_definition f w)
   begin-goes f n None same h = tt
   begin-goes f n (Some a_schema) same h =
@@ -83,7 +83,7 @@ module _ (limit : ℕ) where
 
   -- a definition is whole
   whole-goes : (front : List Leveled → List Leveled) (f : Front) (w : Written) (t : Tok)
-      → ((ts : List Leveled) → head_front f (spell_written leveled 0 w ts) ≡ front ts) → FrontSeat f → ShapedWritten w → Neat w
+      → ((ts : List Leveled) → head_front f (spell_written mark_level 0 w ts) ≡ front ts) → FrontSeat f → ShapedWritten w → Neat w
       → Goes limit front t 0 (at_head (front_then f w) t)
   whole-goes front f w t e h k n =
       goes-moves limit (head_front (front_then f w)) front t 0 (at_head (front_then f w) t) (λ ts. front-then f w ts ∙ e ts)
@@ -113,7 +113,7 @@ module _ (limit : ℕ) where
       s.0 (fielded-formed h.kind h.title h.leading h.implements ds fs s.1 d f)
 
   close_fields-goes : (f : Fields) (fs : List WrittenField) (d : Description) → FieldsSeat f → AllByRecursion ShapedField fs
-      → Goes limit (λ ts. so_far (fields f fs d) ts) tok.close_brace 0 (closed fs d (head (heading_then f.heading f.directives fs)))
+      → Goes limit (λ ts. so_far (fields f fs d) ts) tok.close_brace 0 (close fs d (head (heading_then f.heading f.directives fs)))
   close_fields-goes f [] d h k = tt
   close_fields-goes f (e ∷ fs) None h k =
       goes _ _ (head (heading_then f.heading f.directives (e ∷ fs))) (λ ts. heading-then f.heading f.directives (e ∷ fs) ts)
@@ -123,7 +123,7 @@ module _ (limit : ℕ) where
   at_fields-goes : (f : Fields) (fs : List WrittenField) (d : Description) (t : Tok) → FieldsSeat f → AllByRecursion ShapedField fs
       → Goes limit (λ ts. so_far (fields f fs d) ts) t 0 (at_fields f fs d t)
   at_fields-goes f fs d (tok.text e) h k =
-      described-goes (λ ts. fields_front f (spell_fields leveled fs ts)) d e (λ d. fields f fs d) (λ d ts. refl) (λ d. (h, k))
+      described-goes (λ ts. fields_front f (spell_fields mark_level fs ts)) d e (λ d. fields f fs d) (λ d ts. refl) (λ d. (h, k))
   at_fields-goes f fs d (tok.name n) h k = goes _ _ (field_arguments (record { fields = f; before = fs; description = d; title = n })) (λ ts. refl) (h, k)
   at_fields-goes f fs d tok.close_brace h k = close_fields-goes f fs d h k
   at_fields-goes f fs d t h k = tt
@@ -151,7 +151,7 @@ module _ (limit : ℕ) where
   at_inputs-goes : (i : Inputs) (ws : List WrittenInput) (d : Description) (t : Tok) → InputsSeat i → AllByRecursion ShapedInput ws
       → Goes limit (λ ts. so_far (inputs i ws d) ts) t 0 (at_inputs i ws d t)
   at_inputs-goes i ws d (tok.text e) h k =
-      described-goes (λ ts. inputs_front i (spell_inputs leveled ws ts)) d e (λ d. inputs i ws d) (λ d ts. refl) (λ d. (h, k))
+      described-goes (λ ts. inputs_front i (spell_inputs mark_level ws ts)) d e (λ d. inputs i ws d) (λ d ts. refl) (λ d. (h, k))
   at_inputs-goes i ws d (tok.name n) h k = goes _ _ (input_colon (record { inputs = i; before = ws; description = d; title = n })) (λ ts. refl) (h, k)
   at_inputs-goes i ws d tok.close_paren h k = close_parens-goes i ws d h k
   at_inputs-goes i ws d tok.close_brace h k = close_braces-goes i ws d h k
@@ -167,7 +167,7 @@ module _ (limit : ℕ) where
       (refl, tt, (h, k, is_reserved-enum_name n e))
 
   close_values-goes : (v : Values) (vs : List WrittenValue) (d : Description) → ValuesSeat v → AllByRecursion ShapedEnumValue vs
-      → Goes limit (λ ts. so_far (enum_values v vs d) ts) tok.close_brace 0 (closed vs d (head (front_then v.front (enum v.title v.directives vs))))
+      → Goes limit (λ ts. so_far (enum_values v vs d) ts) tok.close_brace 0 (close vs d (head (front_then v.front (enum v.title v.directives vs))))
   close_values-goes v [] d h k = tt
   close_values-goes v (w ∷ vs) None h k =
       goes _ _ (head (front_then v.front (enum v.title v.directives (w ∷ vs)))) (λ ts. front-then v.front (enum v.title v.directives (w ∷ vs)) ts)
@@ -177,7 +177,7 @@ module _ (limit : ℕ) where
   at_values-goes : (v : Values) (vs : List WrittenValue) (d : Description) (t : Tok) → ValuesSeat v → AllByRecursion ShapedEnumValue vs
       → Goes limit (λ ts. so_far (enum_values v vs d) ts) t 0 (at_values v vs d t)
   at_values-goes v vs d (tok.text e) h k =
-      described-goes (λ ts. values_front v (spell_enum_values leveled vs ts)) d e (λ d. enum_values v vs d) (λ d ts. refl) (λ d. (h, k))
+      described-goes (λ ts. values_front v (spell_enum_values mark_level vs ts)) d e (λ d. enum_values v vs d) (λ d ts. refl) (λ d. (h, k))
   at_values-goes v vs d (tok.name n) h k = open_value-goes v vs d n (is_reserved n) refl h k
   at_values-goes v vs d tok.close_brace h k = close_values-goes v vs d h k
   at_values-goes v vs d t h k = tt
@@ -189,7 +189,7 @@ module _ (limit : ℕ) where
       goes _ _ (root_colon f ds rs k) (λ ts. ap (λ m. so_far (roots f ds rs) (flat (tok.name m) ∷ ts)) (sym (same k refl))) (h, d)
 
   close_roots-goes : (f : Front) (ds : List Directive) (rs : List Root) → FrontSeat f → ShapedDirectives true ds
-      → Goes limit (λ ts. so_far (roots f ds rs) ts) tok.close_brace 0 (closed rs None (head (front_then f (schema ds rs))))
+      → Goes limit (λ ts. so_far (roots f ds rs) ts) tok.close_brace 0 (close rs None (head (front_then f (schema ds rs))))
   close_roots-goes f ds [] h d = tt
   close_roots-goes f ds (r ∷ rs) h d =
       goes _ _ (head (front_then f (schema ds (r ∷ rs)))) (λ ts. front-then f (schema ds (r ∷ rs)) ts)
@@ -204,7 +204,7 @@ module _ (limit : ℕ) where
   -- ---- where directives have ended
 
   pub after-goes : (o : Owner) (ds : List Directive) (t : Tok) → OwnerSeat o → ShapedDirectives true ds
-      → Goes limit (λ ts. owner_front o (spell_directives leveled ds ts)) t 0 (after_directives o ds t)
+      → Goes limit (λ ts. owner_front o (spell_directives mark_level ds ts)) t 0 (after_directives o ds t)
   after-goes (on_schema f) ds tok.open_brace h d = goes _ _ (roots f ds []) (λ ts. refl) (h, d)
   after-goes (on_schema f) ds t h d = tt
   after-goes (on_scalar f n) ds t h d = whole-goes _ f (scalar n ds) t (λ ts. refl) h d tt
@@ -221,15 +221,15 @@ module _ (limit : ℕ) where
   after-goes (on_object f n) ds t h d = whole-goes _ f (input n ds []) t (λ ts. refl) h (d, tt) tt
   after-goes (on_input i v) ds t h d =
       goes-moves limit (λ ts. so_far (inputs i.input.inputs (input_then i v ds) None) ts) _ t 0 (at_inputs i.input.inputs (input_then i v ds) None t)
-      (λ ts. ap (inputs_front i.input.inputs) (inputs-then leveled i.input.before _ ts))
+      (λ ts. ap (inputs_front i.input.inputs) (inputs-then mark_level i.input.before _ ts))
       (at_inputs-goes i.input.inputs (input_then i v ds) None t h.0.0.0 (all-push ShapedInput i.input.before _ h.0.0.1 (h.0.1, h.1, d)))
   after-goes (on_field a u) ds t h d =
       goes-moves limit (λ ts. so_far (fields a.field.fields (field_then a u ds) None) ts) _ t 0 (at_fields a.field.fields (field_then a u ds) None t)
-      (λ ts. ap (fields_front a.field.fields) (fields-then leveled a.field.before _ ts))
+      (λ ts. ap (fields_front a.field.fields) (fields-then mark_level a.field.before _ ts))
       (at_fields-goes a.field.fields (field_then a u ds) None t h.0.0.0 (all-push ShapedField a.field.before _ h.0.0.1 (h.0.1, h.1, d)))
   after-goes (on_value v) ds t h d =
       goes-moves limit (λ ts. so_far (enum_values v.values (value_then v ds) None) ts) _ t 0 (at_values v.values (value_then v ds) None t)
-      (λ ts. ap (values_front v.values) (values-then leveled v.before _ ts))
+      (λ ts. ap (values_front v.values) (values-then mark_level v.before _ ts))
       (at_values-goes v.values (value_then v ds) None t h.0 (all-push ShapedEnumValue v.before _ h.1 (h.2, d)))
 
   pub at_directives-goes : (o : Owner) (t : Tok) → OwnerSeat o → Goes limit (owner_front o) t 0 (at_directives limit o t)
@@ -245,8 +245,8 @@ module _ (limit : ℕ) where
   option-goes front t leading f n ws repeatable ls None g = tt
   option-goes front t leading f n ws repeatable ls (Some l) g = g l refl
 
-  listing_first-goes : (leading : Bool) (l : Listing) (n : List ℕ) → ListingSeat l → IsEmpty (listed l)
-      → Goes limit (λ ts. listing_front l (spell_leading leveled (separator l) leading ts)) (tok.name n) 0 (listing_more_of leading (listing_then l n))
+  listing_first-goes : (leading : Bool) (l : Listing) (n : List ℕ) → ListingSeat l → IsEmpty (listing_names l)
+      → Goes limit (λ ts. listing_front l (spell_leading mark_level (separator l) leading ts)) (tok.name n) 0 (listing_more_of leading (listing_then l n))
   listing_first-goes leading (implementing f k m []) n h e = goes _ _ (listing_more leading (implementing f k m (n ∷ []))) (λ ts. refl) (h, tt)
   listing_first-goes leading (implementing f k m (i ∷ is)) n h e = absurd e
   listing_first-goes leading (uniting f m ds []) n h e = goes _ _ (listing_more leading (uniting f m ds (n ∷ []))) (λ ts. refl) (h, tt)
@@ -254,30 +254,30 @@ module _ (limit : ℕ) where
   listing_first-goes leading (locating f m ws repeatable []) n h e =
       option-goes _ _ leading f m ws repeatable [] (location_of n) (λ l same.
       goes _ _ (listing_more leading (locating f m ws repeatable (l ∷ [])))
-      (λ ts. ap (λ w. listing_front (locating f m ws repeatable []) (spell_leading leveled tok.bar leading (flat (tok.name w) ∷ ts)))
+      (λ ts. ap (λ w. listing_front (locating f m ws repeatable []) (spell_leading mark_level tok.bar leading (flat (tok.name w) ∷ ts)))
       (sym (location_of-word n l same))) (h, tt))
   listing_first-goes leading (locating f m ws repeatable (i ∷ is)) n h e = absurd e
 
-  listing_further-goes : (leading : Bool) (l : Listing) (n : List ℕ) → ListingSeat l → NotEmpty (listed l)
+  listing_further-goes : (leading : Bool) (l : Listing) (n : List ℕ) → ListingSeat l → NotEmpty (listing_names l)
       → Goes limit (λ ts. so_far (listing_next leading l) ts) (tok.name n) 0 (listing_more_of leading (listing_then l n))
   listing_further-goes leading (implementing f k m []) n h e = absurd e
   listing_further-goes leading (implementing f k m (i ∷ is)) n h e =
       goes _ _ (listing_more leading (implementing f k m (i ∷ is ++ n ∷ [])))
-      (λ ts. ap (λ xs. listing_front (implementing f k m []) (spell_leading leveled tok.ampersand leading (flat (tok.name i) ∷ xs)))
-      (further-then leveled tok.ampersand 0 is n ts)) (h, tt)
+      (λ ts. ap (λ xs. listing_front (implementing f k m []) (spell_leading mark_level tok.ampersand leading (flat (tok.name i) ∷ xs)))
+      (further-then mark_level tok.ampersand 0 is n ts)) (h, tt)
   listing_further-goes leading (uniting f m ds []) n h e = absurd e
   listing_further-goes leading (uniting f m ds (i ∷ is)) n h e =
       goes _ _ (listing_more leading (uniting f m ds (i ∷ is ++ n ∷ [])))
-      (λ ts. ap (λ xs. listing_front (uniting f m ds []) (spell_leading leveled tok.bar leading (flat (tok.name i) ∷ xs)))
-      (further-then leveled tok.bar 0 is n ts)) (h, tt)
+      (λ ts. ap (λ xs. listing_front (uniting f m ds []) (spell_leading mark_level tok.bar leading (flat (tok.name i) ∷ xs)))
+      (further-then mark_level tok.bar 0 is n ts)) (h, tt)
   listing_further-goes leading (locating f m ws repeatable []) n h e = absurd e
   listing_further-goes leading (locating f m ws repeatable (i ∷ is)) n h e =
       option-goes _ _ leading f m ws repeatable (i ∷ is) (location_of n) (λ l same.
       goes _ _ (listing_more leading (locating f m ws repeatable (i ∷ is ++ l ∷ [])))
-      (λ ts. ap (λ xs. listing_front (locating f m ws repeatable []) (spell_leading leveled tok.bar leading (flat (tok.name (location_word i)) ∷ xs)))
-      (ap (λ xs. spell_further leveled tok.bar 0 xs ts) (map-push location_word is l)
-      ∙ further-then leveled tok.bar 0 (map location_word is) (location_word l) ts
-      ∙ ap (λ w. spell_further leveled tok.bar 0 (map location_word is) (flat tok.bar ∷ flat (tok.name w) ∷ ts)) (sym (location_of-word n l same))))
+      (λ ts. ap (λ xs. listing_front (locating f m ws repeatable []) (spell_leading mark_level tok.bar leading (flat (tok.name (location_word i)) ∷ xs)))
+      (ap (λ xs. spell_further mark_level tok.bar 0 xs ts) (map-push location_word is l)
+      ∙ further-then mark_level tok.bar 0 (map location_word is) (location_word l) ts
+      ∙ ap (λ w. spell_further mark_level tok.bar 0 (map location_word is) (flat tok.bar ∷ flat (tok.name w) ∷ ts)) (sym (location_of-word n l same))))
       (h, tt))
 
   after_implements-goes : (leading : Bool) (f : Front) (k : Fielded) (n : List ℕ) (ns : List (List ℕ)) (t : Tok) → FrontSeat f → NotEmpty ns
@@ -286,7 +286,7 @@ module _ (limit : ℕ) where
   after_implements-goes true f k n (i ∷ is) t h e = at_directives-goes (on_fielded (heading_of f k n true (i ∷ is))) t (h, tt)
   after_implements-goes false f k n (i ∷ is) t h e = at_directives-goes (on_fielded (heading_of f k n false (i ∷ is))) t (h, tt)
 
-  after_listing-goes : (leading : Bool) (l : Listing) (t : Tok) → ListingSeat l → NotEmpty (listed l)
+  after_listing-goes : (leading : Bool) (l : Listing) (t : Tok) → ListingSeat l → NotEmpty (listing_names l)
       → Goes limit (λ ts. listed_front leading l ts) t 0 (after_listing limit leading l t)
   after_listing-goes leading (implementing f k n ns) t h e = after_implements-goes leading f k n ns t h e
   after_listing-goes leading (uniting f n ds []) t h e = absurd e
@@ -301,7 +301,7 @@ module _ (limit : ℕ) where
   name-goes leading l front (tok.name n) g = g n
   name-goes leading l front t g = tt
 
-  listing-goes : (l : Listing) (t : Tok) → ListingSeat l → IsEmpty (listed l) → Goes limit (λ ts. listing_front l ts) t 0 (advance limit (listing l) t)
+  listing-goes : (l : Listing) (t : Tok) → ListingSeat l → IsEmpty (listing_names l) → Goes limit (λ ts. listing_front l ts) t 0 (advance limit (listing l) t)
   listing-goes (implementing f k n ns) tok.ampersand h e = goes _ _ (listing_led (implementing f k n ns)) (λ ts. refl) (h, e)
   listing-goes (implementing f k n ns) t h e = name-goes false (implementing f k n ns) _ t (λ m. listing_first-goes false (implementing f k n ns) m h e)
   listing-goes (uniting f n ds ns) tok.bar h e = goes _ _ (listing_led (uniting f n ds ns)) (λ ts. refl) (h, e)
@@ -309,7 +309,7 @@ module _ (limit : ℕ) where
   listing-goes (locating f n ws r ls) tok.bar h e = goes _ _ (listing_led (locating f n ws r ls)) (λ ts. refl) (h, e)
   listing-goes (locating f n ws r ls) t h e = name-goes false (locating f n ws r ls) _ t (λ m. listing_first-goes false (locating f n ws r ls) m h e)
 
-  listing_more-goes : (leading : Bool) (l : Listing) (t : Tok) → ListingSeat l → NotEmpty (listed l)
+  listing_more-goes : (leading : Bool) (l : Listing) (t : Tok) → ListingSeat l → NotEmpty (listing_names l)
       → Goes limit (λ ts. listed_front leading l ts) t 0 (advance limit (listing_more leading l) t)
   listing_more-goes leading (implementing f k n ns) tok.ampersand h e = goes _ _ (listing_next leading (implementing f k n ns)) (λ ts. refl) (h, e)
   listing_more-goes leading (implementing f k n ns) t h e = after_listing-goes leading (implementing f k n ns) t h e
@@ -350,20 +350,20 @@ module _ (limit : ℕ) where
 
   -- what stands behind a type
   pub after_type-goes : (y : Typed) (t : Ty) (x : Tok) → TypedSeat y → ShapedType t
-      → Goes limit (λ ts. typed_front y (spell_type leveled t 0 0 ts)) x 0 (after_type limit y t x)
+      → Goes limit (λ ts. typed_front y (spell_type mark_level t 0 0 ts)) x 0 (after_type limit y t x)
   after_type-goes (input_type i) t x h k =
       goes-moves limit (typed_input_front (record { input = i; of = type_tree t })) _ x 0 (at_default limit (record { input = i; of = type_tree t }) x)
-      (λ ts. ap (λ t. input_front i (flat tok.colon ∷ spell_type leveled t 0 0 ts)) (ty_of-type_tree t))
+      (λ ts. ap (λ t. input_front i (flat tok.colon ∷ spell_type mark_level t 0 0 ts)) (ty_of-type_tree t))
       (at_default-goes (record { input = i; of = type_tree t }) x (h, subst ShapedType (sym (ty_of-type_tree t)) k))
   after_type-goes (field_type a) t x h k =
       goes-moves limit (owner_front (on_field a (type_tree t))) _ x 0 (at_directives limit (on_field a (type_tree t)) x)
-      (λ ts. ap (λ t. argued_front a (flat tok.colon ∷ spell_type leveled t 0 0 ts)) (ty_of-type_tree t))
+      (λ ts. ap (λ t. argued_front a (flat tok.colon ∷ spell_type mark_level t 0 0 ts)) (ty_of-type_tree t))
       (at_directives-goes (on_field a (type_tree t)) x (h, subst ShapedType (sym (ty_of-type_tree t)) k))
 
   -- the state behind a type
-  pub typed_state-front : (y : Typed) (t : Ty) (ts : List Leveled) → so_far (typed_state y t) ts ≡ typed_front y (spell_type leveled t 0 0 ts)
-  typed_state-front (input_type i) t ts = ap (λ t. input_front i (flat tok.colon ∷ spell_type leveled t 0 0 ts)) (ty_of-type_tree t)
-  typed_state-front (field_type a) t ts = ap (λ t. argued_front a (flat tok.colon ∷ spell_type leveled t 0 0 ts)) (ty_of-type_tree t)
+  pub typed_state-front : (y : Typed) (t : Ty) (ts : List Leveled) → so_far (typed_state y t) ts ≡ typed_front y (spell_type mark_level t 0 0 ts)
+  typed_state-front (input_type i) t ts = ap (λ t. input_front i (flat tok.colon ∷ spell_type mark_level t 0 0 ts)) (ty_of-type_tree t)
+  typed_state-front (field_type a) t ts = ap (λ t. argued_front a (flat tok.colon ∷ spell_type mark_level t 0 0 ts)) (ty_of-type_tree t)
 
   pub typed_state-seated : (y : Typed) (t : Ty) → TypedSeat y → ShapedType t → Seated limit (typed_state y t)
   typed_state-seated (input_type i) t h k = (h, subst ShapedType (sym (ty_of-type_tree t)) k)
@@ -371,8 +371,8 @@ module _ (limit : ℕ) where
 
   -- the state behind a value
   pub valued-front : (i : TypedInput) (v : Val) (ts : List Leveled)
-      → so_far (behind_default i v) ts ≡ typed_input_front i (flat tok.equals ∷ spell_value leveled v 0 ts)
-  valued-front i v ts = ap (λ v. typed_input_front i (flat tok.equals ∷ spell_value leveled v 0 ts)) (value_of-value_tree v)
+      → so_far (behind_default i v) ts ≡ typed_input_front i (flat tok.equals ∷ spell_value mark_level v 0 ts)
+  valued-front i v ts = ap (λ v. typed_input_front i (flat tok.equals ∷ spell_value mark_level v 0 ts)) (value_of-value_tree v)
 
   pub valued-seated : (i : TypedInput) (v : Val) → TypedInputSeat i → ShapedValue true v → Seated limit (behind_default i v)
   valued-seated i v h k = (refl, tt, (h, subst (ShapedValue true) (sym (value_of-value_tree v)) k))
@@ -400,8 +400,8 @@ module _ (limit : ℕ) where
   own-goes (root_colon f ds rs k) t o h = tt
   own-goes (root_name f ds rs k) (tok.name n) o h =
       goes _ _ (roots f ds (rs ++ record { kind = k; name = n } ∷ []))
-      (λ ts. ap (λ xs. head_front f (flat (tok.name (codes "schema")) ∷ spell_directives leveled ds (flat tok.open_brace ∷ xs)))
-      (roots-then leveled rs (record { kind = k; name = n }) ts)) h
+      (λ ts. ap (λ xs. head_front f (flat (tok.name (codes "schema")) ∷ spell_directives mark_level ds (flat tok.open_brace ∷ xs)))
+      (roots-then mark_level rs (record { kind = k; name = n }) ts)) h
   own-goes (root_name f ds rs k) t o h = tt
   own-goes (fields f fs d) t o h = at_fields-goes f fs d t h.0 h.1
   own-goes (field_arguments f) tok.open_paren o h = goes _ _ (inputs (of_field f) [] None) (λ ts. refl) (h, tt)

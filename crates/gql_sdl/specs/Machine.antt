@@ -50,10 +50,10 @@ titled_word a_union = codes "union"
 titled_word an_enum = codes "enum"
 titled_word an_input = codes "input"
 
-abbrev pub spelled : Word → List ℕ
-spelled a_schema = codes "schema"
-spelled (titled k) = titled_word k
-spelled a_directive = codes "directive"
+abbrev pub word_text : Word → List ℕ
+word_text a_schema = codes "schema"
+word_text (titled k) = titled_word k
+word_text a_directive = codes "directive"
 
 -- what is told by the first of these words that is the name
 abbrev pub find_by : {A : Type 0} → (word : A → List ℕ) → List A → List ℕ → Option A
@@ -66,7 +66,7 @@ words =
     ∷ titled an_input ∷ a_directive ∷ []
 
 abbrev pub word_of : List ℕ → Option Word
-word_of n = find_by spelled words n
+word_of n = find_by word_text words n
 
 abbrev pub kinds : List Kind
 kinds = K.Query ∷ K.Mutation ∷ K.Subscription ∷ []
@@ -186,10 +186,10 @@ pub data Listing : Type 0 where
   uniting : Front → List ℕ → List Directive → List (List ℕ) → Listing
   locating : Front → List ℕ → List WrittenInput → (repeatable : Bool) → List Location → Listing
 
-abbrev pub listed : Listing → List (List ℕ)
-listed (implementing f k n ns) = ns
-listed (uniting f n ds ns) = ns
-listed (locating f n ws repeatable ls) = map location_word ls
+abbrev pub listing_names : Listing → List (List ℕ)
+listing_names (implementing f k n ns) = ns
+listing_names (uniting f n ds ns) = ns
+listing_names (locating f n ws repeatable ls) = map location_word ls
 
 abbrev pub separator : Listing → Tok
 separator (implementing f k n ns) = tok.ampersand
@@ -296,15 +296,15 @@ entitle f an_enum n = directives_of (on_enum f n)
 entitle f an_input n = directives_of (on_object f n)
 
 -- what stands between braces or parentheses is not nothing, and the last of it has what its description asks for
-abbrev pub closed : {A : Type 0} → List A → Description → State → Result State Halt
-closed [] d to = Err unexpected
-closed (a ∷ more) None to = Ok to
-closed (a ∷ more) (Some d) to = Err unexpected
+abbrev pub close : {A : Type 0} → List A → Description → State → Result State Halt
+close [] d to = Err unexpected
+close (a ∷ more) None to = Ok to
+close (a ∷ more) (Some d) to = Err unexpected
 
 abbrev pub at_fields : Fields → List WrittenField → Description → Tok → Result State Halt
 at_fields f fs d (tok.text e) = describe d e (λ d. fields f fs d)
 at_fields f fs d (tok.name n) = Ok (field_arguments (record { fields = f; before = fs; description = d; title = n }))
-at_fields f fs d tok.close_brace = closed fs d (head (heading_then f.heading f.directives fs))
+at_fields f fs d tok.close_brace = close fs d (head (heading_then f.heading f.directives fs))
 at_fields f fs d t = Err unexpected
 
 abbrev pub after_inputs : Inputs → List WrittenInput → State
@@ -314,10 +314,10 @@ after_inputs (of_object f n ds) ws = head (front_then f (input n ds ws))
 
 abbrev pub close_parens : Inputs → List WrittenInput → Description → Result State Halt
 close_parens (of_object f n ds) ws d = Err unexpected
-close_parens i ws d = closed ws d (after_inputs i ws)
+close_parens i ws d = close ws d (after_inputs i ws)
 
 abbrev pub close_braces : Inputs → List WrittenInput → Description → Result State Halt
-close_braces (of_object f n ds) ws d = closed ws d (after_inputs (of_object f n ds) ws)
+close_braces (of_object f n ds) ws d = close ws d (after_inputs (of_object f n ds) ws)
 close_braces i ws d = Err unexpected
 
 abbrev pub at_inputs : Inputs → List WrittenInput → Description → Tok → Result State Halt
@@ -334,7 +334,7 @@ open_value v vs d n =
 abbrev pub at_values : Values → List WrittenValue → Description → Tok → Result State Halt
 at_values v vs d (tok.text e) = describe d e (λ d. enum_values v vs d)
 at_values v vs d (tok.name n) = open_value v vs d n
-at_values v vs d tok.close_brace = closed vs d (head (front_then v.front (enum v.title v.directives vs)))
+at_values v vs d tok.close_brace = close vs d (head (front_then v.front (enum v.title v.directives vs)))
 at_values v vs d t = Err unexpected
 
 abbrev pub open_root : Front → List Directive → List Root → Option Kind → Result State Halt
@@ -343,7 +343,7 @@ open_root f ds rs (Some k) = Ok (root_colon f ds rs k)
 
 abbrev pub at_roots : Front → List Directive → List Root → Tok → Result State Halt
 at_roots f ds rs (tok.name n) = open_root f ds rs (kind_of n)
-at_roots f ds rs tok.close_brace = closed rs None (head (front_then f (schema ds rs)))
+at_roots f ds rs tok.close_brace = close rs None (head (front_then f (schema ds rs)))
 at_roots f ds rs t = Err unexpected
 
 -- where directives have ended

@@ -53,9 +53,9 @@ pub data Member : Type 0 where
   a_field : Fields → List WrittenField → Member
 
 -- a description or a name is wanted
-abbrev pub opened : Member → Description → State
-opened (an_input i ws) d = inputs i ws d
-opened (a_field f fs) d = fields f fs d
+abbrev pub open_member : Member → Description → State
+open_member (an_input i ws) d = inputs i ws d
+open_member (a_field f fs) d = fields f fs d
 
 -- a description and a name
 pub record Named : Type 0 where
@@ -65,9 +65,9 @@ pub record Named : Type 0 where
 abbrev pub spell_named : Named → List ℕ → List ℕ
 spell_named w ns = spell_description node_count w.description (2 ∷ ns)
 
-abbrev pub named : Member → Named → State
-named (an_input i ws) w = input_colon (record { inputs = i; before = ws; description = w.description; title = w.title })
-named (a_field f fs) w = field_arguments (record { fields = f; before = fs; description = w.description; title = w.title })
+abbrev pub name_member : Member → Named → State
+name_member (an_input i ws) w = input_colon (record { inputs = i; before = ws; description = w.description; title = w.title })
+name_member (a_field f fs) w = field_arguments (record { fields = f; before = fs; description = w.description; title = w.title })
 
 -- what opens inputs, and what closes them
 abbrev pub opener : Inputs → ℕ
@@ -100,10 +100,10 @@ abbrev pub input_at : InputsAt → WrittenInput → State
 input_at k w = inputs k.inputs (k.before ++ w ∷ []) None
 
 -- where inputs may be opened
-abbrev pub unopened : Inputs → State
-unopened (of_field f) = field_arguments f
-unopened (of_directive f n) = directive_arguments f n
-unopened (of_object f n ds) = in_directives (further true ds (on_object f n))
+abbrev pub before_inputs : Inputs → State
+before_inputs (of_field f) = field_arguments f
+before_inputs (of_directive f n) = directive_arguments f n
+before_inputs (of_object f n ds) = in_directives (further true ds (on_object f n))
 
 -- no directive follows where one might
 abbrev pub Undirected : Inputs → Source → Type 0
@@ -226,9 +226,9 @@ pub record NamesAt : Type 0 where
   pub names : Names
   pub leading : Bool
 
-abbrev pub led : (leading : Bool) → Listing → State
-led true l = listing_led l
-led false l = listing l
+abbrev pub lead : (leading : Bool) → Listing → State
+lead true l = listing_led l
+lead false l = listing l
 
 abbrev pub MayLead : (separator : ℕ) → (leading : Bool) → Source → Type 0
 MayLead separator true ahead = Unit {0}
@@ -238,7 +238,7 @@ abbrev pub MayNames : (separator : ℕ) → NamesAt → Source → Type 0
 MayNames separator k ahead = (names_separator k.names ≡ separator) × MayLead separator k.leading ahead
 
 abbrev pub led_names : NamesAt → State
-led_names k = led k.leading (names_listing k.names [])
+led_names k = lead k.leading (names_listing k.names [])
 
 abbrev pub behind_led_names : NamesAt → List (List ℕ) → State
 behind_led_names k ns = behind_names k.names (record { leading = k.leading; all = ns })
@@ -276,8 +276,8 @@ pub record Locating : Type 0 where
 abbrev pub before_repeatable : Locating → State
 before_repeatable k = directive_on k.front k.title k.arguments false
 
-abbrev pub repeated : Locating → Bool → State
-repeated k repeatable = listing (locating k.front k.title k.arguments repeatable [])
+abbrev pub set_repeatable : Locating → Bool → State
+set_repeatable k repeatable = listing (locating k.front k.title k.arguments repeatable [])
 
 -- and whether it may be repeated
 pub record LocatingOn : Type 0 where
@@ -299,7 +299,7 @@ abbrev pub MayLocate : LocatingAt → Source → Type 0
 MayLocate k ahead = MayLead 124 k.leading ahead
 
 abbrev pub led_locating : LocatingAt → State
-led_locating k = led k.leading (locating k.on.directive.front k.on.directive.title k.on.directive.arguments k.on.repeatable [])
+led_locating k = lead k.leading (locating k.on.directive.front k.on.directive.title k.on.directive.arguments k.on.repeatable [])
 
 abbrev pub behind_led_locations : LocatingAt → List Location → State
 behind_led_locations k ls = behind_locations k.on (record { leading = k.leading; all = ls })

@@ -2,7 +2,7 @@
 //! 3.10).
 ghost use Rattle.std.specs.Prelude.{◌≡◌, ◌∷◌, [], ◌<◌, ℕ, List, None, false, OnOk};
 ghost use Rattle.gql_sdl.specs.Machine.{after_inputs, inputs, Inputs};
-ghost use Rattle.gql_sdl.specs.Reads.{input_at, inputs_at, MayClose, MayInput, MayName, MayOpen, Named, named, opened, Reads, spell_named, unopened};
+ghost use Rattle.gql_sdl.specs.Reads.{input_at, inputs_at, MayClose, MayInput, MayName, MayOpen, Named, name_member, open_member, Reads, spell_named, before_inputs};
 ghost use Rattle.gql_sdl.specs.Schemas.{inputs_of, spell_argument_defs, spell_input, spell_inputs, WrittenInput};
 ghost use Rattle.gql_syntax.specs.Answers.{node_count};
 ghost use Rattle.gql_syntax.specs.Nexts.{next_is, token_count};
@@ -14,7 +14,7 @@ use std::alloc::Global;
 
 /// Reads the name of a member, with the description that may stand before it (section 3.2).
 pub(crate) fn read_member_name(alloc: Global, cursor: &mut Cursor<'_>) -> Result<Name, Fault>
-    ensures reads { Reads MayName (λ k. opened k None) named spell_named (λ (w : Named). w.title) cursor.old cursor.new result }
+    ensures reads { Reads MayName (λ k. open_member k None) name_member spell_named (λ (w : Named). w.title) cursor.old cursor.new result }
     ensures taken { OnOk result (token_count cursor.new.source < token_count cursor.old.source) }
 {
     if !cursor.next_is_text() {
@@ -49,7 +49,7 @@ pub(crate) fn read_inputs(
     closing: u8,
     cursor: &mut Cursor<'_>,
 ) -> Result<InputTrees, Fault>
-    ensures reads { Reads (MayOpen opening closing) unopened after_inputs (spell_argument_defs node_count) inputs_of cursor.old cursor.new result }
+    ensures reads { Reads (MayOpen opening closing) before_inputs after_inputs (spell_argument_defs node_count) inputs_of cursor.old cursor.new result }
 {
     let mut inputs = InputTrees::new(alloc);
     if !cursor.next_is(opening) {

@@ -2,7 +2,7 @@
 //! 3.13).
 ghost use Rattle.std.specs.Prelude.{◌≡◌, ◌∷◌, ◌<◌, ℕ, List, length, Bool, Some, OnOk, IfOk, IfErr};
 ghost use Rattle.gql_ast.specs.declared.location.Location.{Location};
-ghost use Rattle.gql_sdl.specs.Reads.{Anywhere, behind_implements, Led, behind_led_locations, led_locating, behind_led_names, led_names, behind_locations, MayList, MayLocate, MayNames, behind_names, NoDirective, Reads, repeated, spell_led, spell_locations, spell_names, behind_union_members, before_locations, before_repeatable, before_names, before_implements, before_union_members};
+ghost use Rattle.gql_sdl.specs.Reads.{Anywhere, behind_implements, Led, behind_led_locations, led_locating, behind_led_names, led_names, behind_locations, MayList, MayLocate, MayNames, behind_names, NoDirective, Reads, set_repeatable, spell_led, spell_locations, spell_names, behind_union_members, before_locations, before_repeatable, before_names, before_implements, before_union_members};
 ghost use Rattle.gql_sdl.specs.Schemas.{location_word, NotEmpty, spell_implements, spell_members_part, spell_repeatable};
 ghost use Rattle.gql_syntax.specs.Answers.{Misses, node_count};
 ghost use Rattle.gql_syntax.specs.Nexts.{behind, next_word, stopped_at};
@@ -113,7 +113,7 @@ fn read_led_locations(alloc: Global, cursor: &mut Cursor<'_>) -> Result<Location
 
 /// Reads `on`, and `repeatable` before it where that word stands.
 pub(crate) fn read_repeatable(cursor: &mut Cursor<'_>) -> Result<bool, Fault>
-    ensures reads { Reads Anywhere before_repeatable repeated (λ (r : Bool) (ns : List ℕ). spell_repeatable node_count r (0 ∷ ns)) (λ r. r) cursor.old cursor.new result }
+    ensures reads { Reads Anywhere before_repeatable set_repeatable (λ (r : Bool) (ns : List ℕ). spell_repeatable node_count r (0 ∷ ns)) (λ r. r) cursor.old cursor.new result }
 {
     let Some(word) = cursor.next_word() else {
         return Err(cursor.fault());

@@ -14,7 +14,7 @@ use Rattle.gql_syntax.proofs.Forms.{AreToks, zero_fits, toks-append}
 use Rattle.gql_syntax.proofs.Laws.{Leveled, reach_from, reach}
 use Rattle.gql_syntax.proofs.Marks.{members-then, members_of-then, shaped_arguments-then}
 use Rattle.gql_syntax.proofs.Reading.{reach-append}
-use Rattle.gql_syntax.proofs.Standing.{leveled, token_mark, level_mark, Ground, GroundLaws, SomeGiven, value_on, given_ground, arguments_on, arguments_level, arguments_so_far, lift_arguments, SeatedArguments, Lifts, Opens, IfTooDeep}
+use Rattle.gql_syntax.proofs.Standing.{mark_level, token_mark, level_mark, Ground, GroundLaws, SomeGiven, value_on, given_ground, arguments_on, arguments_level, arguments_so_far, lift_arguments, SeatedArguments, Lifts, Opens, IfTooDeep}
 use Rattle.gql_syntax.proofs.ValueLaws.{from_ok, from_too_deep, from_lifts, from_lifts_unexpected, from_opens, value_sounds, value_shallows, value_deeps, value_seats, value_lifts, value_opens, lift_value_level, lift_value_so_far, lift_value_seated, lift_value_on, seated_value_on, value_complete, value_end, value_end-form, value_ends, members_depth_from, members_depth_to}
 
 some-push : (xs : List (List ℕ × Val)) (x : List ℕ × Val) → SomeGiven (xs ++ x ∷ [])
@@ -22,19 +22,19 @@ some-push [] x = tt
 some-push (y ∷ xs) x = tt
 
 spelled_some : (xs : List (List ℕ × Val)) (ts : List Leveled) → SomeGiven xs
-    → spell_arguments leveled xs ts ≡ (tok.open_paren, 0) ∷ spell_members leveled (members_of xs) 0 ((tok.close_paren, 0) ∷ ts)
+    → spell_arguments mark_level xs ts ≡ (tok.open_paren, 0) ∷ spell_members mark_level (members_of xs) 0 ((tok.close_paren, 0) ∷ ts)
 spelled_some [] ts h = absurd h
 spelled_some (x ∷ xs) ts h = refl
 
 module _ {S A : Type 0} (G : Ground A) (limit : ℕ) (into : Arguing A → S) (hand : A → List (List ℕ × Val) → S) where
   module _ (so_far : S → List Leveled → List Leveled)
       (at_into : (r : Arguing A) (ts : List Leveled) → so_far (into r) ts ≡ arguments_so_far G r ts)
-      (at_hand : (a : A) (xs : List (List ℕ × Val)) (ts : List Leveled) → so_far (hand a xs) ts ≡ G.front a (spell_arguments leveled xs ts)) where
-    given_front : (g : Given A) (v : Val) (ts : List Leveled) → so_far (given limit into hand g v) ts ≡ (given_ground G).front g (spell_value leveled v 0 ts)
+      (at_hand : (a : A) (xs : List (List ℕ × Val)) (ts : List Leveled) → so_far (hand a xs) ts ≡ G.front a (spell_arguments mark_level xs ts)) where
+    given_front : (g : Given A) (v : Val) (ts : List Leveled) → so_far (given limit into hand g v) ts ≡ (given_ground G).front g (spell_value mark_level v 0 ts)
     given_front g v ts =
         at_into (more g.constant (g.before ++ (g.name, v) ∷ []) g.on) ts
         ∙ ap (λ w. G.front g.on ((tok.open_paren, 0) ∷ w))
-        (ap (λ ms. spell_members leveled ms 0 ts) (members_of-then g.before g.name v) ∙ members-then leveled (members_of g.before) g.name v 0 ts)
+        (ap (λ ms. spell_members mark_level ms 0 ts) (members_of-then g.before g.name v) ∙ members-then mark_level (members_of g.before) g.name v 0 ts)
 
     pub arguments_sounds : (r : Arguing A) (t : Tok) → SeatedArguments G limit r
         → IfOk (arguments_step limit into hand r t) (λ next. (ts : List Leveled) → so_far next ts ≡ arguments_so_far G r ((t, arguments_level r t) ∷ ts))
@@ -140,7 +140,7 @@ module _ {S A : Type 0} (G : Ground A) (limit : ℕ) (into : Arguing A → S) (h
 -- the laws of what an argument's value stands on
 pub given_laws : {A : Type 0} (G : Ground A) → GroundLaws G → GroundLaws (given_ground G)
 given_laws G laws = record {
-  lift_front = λ k g ts. laws.lift_front k g.on ((tok.open_paren, 0) ∷ spell_members leveled (members_of g.before) 0 ((tok.name g.name, 0) ∷ (tok.colon, 0) ∷ ts));
+  lift_front = λ k g ts. laws.lift_front k g.on ((tok.open_paren, 0) ∷ spell_members mark_level (members_of g.before) 0 ((tok.name g.name, 0) ∷ (tok.colon, 0) ∷ ts));
   lift_constant = λ k g. refl;
   lift_seated = λ k limit g h. (h.0 ∙ sym (laws.lift_constant k g.on), h.1, laws.lift_seated k limit g.on h.2);
 }
@@ -154,9 +154,9 @@ module _ {A : Type 0} (G : Ground A) (laws : GroundLaws G) where
 
   pub lift_arguments_so_far : (k : ℕ) (r : Arguing A) (ts : List Leveled) → arguments_so_far G (lift_arguments G k r) ts ≡ arguments_so_far G r ts
   lift_arguments_so_far k (first c a) ts = laws.lift_front k a ((tok.open_paren, 0) ∷ ts)
-  lift_arguments_so_far k (called g) ts = laws.lift_front k g.on ((tok.open_paren, 0) ∷ spell_members leveled (members_of g.before) 0 ((tok.name g.name, 0) ∷ ts))
+  lift_arguments_so_far k (called g) ts = laws.lift_front k g.on ((tok.open_paren, 0) ∷ spell_members mark_level (members_of g.before) 0 ((tok.name g.name, 0) ∷ ts))
   lift_arguments_so_far k (inside r) ts = lift_value_so_far (given_ground G) (given_laws G laws) k r ts
-  lift_arguments_so_far k (more c xs a) ts = laws.lift_front k a ((tok.open_paren, 0) ∷ spell_members leveled (members_of xs) 0 ts)
+  lift_arguments_so_far k (more c xs a) ts = laws.lift_front k a ((tok.open_paren, 0) ∷ spell_members mark_level (members_of xs) 0 ts)
 
   pub lift_arguments_seated : (k limit : ℕ) (r : Arguing A) → SeatedArguments G limit r → SeatedArguments G (k + limit) (lift_arguments G k r)
   lift_arguments_seated k limit (first c a) h = (h.0 ∙ sym (laws.lift_constant k a), laws.lift_seated k limit a h.1)

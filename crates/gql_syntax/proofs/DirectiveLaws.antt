@@ -17,7 +17,7 @@ use Rattle.gql_syntax.proofs.Laws.{Leveled, reach_from, reach}
 use Rattle.gql_syntax.proofs.Marks.{directives-then, shaped_directives-then}
 use Rattle.gql_syntax.proofs.Outcomes.{outcome, ended_at, outcome-reach}
 use Rattle.gql_syntax.proofs.Reading.{reach-append}
-use Rattle.gql_syntax.proofs.Standing.{leveled, token_mark, level_mark, Ground, GroundLaws, arguments_on, applied_ground, next_level, directives_level, directives_on, directives_so_far, lift_directives, SeatedDirectives, Lifts, Opens, IfTooDeep}
+use Rattle.gql_syntax.proofs.Standing.{mark_level, token_mark, level_mark, Ground, GroundLaws, arguments_on, applied_ground, next_level, directives_level, directives_on, directives_so_far, lift_directives, SeatedDirectives, Lifts, Opens, IfTooDeep}
 use Rattle.gql_syntax.proofs.ValueLaws.{from_ok, from_too_deep, from_lifts, from_lifts_unexpected, from_opens}
 use Rattle.gql_syntax.proofs.ArgumentLaws.{arguments_sounds, arguments_shallows, arguments_deeps, arguments_seats, arguments_lifts, arguments_opens, lift_arguments_level, lift_arguments_so_far, lift_arguments_seated, lift_arguments_on, seated_arguments_on, arguments_complete, arguments_end, arguments_end-form, arguments_ends, arguments_depth_from, arguments_depth_to}
 
@@ -29,15 +29,15 @@ module _ {S D : Type 0} (G : Ground D) (passed : D → Tok → ℕ) (limit : ℕ
   module _ (so_far : S → List Leveled → List Leveled)
       (at_into : (r : Directing D) (ts : List Leveled) → so_far (into r) ts ≡ directives_so_far G r ts)
       (at_pass : (d : D) (ds : List Directive) (t : Tok) → G.Seated limit d → ShapedDirectives (G.constant d) ds
-      → IfOk (pass d ds t) (λ next. (ts : List Leveled) → so_far next ts ≡ G.front d (spell_directives leveled ds ((t, passed d t) ∷ ts)))) where
+      → IfOk (pass d ds t) (λ next. (ts : List Leveled) → so_far next ts ≡ G.front d (spell_directives mark_level ds ((t, passed d t) ∷ ts)))) where
     done_front : (a : Applied D) (xs : List (List ℕ × Val)) (ts : List Leveled)
-        → so_far (directive_done into a xs) ts ≡ (applied_ground G).front a (spell_arguments leveled xs ts)
+        → so_far (directive_done into a xs) ts ≡ (applied_ground G).front a (spell_arguments mark_level xs ts)
     done_front a xs ts =
         at_into (further a.constant (with_arguments a xs) a.on) ts
-        ∙ ap (λ w. G.front a.on w) (directives-then leveled a.before (record { name = a.name; arguments = xs }) ts)
+        ∙ ap (λ w. G.front a.on w) (directives-then mark_level a.before (record { name = a.name; arguments = xs }) ts)
 
     next_sounds : (c : Bool) (ds : List Directive) (d : D) (t : Tok) → G.Seated limit d → ShapedDirectives (G.constant d) ds
-        → IfOk (next_directive limit into pass c ds d t) (λ next. (ts : List Leveled) → so_far next ts ≡ G.front d (spell_directives leveled ds ((t, next_level passed d t) ∷ ts)))
+        → IfOk (next_directive limit into pass c ds d t) (λ next. (ts : List Leveled) → so_far next ts ≡ G.front d (spell_directives mark_level ds ((t, next_level passed d t) ∷ ts)))
     next_sounds c ds d tok.at_sign h f = λ ts. at_into (at_name c ds d) ts
     next_sounds c ds d t h f = at_pass d ds t h f
 
@@ -52,9 +52,9 @@ module _ {S D : Type 0} (G : Ground D) (passed : D → Tok → ℕ) (limit : ℕ
         (next_sounds a.constant (with_arguments a []) a.on t h.2 (subst (λ c. ShapedDirectives c (with_arguments a [])) h.0 (shaped_directives-then a.constant a.before (record { name = a.name; arguments = [] }) h.1 tt)))
       where
         from_next : (x : Result S Halt)
-            → IfOk x (λ next. (ts : List Leveled) → so_far next ts ≡ G.front a.on (spell_directives leveled (with_arguments a []) ((t, next_level passed a.on t) ∷ ts)))
+            → IfOk x (λ next. (ts : List Leveled) → so_far next ts ≡ G.front a.on (spell_directives mark_level (with_arguments a []) ((t, next_level passed a.on t) ∷ ts)))
             → IfOk x (λ next. (ts : List Leveled) → so_far next ts ≡ directives_so_far G (applied a) ((t, next_level passed a.on t) ∷ ts))
-        from_next (Ok s) e = λ ts. e ts ∙ ap (λ w. G.front a.on w) (directives-then leveled a.before (record { name = a.name; arguments = [] }) ((t, next_level passed a.on t) ∷ ts))
+        from_next (Ok s) e = λ ts. e ts ∙ ap (λ w. G.front a.on w) (directives-then mark_level a.before (record { name = a.name; arguments = [] }) ((t, next_level passed a.on t) ∷ ts))
         from_next (Err x) e = tt
     directives_sounds (arguing r) t h =
         arguments_sounds (applied_ground G) limit (λ r. into (arguing r)) (directive_done into) so_far (λ r ts. at_into (arguing r) ts) done_front r t h
@@ -168,7 +168,7 @@ module _ {S D : Type 0} (G : Ground D) (passed : D → Tok → ℕ) (limit : ℕ
 -- the laws of what a directive's arguments stand on
 pub applied_laws : {D : Type 0} (G : Ground D) → GroundLaws G → GroundLaws (applied_ground G)
 applied_laws G laws = record {
-  lift_front = λ k a ts. laws.lift_front k a.on (spell_directives leveled a.before ((tok.at_sign, 0) ∷ (tok.name a.name, 0) ∷ ts));
+  lift_front = λ k a ts. laws.lift_front k a.on (spell_directives mark_level a.before ((tok.at_sign, 0) ∷ (tok.name a.name, 0) ∷ ts));
   lift_constant = λ k a. refl;
   lift_seated = λ k limit a h. (h.0 ∙ sym (laws.lift_constant k a.on), h.1, laws.lift_seated k limit a.on h.2);
 }
@@ -185,8 +185,8 @@ module _ {D : Type 0} (G : Ground D) (laws : GroundLaws G) where
   lift_directives_level passed k e (arguing r) t = lift_arguments_level (applied_ground G) (applied_laws G laws) k r t
 
   pub lift_directives_so_far : (k : ℕ) (r : Directing D) (ts : List Leveled) → directives_so_far G (lift_directives G k r) ts ≡ directives_so_far G r ts
-  lift_directives_so_far k (further c ds d) ts = laws.lift_front k d (spell_directives leveled ds ts)
-  lift_directives_so_far k (at_name c ds d) ts = laws.lift_front k d (spell_directives leveled ds ((tok.at_sign, 0) ∷ ts))
+  lift_directives_so_far k (further c ds d) ts = laws.lift_front k d (spell_directives mark_level ds ts)
+  lift_directives_so_far k (at_name c ds d) ts = laws.lift_front k d (spell_directives mark_level ds ((tok.at_sign, 0) ∷ ts))
   lift_directives_so_far k (applied a) ts = (applied_laws G laws).lift_front k a ts
   lift_directives_so_far k (arguing r) ts = lift_arguments_so_far (applied_ground G) (applied_laws G laws) k r ts
 
@@ -216,14 +216,14 @@ module _ {D : Type 0} (G : Ground D) (laws : GroundLaws G) where
 
 -- what stands in the state where the text may end, and is formed
 pub seated_directives_there : {D : Type 0} (G : Ground D) (limit : ℕ) (r : Directing D) (ds : List Directive) → SeatedDirectives G limit r → directives_there r ≡ Some ds
-    → ((ts : List Leveled) → directives_so_far G r ts ≡ G.front (directives_on r) (spell_directives leveled ds ts)) × ShapedDirectives (G.constant (directives_on r)) ds
+    → ((ts : List Leveled) → directives_so_far G r ts ≡ G.front (directives_on r) (spell_directives mark_level ds ts)) × ShapedDirectives (G.constant (directives_on r)) ds
 seated_directives_there G limit (further c es d) ds h e =
     let same : es ≡ ds = cc in
-    (λ ts. ap (λ ds. G.front d (spell_directives leveled ds ts)) same, subst (λ ds. ShapedDirectives (G.constant d) ds) same (subst (λ c. ShapedDirectives c es) h.0 h.1))
+    (λ ts. ap (λ ds. G.front d (spell_directives mark_level ds ts)) same, subst (λ ds. ShapedDirectives (G.constant d) ds) same (subst (λ c. ShapedDirectives c es) h.0 h.1))
 seated_directives_there G limit (at_name c es d) ds h e = cc
 seated_directives_there G limit (applied a) ds h e =
     let same : with_arguments a [] ≡ ds = cc in (
-      λ ts. sym (ap (λ w. G.front a.on w) (directives-then leveled a.before (record { name = a.name; arguments = [] }) ts)) ∙ ap (λ ds. G.front a.on (spell_directives leveled ds ts)) same,
+      λ ts. sym (ap (λ w. G.front a.on w) (directives-then mark_level a.before (record { name = a.name; arguments = [] }) ts)) ∙ ap (λ ds. G.front a.on (spell_directives mark_level ds ts)) same,
       subst (λ ds. ShapedDirectives (G.constant a.on) ds) same
           (subst (λ c. ShapedDirectives c (with_arguments a [])) h.0 (shaped_directives-then a.constant a.before (record { name = a.name; arguments = [] }) h.1 tt)),
     )

@@ -9,7 +9,7 @@ use Rattle.gql_lex.specs.declared.tokens.TokenKind.TheVariants as kind
 use Rattle.gql_lex.specs.Descriptions.{Describes}
 use Rattle.gql_lex.specs.Heads.{IsToken}
 use Rattle.gql_lex.specs.Numbers.{is_negative, magnitude}
-use Rattle.gql_lex.specs.Sources.{Source, ended, faulty, token, lexed}
+use Rattle.gql_lex.specs.Sources.{Source, ended, faulty, token, lex_from}
 use Rattle.gql_lex.specs.Toks as tok
 use Rattle.gql_lex.specs.Toks.{Tok, tok_of, tok_of_piece, toks_of, punctuator_of}
 use Rattle.gql_lex.proofs.Gaps.{describes}
@@ -80,8 +80,8 @@ forms_ahead whole from ended d = tt
 forms_ahead whole from (faulty code at) d = tt
 forms_ahead whole from (token p rest) d = (tok_form p.kind p.text d.0.form, forms_ahead whole p.end rest d.1)
 
-pub forms : (whole : List ℕ) → IsUtf8 whole → AreAhead (lexed 0 whole)
-forms whole u = forms_ahead whole 0 (lexed 0 whole) (describes whole u)
+pub forms : (whole : List ℕ) → IsUtf8 whole → AreAhead (lex_from 0 whole)
+forms whole u = forms_ahead whole 0 (lex_from 0 whole) (describes whole u)
 
 pub toks_form : (s : Source) (ts : List Tok) → AreAhead s → toks_of s ≡ Some ts → AreToks ts
 toks_form ended ts h e = let same : [] ≡ ts = cc in subst AreToks same tt

@@ -1,6 +1,6 @@
 -- What a parser tells of bytes that are a text, and of others.
 use Rattle.std.proofs.Common.{◌≡◌, ◌⊎◌, ℕ, List, Err, IsUtf8, refl, sym, subst, inl, inr, arith}
-use Rattle.gql_lex.specs.Sources.{Source, ended, faulty, token, lexed}
+use Rattle.gql_lex.specs.Sources.{Source, ended, faulty, token, lex_from}
 use Rattle.gql_lex.specs.Toks.{Tok}
 use Rattle.gql_ast.specs.declared.fault.ParseFault.{ParseFault}
 use Rattle.gql_ast.specs.declared.fault.ParseFault.TheVariants.{Syntax, NoMemory}
@@ -33,7 +33,7 @@ module _ {V : Type 0} (g : Grammar V) where
       of_text e (inl x) = x.utf8 u
       of_text e (inr x) =
           other_code nesting_limit _ x.first.read x.first.rest f.code x.at
-          (led_code x.first.read (lexed 0 text) x.first.rest (lexed_code text) x.first.leads) x.first.fault e
+          (led_code x.first.read (lex_from 0 text) x.first.rest (lexed_code text) x.first.leads) x.first.fault e
 
   -- a text has at most one fault
   pub one_fault : (file : ℕ) (text : List ℕ) (s r : SyntaxFault) → IsParseFault g file text (Syntax s) → IsParseFault g file text (Syntax r) → s ≡ r

@@ -5,7 +5,7 @@ use Rattle.gql_lex.specs.declared.tokens.TokenKind.TheVariants.{Text, Block}
 use Rattle.gql_lex.specs.Characters.{is_ignored, is_mark, is_punctuator, is_spread, is_number_start, is_float_mark, is_line_end, is_two_quotes, is_three_quotes, is_escaped_quotes, may_stand, may_stand_in_block}
 use Rattle.gql_lex.specs.Heads.{comment, int_before, number, string, string_head, head}
 use Rattle.gql_lex.specs.Numbers.{sign_len, digits_len, int_len, is_in_i64}
-use Rattle.gql_lex.specs.Sources.{Source, ended, faulty, token, read_head, read, lexed}
+use Rattle.gql_lex.specs.Sources.{Source, ended, faulty, token, read_head, read, lex_from}
 use Rattle.gql_lex.specs.Strings.{further, and_then, is_simple_escape, is_four_hex, is_surrogate, code_of_hex, escape_len, text_step, text_end, block_step, block_end}
 use Rattle.gql_lex.specs.Toks.{Tok}
 use Rattle.gql_plain.specs.Names.{is_name_start, is_name_byte}
@@ -120,7 +120,7 @@ read_code n at [] = tt
 read_code (suc n) at (c ∷ cs) = read_code n (at + 1) cs
 read_code zero at (c ∷ cs) = head_code at (c ∷ cs) (λ n. read n (at + 1) cs) (λ n. read_code n (at + 1) cs) (c ∷ cs)
 
-pub lexed_code : (bs : List ℕ) → SourceCode (lexed 0 bs)
+pub lexed_code : (bs : List ℕ) → SourceCode (lex_from 0 bs)
 lexed_code bs = read_code 0 0 bs
 
 -- and behind the first tokens

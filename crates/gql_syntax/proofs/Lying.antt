@@ -2,7 +2,7 @@
 use Rattle.std.proofs.Common.{ℕ, List, Option, Some, None, Result, Ok, Err, length, subst, arith, IsCharBoundary}
 use Rattle.std.specs.Prelude.{IsUtf8}
 use Rattle.std.proofs.lemmas.Str.{IsCharBoundary-end}
-use Rattle.gql_lex.specs.Sources.{Source, ended, faulty, token, lexed}
+use Rattle.gql_lex.specs.Sources.{Source, ended, faulty, token, lex_from}
 use Rattle.gql_lex.specs.Toks.{Tok, tok_of_piece}
 use Rattle.gql_lex.proofs.Gaps.{describes}
 use Rattle.gql_syntax.specs.Answers.{LiesIn, Tells}
@@ -34,6 +34,6 @@ module _ {S A : Type 0} (step : S → Tok → Result S Halt) (done : S → Optio
   lies (token p rest) (Err f) low o h = h
 
   -- what a parser of the whole text tells to be wrong
-  pub fault_lies : IsUtf8 text → (s : S) (f : Fault) → Tells f (run step done (length text) s (lexed 0 text)) → LiesIn text f
-  fault_lies u s (Wrong code at) t = subst (λ r. Lies text r) t (lies (lexed 0 text) (Ok s) 0 (in_order text 0 0 (lexed 0 text) (omega arith) (describes text u)) tt)
+  pub fault_lies : IsUtf8 text → (s : S) (f : Fault) → Tells f (run step done (length text) s (lex_from 0 text)) → LiesIn text f
+  fault_lies u s (Wrong code at) t = subst (λ r. Lies text r) t (lies (lex_from 0 text) (Ok s) 0 (in_order text 0 0 (lex_from 0 text) (omega arith) (describes text u)) tt)
   fault_lies u s NoMemory t = tt

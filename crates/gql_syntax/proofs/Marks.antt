@@ -14,12 +14,12 @@ use Rattle.gql_syntax.specs.Spelling.{Mark, plain, spell_value, spell_values, sp
 
 -- ---- a map of what is kept of each token
 
-abbrev pub mapped : {X Y : Type 0} → (X → Y) → Mark X → Mark Y
-mapped f mark t level nodes = f (mark t level nodes)
+abbrev pub map_mark : {X Y : Type 0} → (X → Y) → Mark X → Mark Y
+map_mark f mark t level nodes = f (mark t level nodes)
 
 module _ {X Y : Type 0} (f : X → Y) (mark : Mark X) where
   mutual
-    pub map-value : (v : Val) (around : ℕ) (ts : List X) → map f (spell_value mark v around ts) ≡ spell_value (mapped f mark) v around (map f ts)
+    pub map-value : (v : Val) (around : ℕ) (ts : List X) → map f (spell_value mark v around ts) ≡ spell_value (map_mark f mark) v around (map f ts)
     map-value (variable n) around ts = refl
     map-value (int n) around ts = refl
     map-value (text t) around ts = refl
@@ -31,34 +31,34 @@ module _ {X Y : Type 0} (f : X → Y) (mark : Mark X) where
     map-value (object ms) around ts =
         ap (λ w. f (mark tok.open_brace (around + 1) 1) ∷ w) (map-members ms (around + 1) (plain mark tok.close_brace 0 ∷ ts))
 
-    pub map-values : (vs : Vals) (around : ℕ) (ts : List X) → map f (spell_values mark vs around ts) ≡ spell_values (mapped f mark) vs around (map f ts)
+    pub map-values : (vs : Vals) (around : ℕ) (ts : List X) → map f (spell_values mark vs around ts) ≡ spell_values (map_mark f mark) vs around (map f ts)
     map-values no_vals around ts = refl
     map-values (val v vs) around ts =
-        map-value v around (spell_values mark vs around ts) ∙ ap (λ w. spell_value (mapped f mark) v around w) (map-values vs around ts)
+        map-value v around (spell_values mark vs around ts) ∙ ap (λ w. spell_value (map_mark f mark) v around w) (map-values vs around ts)
 
-    pub map-members : (ms : Members) (around : ℕ) (ts : List X) → map f (spell_members mark ms around ts) ≡ spell_members (mapped f mark) ms around (map f ts)
+    pub map-members : (ms : Members) (around : ℕ) (ts : List X) → map f (spell_members mark ms around ts) ≡ spell_members (map_mark f mark) ms around (map f ts)
     map-members no_members around ts = refl
     map-members (member n v ms) around ts =
         ap (λ w. f (mark (tok.name n) 0 2) ∷ f (mark tok.colon 0 0) ∷ w)
-        (map-value v around (spell_members mark ms around ts) ∙ ap (λ w. spell_value (mapped f mark) v around w) (map-members ms around ts))
+        (map-value v around (spell_members mark ms around ts) ∙ ap (λ w. spell_value (map_mark f mark) v around w) (map-members ms around ts))
 
-  pub map-arguments : (xs : List (List ℕ × Val)) (ts : List X) → map f (spell_arguments mark xs ts) ≡ spell_arguments (mapped f mark) xs (map f ts)
+  pub map-arguments : (xs : List (List ℕ × Val)) (ts : List X) → map f (spell_arguments mark xs ts) ≡ spell_arguments (map_mark f mark) xs (map f ts)
   map-arguments [] ts = refl
   map-arguments (x ∷ xs) ts = ap (λ w. f (mark tok.open_paren 0 0) ∷ w) (map-members (members_of (x ∷ xs)) 0 (plain mark tok.close_paren 0 ∷ ts))
 
-  pub map-directives : (ds : List Directive) (ts : List X) → map f (spell_directives mark ds ts) ≡ spell_directives (mapped f mark) ds (map f ts)
+  pub map-directives : (ds : List Directive) (ts : List X) → map f (spell_directives mark ds ts) ≡ spell_directives (map_mark f mark) ds (map f ts)
   map-directives [] ts = refl
   map-directives (d ∷ ds) ts =
       ap (λ w. f (mark tok.at_sign 0 1) ∷ f (mark (tok.name d.name) 0 1) ∷ w)
-      (map-arguments d.arguments (spell_directives mark ds ts) ∙ ap (λ w. spell_arguments (mapped f mark) d.arguments w) (map-directives ds ts))
+      (map-arguments d.arguments (spell_directives mark ds ts) ∙ ap (λ w. spell_arguments (map_mark f mark) d.arguments w) (map-directives ds ts))
 
-  pub map-type : (t : Ty) (around above : ℕ) (ts : List X) → map f (spell_type mark t around above ts) ≡ spell_type (mapped f mark) t around above (map f ts)
+  pub map-type : (t : Ty) (around above : ℕ) (ts : List X) → map f (spell_type mark t around above ts) ≡ spell_type (map_mark f mark) t around above (map f ts)
   map-type (ty.named n) around above ts = refl
   map-type (ty.list t) around above ts =
       ap (λ w. f (mark tok.open_bracket (around + 1) (above + 1)) ∷ w) (map-type t (around + 1) 0 (plain mark tok.close_bracket 0 ∷ ts))
   map-type (ty.non_null t) around above ts = map-type t around (above + 1) (plain mark tok.bang 0 ∷ ts)
 
-  pub map-default : (v : Option ValueTree) (ts : List X) → map f (spell_default mark v ts) ≡ spell_default (mapped f mark) v (map f ts)
+  pub map-default : (v : Option ValueTree) (ts : List X) → map f (spell_default mark v ts) ≡ spell_default (map_mark f mark) v (map f ts)
   map-default None ts = refl
   map-default (Some v) ts = ap (λ w. f (mark tok.equals 0 0) ∷ w) (map-value (value_of v) 0 ts)
 

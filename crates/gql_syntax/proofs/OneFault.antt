@@ -2,7 +2,7 @@
 use Rattle.std.proofs.Common.{◌≡◌, ◌≤◌, ◌<◌, ◌⊎◌, ℕ, zero, suc, List, [], ◌∷◌, ◌++◌, length, take, Option, Some, None, refl, sym, ap, subst, inl, inr, ◌∙◌, arith, append_assoc, append-nil}
 use Rattle.std.specs.Prelude.{slice_index}
 use Rattle.gql_lex.specs.Lines.{place_at}
-use Rattle.gql_lex.specs.Sources.{Source, Piece, ended, faulty, token, lexed}
+use Rattle.gql_lex.specs.Sources.{Source, Piece, ended, faulty, token, lex_from}
 use Rattle.gql_lex.specs.Toks.{Tok, tok_of_piece, toks_of}
 use Rattle.gql_ast.specs.declared.fault.ParseFault.TheVariants.{Syntax}
 use Rattle.gql_ast.specs.declared.fault.SyntaxFault.{SyntaxFault}
@@ -135,7 +135,7 @@ module _ {V : Type 0} (g : Grammar V) where
       → IsParseFault g file text (Syntax s) → ⊥
   no_parse_fault nodes file text v places s t f = elim f.1 [
     | inl x ↦ x.utf8 t.utf8
-    | inr x ↦ no_fault_of_tree g nesting_limit (length text) (lexed 0 text) v s.code x.at t.tokens t.formed t.shallow x.first
+    | inr x ↦ no_fault_of_tree g nesting_limit (length text) (lex_from 0 text) v s.code x.at t.tokens t.formed t.shallow x.first
   ]
 
   same_places : (file : ℕ) (text : List ℕ) (s r : SyntaxFault) → NoText text s ⊎ FaultAtOffset g text s → NoText text r ⊎ FaultAtOffset g text r
@@ -145,7 +145,7 @@ module _ {V : Type 0} (g : Grammar V) where
     | inr a ↦ elim y [
       | inl b ↦ absurd (b.utf8 a.utf8)
       | inr b ↦
-          let e = one_first_fault g nesting_limit (length text) (lexed 0 text) s.code a.at r.code b.at a.first b.first in
+          let e = one_first_fault g nesting_limit (length text) (lex_from 0 text) s.code a.at r.code b.at a.first b.first in
           (a.line ∙ ap (λ n. (place_at text n).line) e.1 ∙ sym b.line, a.column ∙ ap (λ n. (place_at text n).column) e.1 ∙ sym b.column, e.0)
     ]
   ]

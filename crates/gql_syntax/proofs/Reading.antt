@@ -2,7 +2,7 @@
 use Rattle.std.proofs.Common.{◌≡◌, ◌≤◌, ◌<◌, ℕ, ◌+◌, List, [], ◌∷◌, ◌++◌, map, length, take, slice_index, option_map, Option, Some, None, Result, Ok, Err, IsUtf8, refl, sym, ap, subst, ◌∙◌, inl, inr, arith, append_assoc, append-nil}
 use Rattle.std.proofs.lemmas.List.{map-append, length-map, take_at}
 use Rattle.gql_lex.specs.Lines.{place_at}
-use Rattle.gql_lex.specs.Sources.{Source, ended, faulty, token, lexed}
+use Rattle.gql_lex.specs.Sources.{Source, ended, faulty, token, lex_from}
 use Rattle.gql_lex.specs.Toks.{Tok, tok_of_piece, toks_of}
 use Rattle.gql_ast.specs.declared.fault.ParseFault.TheVariants.{Syntax}
 use Rattle.gql_ast.specs.declared.fault.SyntaxFault.{SyntaxFault}
@@ -406,20 +406,20 @@ module _ {S V : Type 0} (g : Grammar V) (m : Machine S V) (laws : Laws g m) wher
   -- ---- the text of a file
 
   abbrev pub read_text : List ℕ → Result V Stopped
-  read_text text = run (m.step nesting_limit) m.finish (length text) (m.start nesting_limit) (lexed 0 text)
+  read_text text = run (m.step nesting_limit) m.finish (length text) (m.start nesting_limit) (lex_from 0 text)
 
   pub tree_found : (nodes : V → List ℕ) (file : ℕ) (text : List ℕ) (v : V) (places : List FilePlace) → IsUtf8 text → read_text text ≡ Ok v
-      → places ≡ place_nodes file text [] (nodes v) (lexed 0 text) → IsTree g nodes file text v places
+      → places ≡ place_nodes file text [] (nodes v) (lex_from 0 text) → IsTree g nodes file text v places
   tree_found nodes file text v places u e p =
-      let f = found nesting_limit (length text) (lexed 0 text) v (forms text u) e in
+      let f = found nesting_limit (length text) (lex_from 0 text) v (forms text u) e in
       record { utf8 = u; tokens = f.0; formed = f.1; shallow = f.2; places = p }
 
   pub tree_only : (nodes : V → List ℕ) (file : ℕ) (text : List ℕ) (v : V) (places : List FilePlace) → IsTree g nodes file text v places → read_text text ≡ Ok v
-  tree_only nodes file text v places t = only nesting_limit (length text) (lexed 0 text) v t.formed t.shallow t.tokens
+  tree_only nodes file text v places t = only nesting_limit (length text) (lex_from 0 text) v t.formed t.shallow t.tokens
 
   pub fault_found : (text : List ℕ) (f : SyntaxFault) (at : ℕ) → IsUtf8 text → read_text text ≡ Err (f.code, at) → f.line ≡ (place_at text at).line → f.column ≡ (place_at text at).column
       → FaultAtOffset g text f
-  fault_found text f at u e l c = record { at = at; utf8 = u; first = fault nesting_limit (length text) (lexed 0 text) f.code at (forms text u) e; line = l; column = c }
+  fault_found text f at u e l c = record { at = at; utf8 = u; first = fault nesting_limit (length text) (lex_from 0 text) f.code at (forms text u) e; line = l; column = c }
 
   -- a text has at most one tree
   pub one_tree : (nodes : V → List ℕ) (file : ℕ) (text : List ℕ) (v w : V) (places others : List FilePlace)

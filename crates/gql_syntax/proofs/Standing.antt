@@ -12,8 +12,8 @@ use Rattle.gql_syntax.specs.Spelling.{Mark, spell_values, spell_members, spell_d
 use Rattle.gql_syntax.proofs.Laws.{Leveled}
 
 -- the marks that keep a token with the number of what it opens, the token alone, and the number alone
-abbrev pub leveled : Mark Leveled
-leveled t level nodes = (t, level)
+abbrev pub mark_level : Mark Leveled
+mark_level t level nodes = (t, level)
 
 abbrev pub token_mark : Mark Tok
 token_mark t level nodes = t
@@ -69,17 +69,17 @@ value_on (named c room ms n p) = place_on p
 module _ {K : Type 0} (G : Ground K) where
   abbrev pub before : Place K → List Leveled → List Leveled
   before (outer k) ts = G.front k ts
-  before (item c room vs p) ts = before p ((tok.open_bracket, place_level p + 1) ∷ spell_values leveled vs (place_level p + 1) ts)
+  before (item c room vs p) ts = before p ((tok.open_bracket, place_level p + 1) ∷ spell_values mark_level vs (place_level p + 1) ts)
   before (of_member c room ms n p) ts =
-      before p ((tok.open_brace, place_level p + 1) ∷ spell_members leveled ms (place_level p + 1) ((tok.name n, 0) ∷ (tok.colon, 0) ∷ ts))
+      before p ((tok.open_brace, place_level p + 1) ∷ spell_members mark_level ms (place_level p + 1) ((tok.name n, 0) ∷ (tok.colon, 0) ∷ ts))
 
   abbrev pub value_so_far : Reading K → List Leveled → List Leveled
   value_so_far (want c room p) ts = before p ts
   value_so_far (dollar p) ts = before p ((tok.dollar, 0) ∷ ts)
   value_so_far (items c room vs p) ts = before (item c room vs p) ts
-  value_so_far (members c room ms p) ts = before p ((tok.open_brace, place_level p + 1) ∷ spell_members leveled ms (place_level p + 1) ts)
+  value_so_far (members c room ms p) ts = before p ((tok.open_brace, place_level p + 1) ∷ spell_members mark_level ms (place_level p + 1) ts)
   value_so_far (named c room ms n p) ts =
-      before p ((tok.open_brace, place_level p + 1) ∷ spell_members leveled ms (place_level p + 1) ((tok.name n, 0) ∷ ts))
+      before p ((tok.open_brace, place_level p + 1) ∷ spell_members mark_level ms (place_level p + 1) ((tok.name n, 0) ∷ ts))
 
   abbrev pub place_constant : Place K → Bool
   place_constant (outer k) = G.constant k
@@ -132,7 +132,7 @@ module _ {A : Type 0} (G : Ground A) where
   -- what an argument's value stands on
   abbrev pub given_ground : Ground (Given A)
   given_ground = record {
-    front = λ g ts. G.front g.on ((tok.open_paren, 0) ∷ spell_members leveled (members_of g.before) 0 ((tok.name g.name, 0) ∷ (tok.colon, 0) ∷ ts));
+    front = λ g ts. G.front g.on ((tok.open_paren, 0) ∷ spell_members mark_level (members_of g.before) 0 ((tok.name g.name, 0) ∷ (tok.colon, 0) ∷ ts));
     constant = λ g. g.constant;
     lift = λ k g. record { constant = g.constant; before = g.before; name = g.name; on = G.lift k g.on };
     Seated = λ limit g. (g.constant ≡ G.constant g.on) × ShapedArguments g.constant g.before × G.Seated limit g.on;
@@ -140,9 +140,9 @@ module _ {A : Type 0} (G : Ground A) where
 
   abbrev pub arguments_so_far : Arguing A → List Leveled → List Leveled
   arguments_so_far (first c a) ts = G.front a ((tok.open_paren, 0) ∷ ts)
-  arguments_so_far (called g) ts = G.front g.on ((tok.open_paren, 0) ∷ spell_members leveled (members_of g.before) 0 ((tok.name g.name, 0) ∷ ts))
+  arguments_so_far (called g) ts = G.front g.on ((tok.open_paren, 0) ∷ spell_members mark_level (members_of g.before) 0 ((tok.name g.name, 0) ∷ ts))
   arguments_so_far (inside r) ts = value_so_far given_ground r ts
-  arguments_so_far (more c xs a) ts = G.front a ((tok.open_paren, 0) ∷ spell_members leveled (members_of xs) 0 ts)
+  arguments_so_far (more c xs a) ts = G.front a ((tok.open_paren, 0) ∷ spell_members mark_level (members_of xs) 0 ts)
 
   abbrev pub lift_arguments : ℕ → Arguing A → Arguing A
   lift_arguments k (first c a) = first c (G.lift k a)
@@ -179,15 +179,15 @@ module _ {D : Type 0} (G : Ground D) where
   -- what a directive's arguments stand on
   abbrev pub applied_ground : Ground (Applied D)
   applied_ground = record {
-    front = λ a ts. G.front a.on (spell_directives leveled a.before ((tok.at_sign, 0) ∷ (tok.name a.name, 0) ∷ ts));
+    front = λ a ts. G.front a.on (spell_directives mark_level a.before ((tok.at_sign, 0) ∷ (tok.name a.name, 0) ∷ ts));
     constant = λ a. a.constant;
     lift = λ k a. record { constant = a.constant; before = a.before; name = a.name; on = G.lift k a.on };
     Seated = λ limit a. (a.constant ≡ G.constant a.on) × ShapedDirectives a.constant a.before × G.Seated limit a.on;
   }
 
   abbrev pub directives_so_far : Directing D → List Leveled → List Leveled
-  directives_so_far (further c ds d) ts = G.front d (spell_directives leveled ds ts)
-  directives_so_far (at_name c ds d) ts = G.front d (spell_directives leveled ds ((tok.at_sign, 0) ∷ ts))
+  directives_so_far (further c ds d) ts = G.front d (spell_directives mark_level ds ts)
+  directives_so_far (at_name c ds d) ts = G.front d (spell_directives mark_level ds ((tok.at_sign, 0) ∷ ts))
   directives_so_far (applied a) ts = applied_ground.front a ts
   directives_so_far (arguing r) ts = arguments_so_far applied_ground r ts
 
@@ -240,8 +240,8 @@ module _ {K : Type 0} (G : Ground K) where
 
   abbrev pub type_so_far : Typing K → List Leveled → List Leveled
   type_so_far (want_type room h) ts = before_type h ts
-  type_so_far (typed t h) ts = before_type h (spell_type leveled t (holder_level h) 0 ts)
-  type_so_far (closing t h) ts = before_type (listed h) (spell_type leveled t (holder_level h + 1) 0 ts)
+  type_so_far (typed t h) ts = before_type h (spell_type mark_level t (holder_level h) 0 ts)
+  type_so_far (closing t h) ts = before_type (listed h) (spell_type mark_level t (holder_level h + 1) 0 ts)
 
   abbrev pub lift_holder : ℕ → Holder K → Holder K
   lift_holder k (whole x) = whole (G.lift k x)

@@ -1,6 +1,6 @@
 -- A machine that reads a type alone, and what a text is by it.
 use Rattle.std.proofs.Common.{◌≡◌, ◌≤◌, ◌<◌, ℕ, ◌+◌, false, List, [], ◌∷◌, map, length, Option, Some, Result, Ok, Err, IsUtf8, refl, sym, ap, subst, ◌∙◌, arith}
-use Rattle.gql_lex.specs.Sources.{Source, ended, faulty, token, lexed}
+use Rattle.gql_lex.specs.Sources.{Source, ended, faulty, token, lex_from}
 use Rattle.gql_lex.specs.Toks.{Tok}
 use Rattle.gql_ast.specs.Ty.{Ty, named, list, non_null}
 use Rattle.gql_syntax.specs.FirstFault.{Shallow}
@@ -17,7 +17,7 @@ use Rattle.gql_syntax.proofs.Marks.{map-type}
 use Rattle.gql_syntax.proofs.PartLaws.{EndsAs, type_read_ok, type_read_err}
 use Rattle.gql_syntax.proofs.Reading.{found, only}
 use Rattle.gql_syntax.proofs.Shapes.{ShapedType}
-use Rattle.gql_syntax.proofs.Standing.{leveled, Ground, GroundLaws, type_level, type_so_far, lift_type, SeatedType}
+use Rattle.gql_syntax.proofs.Standing.{mark_level, Ground, GroundLaws, type_level, type_so_far, lift_type, SeatedType}
 use Rattle.gql_syntax.proofs.TypeLaws.{type_sound, type_shallow, type_seated, type_deep, type_lift_step, type_lift_unexpected, type_lift_too_deep, lift_type_level, lift_type_so_far, lift_type_seated, typed_at, reads_type, type_end, type_end-form, type_ends_there, type_depth_from}
 
 -- a type is read; it is there, and nothing may follow
@@ -47,7 +47,7 @@ ground_laws = record { lift_front = λ k x ts. refl; lift_constant = λ k x. ref
 
 abbrev so_far : Alone → List Leveled → List Leveled
 so_far (reading r) ts = type_so_far ground r ts
-so_far (over t) ts = spell_type leveled t 0 0 ts
+so_far (over t) ts = spell_type mark_level t 0 0 ts
 
 abbrev level_at : Alone → Tok → ℕ
 level_at (reading r) x = type_level (λ k x. 0) r x
@@ -83,30 +83,30 @@ shallow : (limit : ℕ) (s : Alone) (x : Tok) (next : Alone) → Seated limit s 
 shallow limit (reading r) x next h e = type_shallow ground (λ k x. 0) reading hand pass limit (λ k t x h. tt) r x next h e
 shallow limit (over t) x next h e = omega arith
 
-seated : (limit : ℕ) (s : Alone) (x : Tok) (next : Alone) → Seated limit s → step s x ≡ Ok next → Seated limit next
-seated limit (reading r) x next h e =
+keeps_seat : (limit : ℕ) (s : Alone) (x : Tok) (next : Alone) → Seated limit s → step s x ≡ Ok next → Seated limit next
+keeps_seat limit (reading r) x next h e =
     type_seated ground (λ k x. 0) reading hand pass limit (Seated limit) (λ r h. h) (λ k t h f. f) (λ k t x h f. tt) r x next h e
-seated limit (over t) x next h e = absurd cc
+keeps_seat limit (over t) x next h e = absurd cc
 
 deep : (limit : ℕ) (s : Alone) (x : Tok) → Seated limit s → step s x ≡ Err too_deep → limit < level_at s x
 deep limit (reading r) x h e = type_deep ground (λ k x. 0) reading hand pass limit (λ k t x h. tt) r x h e
 deep limit (over t) x h e = absurd cc
 
-written_type : (s : Alone) (t : Ty) → ShapedType t → so_far s [] ≡ spell_type leveled t 0 0 [] → Written types machine s t
+written_type : (s : Alone) (t : Ty) → ShapedType t → so_far s [] ≡ spell_type mark_level t 0 0 [] → Written types machine s t
 written_type s t h e = record {
-  tokens = ap (λ ls. map (λ (p : Leveled). p.0) ls) e ∙ map-type (λ (p : Leveled). p.0) leveled t 0 0 [];
-  levels = ap (λ ls. map (λ (p : Leveled). p.1) ls) e ∙ map-type (λ (p : Leveled). p.1) leveled t 0 0 [];
+  tokens = ap (λ ls. map (λ (p : Leveled). p.0) ls) e ∙ map-type (λ (p : Leveled). p.0) mark_level t 0 0 [];
+  levels = ap (λ ls. map (λ (p : Leveled). p.1) ls) e ∙ map-type (λ (p : Leveled). p.1) mark_level t 0 0 [];
   formed = λ f. (type_forms t 0 0 h [] f).0;
 }
 
-written : (limit : ℕ) (s : Alone) (v : Ty) → Seated limit s → finish s ≡ Some v → Written types machine s v
-written limit (over t) v h e = let same : t ≡ v = cc in subst (λ v. Written types machine (over t) v) same (written_type (over t) t h refl)
-written limit (reading (typed t (whole k))) v h e =
+finish_writes : (limit : ℕ) (s : Alone) (v : Ty) → Seated limit s → finish s ≡ Some v → Written types machine s v
+finish_writes limit (over t) v h e = let same : t ≡ v = cc in subst (λ v. Written types machine (over t) v) same (written_type (over t) t h refl)
+finish_writes limit (reading (typed t (whole k))) v h e =
     let same : t ≡ v = cc in
     subst (λ v. Written types machine (reading (typed t (whole k))) v) same (written_type (reading (typed t (whole k))) t h.1 refl)
-written limit (reading (want_type room g)) v h e = absurd cc
-written limit (reading (typed t (listed g))) v h e = absurd cc
-written limit (reading (closing t g)) v h e = absurd cc
+finish_writes limit (reading (want_type room g)) v h e = absurd cc
+finish_writes limit (reading (typed t (listed g))) v h e = absurd cc
+finish_writes limit (reading (closing t g)) v h e = absurd cc
 
 lift_step : (k limit : ℕ) (s : Alone) (x : Tok) (next : Alone) → step s x ≡ Ok next → step (lift k s) x ≡ Ok (lift k next)
 lift_step k limit (reading r) x next e =
@@ -174,9 +174,9 @@ laws = record {
   empty = λ limit ts. refl;
   sound = sound;
   shallow = shallow;
-  seated = seated;
+  seated = keeps_seat;
   deep = deep;
-  written = written;
+  written = finish_writes;
   lift_start = λ k limit. refl;
   lift_step = lift_step;
   lift_unexpected = lift_unexpected;
@@ -198,23 +198,23 @@ ends_as (typed t (listed h)) = refl
 ends_as (closing t h) = refl
 
 abbrev read_whole : List ℕ → Result Ty Stopped
-read_whole text = run step finish (length text) (machine.start nesting_limit) (lexed 0 text)
+read_whole text = run step finish (length text) (machine.start nesting_limit) (lex_from 0 text)
 
-goes_behind : (text : List ℕ) (t : Ty) (rest : Source) → type_read nesting_limit (length text) (lexed 0 text) ≡ Ok (t, rest)
+goes_behind : (text : List ℕ) (t : Ty) (rest : Source) → type_read nesting_limit (length text) (lex_from 0 text) ≡ Ok (t, rest)
     → read_whole text ≡ run step finish (length text) (over t) rest
-goes_behind text t rest e = type_read_ok reading hand pass step finish (λ r x. refl) (λ k t x. refl) ends_as tt nesting_limit (length text) (lexed 0 text) t rest e
+goes_behind text t rest e = type_read_ok reading hand pass step finish (λ r x. refl) (λ k t x. refl) ends_as tt nesting_limit (length text) (lex_from 0 text) t rest e
 
-pub type_found : (text : List ℕ) (t : Ty) (rest : Source) → IsUtf8 text → type_read nesting_limit (length text) (lexed 0 text) ≡ Ok (t, rest) → rest ≡ ended
+pub type_found : (text : List ℕ) (t : Ty) (rest : Source) → IsUtf8 text → type_read nesting_limit (length text) (lex_from 0 text) ≡ Ok (t, rest) → rest ≡ ended
     → IsTypeText text t
 type_found text t rest u e n =
     let whole_read : read_whole text ≡ Ok t = goes_behind text t rest e ∙ ap (λ r. run step finish (length text) (over t) r) n in
-    let f = found types machine laws nesting_limit (length text) (lexed 0 text) t (forms text u) whole_read in
+    let f = found types machine laws nesting_limit (length text) (lex_from 0 text) t (forms text u) whole_read in
     record { tokens = f.0; formed = f.1; shallow = f.2 }
 
 type_only : (text : List ℕ) (t : Ty) → IsTypeText text t → read_whole text ≡ Ok t
-type_only text t i = only types machine laws nesting_limit (length text) (lexed 0 text) t i.formed i.shallow i.tokens
+type_only text t i = only types machine laws nesting_limit (length text) (lex_from 0 text) t i.formed i.shallow i.tokens
 
-pub more_follows : (text : List ℕ) (t : Ty) (rest : Source) → type_read nesting_limit (length text) (lexed 0 text) ≡ Ok (t, rest) → (rest ≡ ended → ⊥)
+pub more_follows : (text : List ℕ) (t : Ty) (rest : Source) → type_read nesting_limit (length text) (lex_from 0 text) ≡ Ok (t, rest) → (rest ≡ ended → ⊥)
     → (u : Ty) → IsTypeText text u → ⊥
 more_follows text t ended e n u i = n refl
 more_follows text t (faulty code at) e n u i =
@@ -222,9 +222,9 @@ more_follows text t (faulty code at) e n u i =
 more_follows text t (token p rest) e n u i =
     let both : Ok u ≡ run step finish (length text) (over t) (token p rest) = sym (type_only text u i) ∙ goes_behind text t (token p rest) e in cc
 
-pub none_read : (text : List ℕ) (f : Stopped) → type_read nesting_limit (length text) (lexed 0 text) ≡ Err f → (u : Ty) → IsTypeText text u → ⊥
+pub none_read : (text : List ℕ) (f : Stopped) → type_read nesting_limit (length text) (lex_from 0 text) ≡ Err f → (u : Ty) → IsTypeText text u → ⊥
 none_read text f e u i =
-    let fails : read_whole text ≡ Err f = type_read_err reading hand pass step finish (λ r x. refl) (λ k t x. refl) ends_as tt nesting_limit (length text) (lexed 0 text) f e in
+    let fails : read_whole text ≡ Err f = type_read_err reading hand pass step finish (λ r x. refl) (λ k t x. refl) ends_as tt nesting_limit (length text) (lex_from 0 text) f e in
     let both : Ok u ≡ Err f = sym (type_only text u i) ∙ fails in cc
 
 pub one_type : (text : List ℕ) (t u : Ty) → IsTypeText text t → IsTypeText text u → t ≡ u

@@ -14,19 +14,19 @@ use Rattle.gql_syntax.proofs.Forms.{AreToks}
 use Rattle.gql_syntax.proofs.Laws.{Leveled, reach_from, reach}
 use Rattle.gql_syntax.proofs.Marks.{above_any}
 use Rattle.gql_syntax.proofs.Reading.{reach-append}
-use Rattle.gql_syntax.proofs.Standing.{leveled, token_mark, level_mark, Ground, GroundLaws, holder_level, opening_level, type_level, holder_on, type_on, before_type, type_so_far, lift_holder, lift_type, SeatedHolder, SeatedType, Lifts, Opens, IfTooDeep}
+use Rattle.gql_syntax.proofs.Standing.{mark_level, token_mark, level_mark, Ground, GroundLaws, holder_level, opening_level, type_level, holder_on, type_on, before_type, type_so_far, lift_holder, lift_type, SeatedHolder, SeatedType, Lifts, Opens, IfTooDeep}
 use Rattle.gql_syntax.proofs.ValueLaws.{from_ok, from_too_deep, from_lifts, from_lifts_unexpected, from_opens}
 
 module _ {S K : Type 0} (G : Ground K) (passed : K → Tok → ℕ) (into : Typing K → S) (hand : K → Ty → S) (pass : K → Ty → Tok → Result S Halt) where
   module _ (limit : ℕ) (so_far : S → List Leveled → List Leveled)
       (at_into : (r : Typing K) (ts : List Leveled) → so_far (into r) ts ≡ type_so_far G r ts)
-      (at_hand : (k : K) (t : Ty) (ts : List Leveled) → so_far (hand k t) ts ≡ G.front k (spell_type leveled t 0 0 ts))
+      (at_hand : (k : K) (t : Ty) (ts : List Leveled) → so_far (hand k t) ts ≡ G.front k (spell_type mark_level t 0 0 ts))
       (at_pass : (k : K) (t : Ty) (x : Tok) → G.Seated limit k → ShapedType t
-      → IfOk (pass k t x) (λ next. (ts : List Leveled) → so_far next ts ≡ G.front k (spell_type leveled t 0 0 ((x, passed k x) ∷ ts)))) where
-    banged : (t : Ty) (around : ℕ) (ts : List Leveled) → spell_type leveled (non_null t) around 0 ts ≡ spell_type leveled t around 0 ((tok.bang, 0) ∷ ts)
-    banged t around ts = above_any leveled (λ t level n k. refl) t around 1 0 ((tok.bang, 0) ∷ ts)
+      → IfOk (pass k t x) (λ next. (ts : List Leveled) → so_far next ts ≡ G.front k (spell_type mark_level t 0 0 ((x, passed k x) ∷ ts)))) where
+    banged : (t : Ty) (around : ℕ) (ts : List Leveled) → spell_type mark_level (non_null t) around 0 ts ≡ spell_type mark_level t around 0 ((tok.bang, 0) ∷ ts)
+    banged t around ts = above_any mark_level (λ t level n k. refl) t around 1 0 ((tok.bang, 0) ∷ ts)
 
-    type_put : (t : Ty) (h : Holder K) (ts : List Leveled) → so_far (put_type into hand pass (non_null t) h) ts ≡ before_type G h (spell_type leveled t (holder_level h) 0 ((tok.bang, 0) ∷ ts))
+    type_put : (t : Ty) (h : Holder K) (ts : List Leveled) → so_far (put_type into hand pass (non_null t) h) ts ≡ before_type G h (spell_type mark_level t (holder_level h) 0 ((tok.bang, 0) ∷ ts))
     type_put t (whole k) ts = at_hand k (non_null t) ts ∙ ap (λ w. G.front k w) (banged t 0 ts)
     type_put t (listed h) ts = at_into (closing (non_null t) h) ts ∙ ap (λ w. before_type G (listed h) w) (banged t (holder_level h + 1) ts)
 
@@ -169,10 +169,10 @@ module _ {K : Type 0} (G : Ground K) (laws : GroundLaws G) where
   pub lift_type_so_far : (k : ℕ) (r : Typing K) (ts : List Leveled) → type_so_far G (lift_type G k r) ts ≡ type_so_far G r ts
   lift_type_so_far k (want_type room h) ts = lift_before_type k h ts
   lift_type_so_far k (typed t h) ts =
-      ap (λ n. before_type G (lift_holder G k h) (spell_type leveled t n 0 ts)) (lift_holder_level k h) ∙ lift_before_type k h (spell_type leveled t (holder_level h) 0 ts)
+      ap (λ n. before_type G (lift_holder G k h) (spell_type mark_level t n 0 ts)) (lift_holder_level k h) ∙ lift_before_type k h (spell_type mark_level t (holder_level h) 0 ts)
   lift_type_so_far k (closing t h) ts =
-      ap (λ n. before_type G (listed (lift_holder G k h)) (spell_type leveled t (n + 1) 0 ts)) (lift_holder_level k h)
-      ∙ lift_before_type k (listed h) (spell_type leveled t (holder_level h + 1) 0 ts)
+      ap (λ n. before_type G (listed (lift_holder G k h)) (spell_type mark_level t (n + 1) 0 ts)) (lift_holder_level k h)
+      ∙ lift_before_type k (listed h) (spell_type mark_level t (holder_level h + 1) 0 ts)
 
   lift_seated_holder : (k limit : ℕ) (h : Holder K) → SeatedHolder G limit h → SeatedHolder G (k + limit) (lift_holder G k h)
   lift_seated_holder k limit (whole y) s = laws.lift_seated k limit y s

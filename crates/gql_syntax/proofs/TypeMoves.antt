@@ -70,8 +70,8 @@ may_be_null size (token p rest) t (whole k) n =
     (λ e. absurd cc) (λ _. refl) (λ _. refl) (λ _. refl) (λ _. refl) (λ _. refl) (λ _. refl) (λ _. refl) (λ _. refl)
     (λ _. refl) (λ _. refl) (λ _. refl) (λ _. refl) (λ _. refl) (λ _ _. refl) (λ _ _. refl) (λ _ _. refl) (tok_of_piece p) n)
 
-pub resized : (m n : ℕ) (x y : Part (Typing One) Ty) (s u : Source) → m ≡ n → type_on m x s ≡ type_on m y u → type_on n x s ≡ type_on n y u
-resized m n x y s u e h = subst (λ k. type_on k x s ≡ type_on k y u) e h
+pub same_type_course : (m n : ℕ) (x y : Part (Typing One) Ty) (s u : Source) → m ≡ n → type_on m x s ≡ type_on m y u → type_on n x s ≡ type_on n y u
+same_type_course m n x y s u e h = subst (λ k. type_on k x s ≡ type_on k y u) e h
 
 pub resized_tells : (m n : ℕ) (f : Fault) (x : Part (Typing One) Ty) (s : Source) → m ≡ n → Tells f (type_on m x s) → Tells f (type_on n x s)
 resized_tells m n f x s e h = subst (λ k. Tells f (type_on k x s)) e h

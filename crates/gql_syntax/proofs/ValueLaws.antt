@@ -15,7 +15,7 @@ use Rattle.gql_syntax.specs.Words.{IsEnumName, true_word, false_word, null_word,
 use Rattle.gql_syntax.proofs.Forms.{AreToks, zero_fits}
 use Rattle.gql_syntax.proofs.Laws.{Leveled, reach_from, reach}
 use Rattle.gql_syntax.proofs.Marks.{values-then, members-then, shaped_values-then, shaped_members-then}
-use Rattle.gql_syntax.proofs.Standing.{leveled, token_mark, level_mark, Ground, GroundLaws, place_level, begin_level, value_level, place_on, value_on, before, value_so_far, place_constant, lift_place, lift_value, SeatedPlace, SeatedValue, Lifts, Opens, IfTooDeep}
+use Rattle.gql_syntax.proofs.Standing.{mark_level, token_mark, level_mark, Ground, GroundLaws, place_level, begin_level, value_level, place_on, value_on, before, value_so_far, place_constant, lift_place, lift_value, SeatedPlace, SeatedValue, Lifts, Opens, IfTooDeep}
 
 -- ---- what is said of a step, of the state that it gives
 
@@ -52,20 +52,20 @@ spelled_null : (n : List ℕ) → bytes_eq n null_word ≡ true → n ≡ null_w
 spelled_null n e = grind (arith, bytes_eq-Decides)
 
 -- a word is written as itself
-pub spell_word : (n : List ℕ) (around : ℕ) (ts : List Leveled) → spell_value leveled (word_value n) around ts ≡ (tok.name n, 0) ∷ ts
+pub spell_word : (n : List ℕ) (around : ℕ) (ts : List Leveled) → spell_value mark_level (word_value n) around ts ≡ (tok.name n, 0) ∷ ts
 spell_word n around ts = on_true (bytes_eq n true_word) refl
   where
-    on_null : (b : Bool) → bytes_eq n null_word ≡ b → spell_value leveled (cond b null (enum n)) around ts ≡ (tok.name n, 0) ∷ ts
+    on_null : (b : Bool) → bytes_eq n null_word ≡ b → spell_value mark_level (cond b null (enum n)) around ts ≡ (tok.name n, 0) ∷ ts
     on_null true e = ap (λ w. (tok.name w, 0) ∷ ts) (sym (spelled_null n e))
     on_null false e = refl
 
     on_false : (b : Bool) → bytes_eq n false_word ≡ b
-        → spell_value leveled (cond b (truth false) (cond (bytes_eq n null_word) null (enum n))) around ts ≡ (tok.name n, 0) ∷ ts
+        → spell_value mark_level (cond b (truth false) (cond (bytes_eq n null_word) null (enum n))) around ts ≡ (tok.name n, 0) ∷ ts
     on_false true e = ap (λ w. (tok.name w, 0) ∷ ts) (sym (spelled_false n e))
     on_false false e = on_null (bytes_eq n null_word) refl
 
     on_true : (b : Bool) → bytes_eq n true_word ≡ b
-        → spell_value leveled (cond b (truth true) (cond (bytes_eq n false_word) (truth false) (cond (bytes_eq n null_word) null (enum n)))) around ts
+        → spell_value mark_level (cond b (truth true) (cond (bytes_eq n false_word) (truth false) (cond (bytes_eq n null_word) null (enum n)))) around ts
         ≡ (tok.name n, 0) ∷ ts
     on_true true e = ap (λ w. (tok.name w, 0) ∷ ts) (sym (spelled_true n e))
     on_true false e = on_false (bytes_eq n false_word) refl
@@ -94,15 +94,15 @@ module _ {S K : Type 0} (G : Ground K) (into : Reading K → S) (hand : K → Va
   -- the tokens read so far, in the whole
   module _ (so_far : S → List Leveled → List Leveled)
       (at_into : (r : Reading K) (ts : List Leveled) → so_far (into r) ts ≡ value_so_far G r ts)
-      (at_hand : (k : K) (v : Val) (ts : List Leveled) → so_far (hand k v) ts ≡ G.front k (spell_value leveled v 0 ts)) where
-    value_put : (v : Val) (p : Place K) (ts : List Leveled) → so_far (put into hand v p) ts ≡ before G p (spell_value leveled v (place_level p) ts)
+      (at_hand : (k : K) (v : Val) (ts : List Leveled) → so_far (hand k v) ts ≡ G.front k (spell_value mark_level v 0 ts)) where
+    value_put : (v : Val) (p : Place K) (ts : List Leveled) → so_far (put into hand v p) ts ≡ before G p (spell_value mark_level v (place_level p) ts)
     value_put v (outer k) ts = at_hand k v ts
     value_put v (item c room vs p) ts =
         at_into (items c room (vals_then vs v) p) ts
-        ∙ ap (λ w. before G p ((tok.open_bracket, place_level p + 1) ∷ w)) (values-then leveled vs v (place_level p + 1) ts)
+        ∙ ap (λ w. before G p ((tok.open_bracket, place_level p + 1) ∷ w)) (values-then mark_level vs v (place_level p + 1) ts)
     value_put v (of_member c room ms n p) ts =
         at_into (members c room (members_then ms n v) p) ts
-        ∙ ap (λ w. before G p ((tok.open_brace, place_level p + 1) ∷ w)) (members-then leveled ms n v (place_level p + 1) ts)
+        ∙ ap (λ w. before G p ((tok.open_brace, place_level p + 1) ∷ w)) (members-then mark_level ms n v (place_level p + 1) ts)
 
     value_begins : (c : Bool) (room : ℕ) (p : Place K) (t : Tok)
         → IfOk (begin into hand c room p t) (λ next. (ts : List Leveled) → so_far next ts ≡ before G p ((t, begin_level (place_level p) t) ∷ ts))
@@ -309,18 +309,18 @@ module _ {K : Type 0} (G : Ground K) (laws : GroundLaws G) where
   lift_before : (k : ℕ) (p : Place K) (ts : List Leveled) → before G (lift_place G k p) ts ≡ before G p ts
   lift_before k (outer x) ts = laws.lift_front k x ts
   lift_before k (item c room vs p) ts =
-      ap (λ n. before G (lift_place G k p) ((tok.open_bracket, n + 1) ∷ spell_values leveled vs (n + 1) ts)) (lift_place_level k p)
-      ∙ lift_before k p ((tok.open_bracket, place_level p + 1) ∷ spell_values leveled vs (place_level p + 1) ts)
+      ap (λ n. before G (lift_place G k p) ((tok.open_bracket, n + 1) ∷ spell_values mark_level vs (n + 1) ts)) (lift_place_level k p)
+      ∙ lift_before k p ((tok.open_bracket, place_level p + 1) ∷ spell_values mark_level vs (place_level p + 1) ts)
   lift_before k (of_member c room ms n p) ts =
-      ap (λ l. before G (lift_place G k p) ((tok.open_brace, l + 1) ∷ spell_members leveled ms (l + 1) ((tok.name n, 0) ∷ (tok.colon, 0) ∷ ts))) (lift_place_level k p)
-      ∙ lift_before k p ((tok.open_brace, place_level p + 1) ∷ spell_members leveled ms (place_level p + 1) ((tok.name n, 0) ∷ (tok.colon, 0) ∷ ts))
+      ap (λ l. before G (lift_place G k p) ((tok.open_brace, l + 1) ∷ spell_members mark_level ms (l + 1) ((tok.name n, 0) ∷ (tok.colon, 0) ∷ ts))) (lift_place_level k p)
+      ∙ lift_before k p ((tok.open_brace, place_level p + 1) ∷ spell_members mark_level ms (place_level p + 1) ((tok.name n, 0) ∷ (tok.colon, 0) ∷ ts))
 
   lift_before_object : (k : ℕ) (p : Place K) (ms : Members) (ts : List Leveled)
-      → before G (lift_place G k p) ((tok.open_brace, place_level (lift_place G k p) + 1) ∷ spell_members leveled ms (place_level (lift_place G k p) + 1) ts)
-      ≡ before G p ((tok.open_brace, place_level p + 1) ∷ spell_members leveled ms (place_level p + 1) ts)
+      → before G (lift_place G k p) ((tok.open_brace, place_level (lift_place G k p) + 1) ∷ spell_members mark_level ms (place_level (lift_place G k p) + 1) ts)
+      ≡ before G p ((tok.open_brace, place_level p + 1) ∷ spell_members mark_level ms (place_level p + 1) ts)
   lift_before_object k p ms ts =
-      ap (λ n. before G (lift_place G k p) ((tok.open_brace, n + 1) ∷ spell_members leveled ms (n + 1) ts)) (lift_place_level k p)
-      ∙ lift_before k p ((tok.open_brace, place_level p + 1) ∷ spell_members leveled ms (place_level p + 1) ts)
+      ap (λ n. before G (lift_place G k p) ((tok.open_brace, n + 1) ∷ spell_members mark_level ms (n + 1) ts)) (lift_place_level k p)
+      ∙ lift_before k p ((tok.open_brace, place_level p + 1) ∷ spell_members mark_level ms (place_level p + 1) ts)
 
   pub lift_value_so_far : (k : ℕ) (r : Reading K) (ts : List Leveled) → value_so_far G (lift_value G k r) ts ≡ value_so_far G r ts
   lift_value_so_far k (want c room p) ts = lift_before k p ts

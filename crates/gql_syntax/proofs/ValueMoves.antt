@@ -159,8 +159,8 @@ tells_by NoMemory a b e t = tt
 
 -- ---- the same with the size of another text that is the same
 
-pub resized : (m n : ℕ) (x y : Part (Reading One) Val) (s u : Source) → m ≡ n → value_on m x s ≡ value_on m y u → value_on n x s ≡ value_on n y u
-resized m n x y s u e h = subst (λ k. value_on k x s ≡ value_on k y u) e h
+pub same_value_course : (m n : ℕ) (x y : Part (Reading One) Val) (s u : Source) → m ≡ n → value_on m x s ≡ value_on m y u → value_on n x s ≡ value_on n y u
+same_value_course m n x y s u e h = subst (λ k. value_on k x s ≡ value_on k y u) e h
 
 pub resized_tells : (m n : ℕ) (f : Fault) (x : Part (Reading One) Val) (s : Source) → m ≡ n → Tells f (value_on m x s) → Tells f (value_on n x s)
 resized_tells m n f x s e h = subst (λ k. Tells f (value_on k x s)) e h

@@ -1,7 +1,7 @@
 -- What it is to read the text of a file by a grammar: its one tree with the places of its nodes, or its first fault.
 use Rattle.std.specs.Prelude.{◌≡◌, ◌⊎◌, ◌↔◌, ℕ, List, [], Some, length, Result, Ok, Err, IsUtf8}
 use Rattle.gql_lex.specs.Lines.{place_at}
-use Rattle.gql_lex.specs.Sources.{lexed}
+use Rattle.gql_lex.specs.Sources.{lex_from}
 use Rattle.gql_lex.specs.Toks.{tokens_of}
 use Rattle.gql_ast.specs.declared.fault.ParseFault.{ParseFault}
 use Rattle.gql_ast.specs.declared.fault.ParseFault.TheVariants.{Syntax, NoMemory}
@@ -20,7 +20,7 @@ pub record IsTree {V : Type 0} (g : Grammar V) (nodes : V → List ℕ) (file : 
   pub tokens : tokens_of text ≡ Some (g.tokens v)
   pub formed : g.Formed v
   pub shallow : Shallow nesting_limit (g.levels v)
-  pub places : node_places ≡ place_nodes file text [] (nodes v) (lexed 0 text)
+  pub places : node_places ≡ place_nodes file text [] (nodes v) (lex_from 0 text)
 
 abbrev pub not_utf8 : ℕ
 not_utf8 = 7
@@ -29,7 +29,7 @@ not_utf8 = 7
 pub record FaultAtOffset {V : Type 0} (g : Grammar V) (text : List ℕ) (f : SyntaxFault) : Type 0 where
   pub at : ℕ
   pub utf8 : IsUtf8 text
-  pub first : IsFirstFault g nesting_limit (length text) (lexed 0 text) f.code at
+  pub first : IsFirstFault g nesting_limit (length text) (lex_from 0 text) f.code at
   pub line : f.line ≡ (place_at text at).line
   pub column : f.column ≡ (place_at text at).column
 

@@ -2,7 +2,7 @@
 ghost use Rattle.std.specs.Prelude.{◌≡◌, ◌≢◌, true, false, ◌<◌, ◌-◌, ◌^◌, [], ◌∷◌, ◌++◌, ℕ, List, length, OnOk, IfSome, None, Some, replicate};
 ghost use Rattle.gql_lex.specs.Answers.{piece_of};
 ghost use Rattle.gql_lex.specs.Heads.{IsToken};
-ghost use Rattle.gql_lex.specs.Sources.{ended, lexed, token};
+ghost use Rattle.gql_lex.specs.Sources.{ended, lex_from, token};
 ghost use Rattle.gql_syntax.specs.Answers.{wrong_at};
 ghost use Rattle.gql_syntax.specs.Nexts.{behind, IsLast, next_is, next_is_text, next_word, repeat, stopped_at, too_deep_at};
 ghost use Rattle.gql_syntax.specs.Places.{lay};
@@ -53,7 +53,7 @@ impl<'a> Cursor<'a> {
     /// The start of a text, with no places; takes no memory.
     pub fn new(alloc: Global, file: u32, text: &'a str) -> Cursor<'a>
         requires short { length text.now < 2 ^ 32 - 1 }
-        ensures { result ≡ record { file = file; text = text.now; source = lexed 0 text.now; places = [] } }
+        ensures { result ≡ record { file = file; text = text.now; source = lex_from 0 text.now; places = [] } }
     {
         let mut lexer = Lexer::new(text);
         let next = lexer.next();

@@ -1,5 +1,5 @@
 //! Documents with their trees and the places of their nodes, and faults with their places.
-use crate::texts::{listed, short, times};
+use crate::texts::{list_places, short, times};
 use gql_ast::{Document, ParseFault, Placed};
 use gql_parse::parse_document;
 use std::alloc::Global;
@@ -21,7 +21,7 @@ fn tree(alloc: Global, text: &str) -> Result<String, Fail> {
 /// The places of the nodes of a text.
 fn places(alloc: Global, text: &str) -> Result<String, Fail> {
     match read(alloc, text) {
-        Ok(document) => listed(alloc, &document.places),
+        Ok(document) => list_places(alloc, &document.places),
         Err(fault) => Ok(format!(in alloc; "{fault:?}")?),
     }
 }

@@ -5,7 +5,7 @@ use std::test::Fail;
 
 /// The texts of a source's tokens, each after the letter of its kind and before a space, and then
 /// the code of its fault.
-fn listed(alloc: Global, text: &str) -> Result<String, Fail> {
+fn list_places(alloc: Global, text: &str) -> Result<String, Fail> {
     let mut lexer = Lexer::new(text);
     let mut list = String::new(alloc);
     for _ in 0..40 {
@@ -45,7 +45,7 @@ fn fault_of(text: &str) -> Option<LexFault> {
 }
 
 /// The place of a byte, where a character begins there.
-fn placed(text: &str, at: usize) -> Option<Place> {
+fn place_at(text: &str, at: usize) -> Option<Place> {
     if text.len() < 1000 && text.is_char_boundary(at) {
         Some(place(text, at))
     } else {
@@ -59,7 +59,7 @@ fn fault_shown(alloc: Global, text: &str) -> Result<String, Fail> {
     let Some(fault) = fault_of(text) else {
         return Ok(String::new(alloc));
     };
-    let Some(place) = placed(text, fault.at) else {
+    let Some(place) = place_at(text, fault.at) else {
         return Ok(String::new(alloc));
     };
     Ok(format!(in alloc;
@@ -69,7 +69,7 @@ fn fault_shown(alloc: Global, text: &str) -> Result<String, Fail> {
 }
 
 /// What a source says that is one string; nothing of another.
-fn said(alloc: Global, text: &str) -> Result<String, Fail> {
+fn text_of_tokens(alloc: Global, text: &str) -> Result<String, Fail> {
     let mut lexer = Lexer::new(text);
     match lexer.next() {
         Ok(Some(token)) => match token.kind {
@@ -102,7 +102,7 @@ const TOKENS: &str = ";~\
 fn tokens_of_documents(rt: HostRuntime) -> Result<(), Fail> {
     for row in TOKENS.split('~') {
         let (text, wanted) = parts(row);
-        let list = listed(rt.alloc(), text)?;
+        let list = list_places(rt.alloc(), text)?;
         assert_eq!(rt; list.as_str(), wanted);
     }
     Ok(())
@@ -152,7 +152,7 @@ const STRINGS: &str = "\"\";~\
 fn values_of_strings(rt: HostRuntime) -> Result<(), Fail> {
     for row in STRINGS.split('~') {
         let (text, wanted) = parts(row);
-        let value = said(rt.alloc(), text)?;
+        let value = text_of_tokens(rt.alloc(), text)?;
         assert_eq!(rt; value.as_str(), wanted);
     }
     Ok(())

@@ -1,6 +1,6 @@
 //! Schemas after the GraphQL specification (October 2021, section 3), with the places of their nodes, and
 //! faults with theirs. The trees, the places and the faults are those of graphql-core 3.2.8.
-use crate::texts::{listed, short, times};
+use crate::texts::{list_places, short, times};
 use gql_ast::ParseFault;
 use gql_sdl::parse_schema;
 use std::alloc::Global;
@@ -17,7 +17,7 @@ fn definitions_in(alloc: Global, text: &str) -> Result<String, Fail> {
 /// The places of the nodes of a text.
 fn places_in(alloc: Global, text: &str) -> Result<String, Fail> {
     match parse_schema(alloc, 7, short(text.as_bytes())) {
-        Ok(schema) => listed(alloc, &schema.places),
+        Ok(schema) => list_places(alloc, &schema.places),
         Err(fault) => Ok(format!(in alloc; "{fault:?}")?),
     }
 }

@@ -26,7 +26,7 @@ pub(crate) fn times(alloc: Global, front: &str, text: &str, count: usize) -> Res
 }
 
 /// Lines and columns.
-pub(crate) fn listed(alloc: Global, places: &FilePlaces) -> Result<String, Fail> {
+pub(crate) fn list_places(alloc: Global, places: &FilePlaces) -> Result<String, Fail> {
     let mut list = String::new(alloc);
     for place in places.as_slice() {
         let shown = format!(in alloc; "{}:{} ", place.line, place.column)?;

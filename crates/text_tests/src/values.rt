@@ -1,6 +1,6 @@
 //! Texts of the GraphQL specification (October 2021, section 2) with the places of their nodes, and
 //! faults with their offsets.
-use crate::texts::{listed, times};
+use crate::texts::{list_places, times};
 use gql_ast::Kind;
 use gql_syntax::{
     Cursor, Fault, NESTING_LIMIT, expect_word, kind_of, read_arguments, read_default,
@@ -33,14 +33,14 @@ fn type_in(alloc: Global, text: &str) -> Result<String, Fail> {
 fn value_places(alloc: Global, text: &str) -> Result<String, Fail> {
     let mut cursor = start(alloc, text);
     let _ = read_value(alloc, false, NESTING_LIMIT, &mut cursor);
-    listed(alloc, &cursor.into_places())
+    list_places(alloc, &cursor.into_places())
 }
 
 /// The places of a type's nodes.
 fn type_places(alloc: Global, text: &str) -> Result<String, Fail> {
     let mut cursor = start(alloc, text);
     let _ = read_type(alloc, &mut cursor);
-    listed(alloc, &cursor.into_places())
+    list_places(alloc, &cursor.into_places())
 }
 
 #[test]

@@ -29,12 +29,12 @@ returns-then-bytes-end-eq34 c =
 
 pub text-preserved : goal.text-preserved
 text-preserved c =
-    let i : c.unescaped-character.result.1 - 1 + 1 ≡ c.unescaped-character.result.1 = omega (arith, c.unescaped-character.ensures.within.0) in
-    let l : c.unescaped-character.result.1 - 1 < length c.as_bytes-bytes.result.now = omega (arith, c.unescaped-character.ensures.within.1) in
+    let i : c.unescape-character.result.1 - 1 + 1 ≡ c.unescape-character.result.1 = omega (arith, c.unescape-character.ensures.within.0) in
+    let l : c.unescape-character.result.1 - 1 < length c.as_bytes-bytes.result.now = omega (arith, c.unescape-character.ensures.within.1) in
     record {
-      ended = c.unescaped-character.ensures.rest;
-      value = pushed_two _ _ _ _ _ _ _ _ _ c.text.invariant.value c.plain_end-end.ensures.value c.unescaped-character.ensures.value
+      ended = c.unescape-character.ensures.rest;
+      value = pushed_two _ _ _ _ _ _ _ _ _ c.text.invariant.value c.plain_end-end.ensures.value c.unescape-character.ensures.value
           (rw (← c.as_bytes-bytes.ensures.value) at (rw c.range.ensures.value at c.in_ok-push_str.ensures.bytes)) c.in_ok-push.ensures.bytes;
-      boundary = rw i at (IsCharBoundary-after_ascii c.as_bytes-bytes.result.now (c.unescaped-character.result.1 - 1) c.as_bytes-bytes.ensures.utf8 l c.unescaped-character.ensures.ascii);
-      within = omega (arith, c.unescaped-character.ensures.within.1);
+      boundary = rw i at (IsCharBoundary-after_ascii c.as_bytes-bytes.result.now (c.unescape-character.result.1 - 1) c.as_bytes-bytes.ensures.utf8 l c.unescape-character.ensures.ascii);
+      within = omega (arith, c.unescape-character.ensures.within.1);
     }

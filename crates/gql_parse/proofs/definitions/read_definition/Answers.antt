@@ -4,7 +4,7 @@ use Rattle.gql_ast.specs.declared.document.Definition.TheVariants as D
 use Rattle.gql_parse.specs.Documents.{full, fragment_word}
 use Rattle.gql_parse.specs.Going.{run_on}
 use Rattle.gql_parse.specs.Machine.{between, kinded, fragment_begun}
-use Rattle.gql_parse.proofs.Courses.{resized}
+use Rattle.gql_parse.proofs.Courses.{same_course}
 use Rattle.gql_parse.proofs.Heads.{kind_begins, fragment_begins, definition_unknown}
 use Rattle.gql_parse.proofs.definitions.read_definition.Goals as goal
 
@@ -17,7 +17,7 @@ returns-then-eq-clause-found c =
       written = full (D.Fragment f);
       definition = refl;
       reads = λ ws. fragment_begins size ws c.in-Some.word.now c.args.cursor.now.source c.in-Some.ensures.some is_word ∙ ap (λ s. run_on size (fragment_begun ws) s) (sym c.in_ok-skip.ensures.source)
-          ∙ resized _ size (fragment_begun ws) (between (ws ++ full (D.Fragment f) ∷ [])) c.skip.new.self.source c.read_fragment.new.cursor.source (ap length c.skip.ensures.same) (c.in_ok-read_fragment.ensures.reads ws);
+          ∙ same_course _ size (fragment_begun ws) (between (ws ++ full (D.Fragment f) ∷ [])) c.skip.new.self.source c.read_fragment.new.cursor.source (ap length c.skip.ensures.same) (c.in_ok-read_fragment.ensures.reads ws);
       places = λ ns. c.in_ok-read_fragment.ensures.places c.args.first ns c.args.cursor.now (λ ms. c.in_ok-skip.ensures.places ms);
     }
 
@@ -37,6 +37,6 @@ returns-clause-found c =
       written = full (D.Operation o);
       definition = refl;
       reads = λ ws. kind_begins size ws c.in-Some.word.now kind c.args.cursor.now.source c.in-Some.ensures.some c.in-Some-kind_of.ensures.is ∙ ap (λ s. run_on size (kinded ws kind) s) (sym c.in_ok-skip-2.ensures.source)
-          ∙ resized _ size (kinded ws kind) (between (ws ++ full (D.Operation o) ∷ [])) c.skip-2.new.self.source c.read_operation.new.cursor.source (ap length c.skip-2.ensures.same) (c.in_ok-read_operation.ensures.reads ws);
+          ∙ same_course _ size (kinded ws kind) (between (ws ++ full (D.Operation o) ∷ [])) c.skip-2.new.self.source c.read_operation.new.cursor.source (ap length c.skip-2.ensures.same) (c.in_ok-read_operation.ensures.reads ws);
       places = λ ns. c.in_ok-read_operation.ensures.places c.args.first ns c.args.cursor.now (λ ms. c.in_ok-skip-2.ensures.places ms);
     }

@@ -1,7 +1,7 @@
 use Rattle.std.proofs.Common.{◌≡◌, ◌∷◌, [], false, length, sym, ap, ◌∙◌, arith}
 use Rattle.std.proofs.lemmas.Result.{err_from_is_err_and}
 use Rattle.gql_parse.specs.Documents.{spell_selections, spell_set}
-use Rattle.gql_parse.specs.Going.{run_on, closed}
+use Rattle.gql_parse.specs.Going.{run_on, after_set}
 use Rattle.gql_parse.specs.Machine.{Titled, of_fragment, on_fragment, fragment_on, in_directives}
 use Rattle.gql_syntax.specs.Answers.{node_count}
 use Rattle.gql_syntax.specs.Machine.{further}
@@ -57,7 +57,7 @@ returns-clause-reads c =
     ∙ fragment_type size ws n c.in_ok-on.on c.expect_word.new.cursor.source c.in_ok-on.ensures.name ∙ ap (λ s. run_on size (in_directives (further false [] (on_fragment f))) s) (sym c.in_ok-on.ensures.source)
     ∙ directives_goes _ size false (on_fragment f) c.read_name.new.cursor.source ds c.read_directives.new.cursor.source (ap length text) c.in_ok-directives.ensures.reads
     ∙ fragment_opens size f ds c.read_directives.new.cursor.source c.in_ok-directives.ensures.last
-    ∙ resized_opening _ size nesting_limit (of_fragment f ds) (closed nesting_limit c.in_ok-selections.selections (of_fragment f ds)) c.read_directives.new.cursor.source c.read_set.new.cursor.source (ap length (c.in_ok-directives.ensures.same ∙ text)) (c.in_ok-selections.ensures.reads (of_fragment f ds))
+    ∙ resized_opening _ size nesting_limit (of_fragment f ds) (after_set nesting_limit c.in_ok-selections.selections (of_fragment f ds)) c.read_directives.new.cursor.source c.read_set.new.cursor.source (ap length (c.in_ok-directives.ensures.same ∙ text)) (c.in_ok-selections.ensures.reads (of_fragment f ds))
 
 pub returns-clause-places : goal.returns-clause-places
 returns-clause-places c = λ first ns d h.

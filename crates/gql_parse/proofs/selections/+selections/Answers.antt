@@ -2,9 +2,9 @@ use Rattle.std.proofs.Common.{◌≡◌, ◌+◌, ◌∷◌, [], Err, true, fals
 use Rattle.std.proofs.lemmas.Grind.{common_steps}
 use Rattle.std.proofs.lemmas.Result.{err_from_is_err_and}
 use Rattle.gql_ast.specs.SelectionView.{sel_of}
-use Rattle.gql_ast.specs.Sels.{end, field, followed}
+use Rattle.gql_ast.specs.Sels.{end, field, sels_append}
 use Rattle.gql_parse.specs.Documents.{spell_selections, SomeSelection}
-use Rattle.gql_parse.specs.Going.{run_on, closed}
+use Rattle.gql_parse.specs.Going.{run_on, after_set}
 use Rattle.gql_parse.specs.Machine.{Up, Inside, OpenField, of_field, of_inline, on_field, on_spread, on_inline, set, dotted, in_directives, within_field}
 use Rattle.gql_parse.specs.Machine as machine
 use Rattle.gql_syntax.specs.Answers.{node_count}
@@ -13,7 +13,7 @@ use Rattle.gql_syntax.specs.Nexts.{next_is, next_word, stopped_at}
 use Rattle.gql_syntax.specs.Places.{lay}
 use Rattle.gql_syntax.specs.Spelling.{spell_directives}
 use Rattle.gql_syntax.specs.Words.{on_word}
-use Rattle.gql_parse.proofs.Courses.{tells-same, tells-missed, resized, resized_tells, resized_opening, resized_opening_tells, goes-moves, call_goes, call_tells, directives_goes, directives_tells, closes, spread_ends, dotted_ends, inline_opens, field_opens, dots, dots_on, dots_named, on_missed, some_selection, at_taken, word_taken, one_word, resized_goes, ok-maps}
+use Rattle.gql_parse.proofs.Courses.{tells-same, tells-missed, same_course, resized_tells, resized_opening, resized_opening_tells, goes-moves, call_goes, call_tells, directives_goes, directives_tells, closes, spread_ends, dotted_ends, inline_opens, field_opens, dots, dots_on, dots_named, on_missed, some_selection, at_taken, word_taken, one_word, resized_goes, ok-maps}
 use Rattle.gql_parse.proofs.Fronts.{spell_selections-followed}
 use Rattle.gql_parse.proofs.selections.+selections.Goals as goal
 
@@ -65,7 +65,7 @@ read_field-returns-clause-reads t c =
     let f : OpenField = record { inside = i; alias = c.in_ok-alias.field-0.alias; name = c.in_ok-alias.field-0.name } in
     c.in_ok-alias.ensures.reads i ∙ call_goes _ size f c.read_field_name.new.cursor.source xs c.read_call.new.cursor.source (ap length c.in_ok-alias.ensures.same) c.in_ok-arguments.ensures.reads
     ∙ directives_goes _ size false (on_field f xs) c.read_call.new.cursor.source ds c.read_directives.new.cursor.source (ap length text) c.in_ok-directives.ensures.reads
-    ∙ resized _ size (in_directives (further false ds (on_field f xs))) (set (record { room = c.args.room; before = followed before (field f.alias f.name xs ds c.in_ok-selections.selections end); up = up }))
+    ∙ same_course _ size (in_directives (further false ds (on_field f xs))) (set (record { room = c.args.room; before = sels_append before (field f.alias f.name xs ds c.in_ok-selections.selections end); up = up }))
     c.read_directives.new.cursor.source c.read_optional_set.new.cursor.source (ap length (c.in_ok-directives.ensures.same ∙ text)) (c.in_ok-selections.ensures.reads f xs ds refl)
 
 pub read_field-returns-clause-taken : goal.read_field-returns-clause-taken
@@ -98,7 +98,7 @@ read_inline-returns-clause-reads t c =
     let i : Inside = record { room = c.args.room; before = before; up = up } in
     directives_goes _ size false (on_inline i c.args.on) c.args.cursor.now.source ds c.read_directives.new.cursor.source refl c.in_ok-directives.ensures.reads
     ∙ inline_opens size i c.args.on ds c.read_directives.new.cursor.source c.in_ok-directives.ensures.last
-    ∙ resized_opening _ size c.args.room (of_inline before c.args.on ds up) (closed c.args.room c.in_ok-selections.selections (of_inline before c.args.on ds up)) c.read_directives.new.cursor.source c.read_set.new.cursor.source (ap length c.in_ok-directives.ensures.same) (c.in_ok-selections.ensures.reads (of_inline before c.args.on ds up))
+    ∙ resized_opening _ size c.args.room (of_inline before c.args.on ds up) (after_set c.args.room c.in_ok-selections.selections (of_inline before c.args.on ds up)) c.read_directives.new.cursor.source c.read_set.new.cursor.source (ap length c.in_ok-directives.ensures.same) (c.in_ok-selections.ensures.reads (of_inline before c.args.on ds up))
 
 pub read_inline-returns-clause-taken : goal.read_inline-returns-clause-taken
 read_inline-returns-clause-taken t c = omega (arith, c.in_ok-directives.ensures.taken, c.in_ok-selections.ensures.taken)
@@ -116,25 +116,25 @@ read_selections-returns-then-next_is-2-clause-reads t c =
     let size = length c.args.cursor.now.text in
     let b = c.selections.selections in
     let x = c.in_ok-selection.selection in
-    let pushed : c.push.new.self ≡ followed b (sel_of x) = c.in_ok-push.ensures.ok in
+    let pushed : c.fit.result ≡ sels_append b (sel_of x) = c.fit.ensures ∙ c.in_ok-push.ensures.ok in
     let n : next_is 125 c.read_selection.new.cursor.source ≡ true = grind (arith, common_steps) in
     λ up. c.selections.invariant.reads up
-    ∙ resized _ size (set (record { room = c.args.room; before = b; up = up })) (set (record { room = c.args.room; before = followed b (sel_of x); up = up })) c.selections.cursor.source c.read_selection.new.cursor.source
+    ∙ same_course _ size (set (record { room = c.args.room; before = b; up = up })) (set (record { room = c.args.room; before = sels_append b (sel_of x); up = up })) c.selections.cursor.source c.read_selection.new.cursor.source
     (ap length c.selections.invariant.same) (c.in_ok-selection.ensures.reads b up)
-    ∙ closes size c.args.room (followed b (sel_of x)) up c.read_selection.new.cursor.source (some_selection b x) n
-    ∙ ap (λ s. run_on size (closed (c.args.room + 1) (followed b (sel_of x)) up) s) (sym c.in_ok-skip.ensures.source)
-    ∙ ap (λ s. run_on size (closed (c.args.room + 1) s up) c.skip.new.self.source) (sym pushed)
+    ∙ closes size c.args.room (sels_append b (sel_of x)) up c.read_selection.new.cursor.source (some_selection b x) n
+    ∙ ap (λ s. run_on size (after_set (c.args.room + 1) (sels_append b (sel_of x)) up) s) (sym c.in_ok-skip.ensures.source)
+    ∙ ap (λ s. run_on size (after_set (c.args.room + 1) s up) c.skip.new.self.source) (sym pushed)
 
 pub read_selections-returns-then-next_is-2-clause-some : goal.read_selections-returns-then-next_is-2-clause-some
 read_selections-returns-then-next_is-2-clause-some t c =
-    let pushed : c.push.new.self ≡ followed c.selections.selections (sel_of c.in_ok-selection.selection) = c.in_ok-push.ensures.ok in
+    let pushed : c.fit.result ≡ sels_append c.selections.selections (sel_of c.in_ok-selection.selection) = c.fit.ensures ∙ c.in_ok-push.ensures.ok in
     subst SomeSelection (sym pushed) (some_selection c.selections.selections c.in_ok-selection.selection)
 
 pub read_selections-returns-then-next_is-2-clause-places : goal.read_selections-returns-then-next_is-2-clause-places
 read_selections-returns-then-next_is-2-clause-places t c =
     let b = c.selections.selections in
     let x = c.in_ok-selection.selection in
-    let pushed : c.push.new.self ≡ followed b (sel_of x) = c.in_ok-push.ensures.ok in
+    let pushed : c.fit.result ≡ sels_append b (sel_of x) = c.fit.ensures ∙ c.in_ok-push.ensures.ok in
     λ level ns. ap (λ s. lay (spell_selections node_count s level (0 ∷ ns)) c.args.cursor.now) pushed
     ∙ ap (λ r. lay r c.args.cursor.now) (spell_selections-followed node_count b (sel_of x) level (0 ∷ ns))
     ∙ c.selections.invariant.places level (spell_selections node_count (sel_of x) level (0 ∷ ns))
@@ -146,10 +146,10 @@ read_selections-selections-preserved t c =
     let size = length c.args.cursor.now.text in
     let b = c.selections.selections in
     let x = c.in_ok-selection.selection in
-    let pushed : c.push.new.self ≡ followed b (sel_of x) = c.in_ok-push.ensures.ok in
+    let pushed : c.push.new.self ≡ sels_append b (sel_of x) = c.in_ok-push.ensures.ok in
     record {
       reads = λ up. c.selections.invariant.reads up
-          ∙ resized _ size (set (record { room = c.args.room; before = b; up = up })) (set (record { room = c.args.room; before = followed b (sel_of x); up = up })) c.selections.cursor.source c.read_selection.new.cursor.source
+          ∙ same_course _ size (set (record { room = c.args.room; before = b; up = up })) (set (record { room = c.args.room; before = sels_append b (sel_of x); up = up })) c.selections.cursor.source c.read_selection.new.cursor.source
           (ap length c.selections.invariant.same) (c.in_ok-selection.ensures.reads b up)
           ∙ ap (λ s. run_on size (set (record { room = c.args.room; before = s; up = up })) c.read_selection.new.cursor.source) (sym pushed);
       places = λ level ns. ap (λ s. lay (spell_selections node_count s level ns) c.args.cursor.now) pushed
@@ -171,7 +171,7 @@ read_spread-returns-in_default-clause-reads t c =
     goes-moves c.read_inline.result _ _ _
     (dots size i src c.requires ∙ ap (λ s. run_on size (dotted i) s) (sym c.in_ok-skip.ensures.source) ∙ dotted_ends size i c.skip.new.self.source n
     )
-    (resized_goes _ size c.read_inline.result (in_directives (further false [] (on_inline i None))) (λ x. set (record { room = c.args.room; before = followed before (sel_of x); up = up })) c.skip.new.self.source c.read_inline.new.cursor.source
+    (resized_goes _ size c.read_inline.result (in_directives (further false [] (on_inline i None))) (λ x. set (record { room = c.args.room; before = sels_append before (sel_of x); up = up })) c.skip.new.self.source c.read_inline.new.cursor.source
     (ap length c.skip.ensures.same) (c.read_inline.ensures.reads before up))
 
 pub read_spread-returns-in_err-on-clause-reads : goal.read_spread-returns-in_err-on-clause-reads

@@ -7,7 +7,7 @@ use Rattle.gql_syntax.specs.Answers.{node_count}
 use Rattle.gql_syntax.specs.Machine.{further}
 use Rattle.gql_syntax.specs.Nexts.{next_is}
 use Rattle.gql_syntax.specs.Places.{lay}
-use Rattle.gql_parse.proofs.Courses.{resized}
+use Rattle.gql_parse.proofs.Courses.{same_course}
 use Rattle.gql_parse.proofs.Fronts.{spell_variables-push}
 use Rattle.gql_parse.proofs.Heads.{variables_close, variables_part}
 use Rattle.gql_parse.proofs.variables.read_variables.Goals as goal
@@ -19,7 +19,7 @@ returns-then-next_is-clause-reads c =
     let v = c.in_ok-variable.variable in
     let n : next_is 41 c.read_variable.new.cursor.source ≡ true = grind (arith, common_steps) in
     λ o. c.variables.invariant.reads o
-    ∙ resized _ size (variables o vs) (variables o (vs ++ v ∷ [])) c.variables.cursor.source c.read_variable.new.cursor.source (ap length c.variables.invariant.same) (c.in_ok-variable.ensures.reads o vs c.variables.invariant.unclosed)
+    ∙ same_course _ size (variables o vs) (variables o (vs ++ v ∷ [])) c.variables.cursor.source c.read_variable.new.cursor.source (ap length c.variables.invariant.same) (c.in_ok-variable.ensures.reads o vs c.variables.invariant.unclosed)
     ∙ variables_close size o vs v c.read_variable.new.cursor.source n
     ∙ ap (λ s. run_on size (in_directives (further false [] (on_operation o (vs ++ v ∷ [])))) s) (sym c.in_ok-skip-2.ensures.source)
     ∙ ap (λ ws. run_on size (in_directives (further false [] (on_operation o ws))) c.skip-then-next_is.new.self.source) (sym c.in_ok-push.ensures.ok)
@@ -40,7 +40,7 @@ variables-preserved c =
     let n : next_is 41 c.read_variable.new.cursor.source ≡ false = grind (arith, common_steps) in
     record {
       reads = λ o. c.variables.invariant.reads o
-          ∙ resized _ size (variables o vs) (variables o (vs ++ v ∷ [])) c.variables.cursor.source c.read_variable.new.cursor.source (ap length c.variables.invariant.same) (c.in_ok-variable.ensures.reads o vs c.variables.invariant.unclosed)
+          ∙ same_course _ size (variables o vs) (variables o (vs ++ v ∷ [])) c.variables.cursor.source c.read_variable.new.cursor.source (ap length c.variables.invariant.same) (c.in_ok-variable.ensures.reads o vs c.variables.invariant.unclosed)
           ∙ ap (λ ws. run_on size (variables o ws) c.read_variable.new.cursor.source) (sym c.in_ok-push.ensures.ok);
       places = λ ns. ap (λ ws. lay (0 ∷ spell_variables node_count ws ns) c.args.cursor.now) c.in_ok-push.ensures.ok
           ∙ ap (λ r. lay (0 ∷ r) c.args.cursor.now) (spell_variables-push node_count vs (v ∷ []) ns)

@@ -27,12 +27,12 @@ returns-in_err-directives-clause-reads c =
 pub returns-in_err-fields-clause-reads : goal.returns-in_err-fields-clause-reads
 returns-in_err-fields-clause-reads c =
     let e = err_from_is_err_and c.from_residual-in_err-fields.result c.from_residual-in_err-fields.ensures.1 in
-    rw (e.1, e.2) (D.fails-rest (codes "input") c.args.cursor.now c.read_directives.new.cursor (reads.MayOpen 123 125) reads.unopened (λ f. machine.of_object f c.in_ok-name.name c.in_ok-directives.directives) (c.in_ok-directives.ensures.same ∙ c.read_name.ensures.same ∙ c.skip.ensures.same) (D.to_directives machine.an_input c.args.cursor.now c.skip.new.self c.in_ok-skip.ensures.source c.skip.ensures.same c.read_name.new.cursor c.in_ok-name.name c.in_ok-name.ensures.name c.in_ok-name.ensures.source c.read_name.ensures.same (λ f. machine.on_object f c.in_ok-name.name) (λ f. refl) c.read_directives.new.cursor c.in_ok-directives.directives c.in_ok-directives.ensures.reads) (λ f. (refl, refl, c.in_ok-directives.ensures.last)) c.in_err-fields.field-0.0 c.in_err-fields.ensures.reads)
+    rw (e.1, e.2) (D.fails-rest (codes "input") c.args.cursor.now c.read_directives.new.cursor (reads.MayOpen 123 125) reads.before_inputs (λ f. machine.of_object f c.in_ok-name.name c.in_ok-directives.directives) (c.in_ok-directives.ensures.same ∙ c.read_name.ensures.same ∙ c.skip.ensures.same) (D.to_directives machine.an_input c.args.cursor.now c.skip.new.self c.in_ok-skip.ensures.source c.skip.ensures.same c.read_name.new.cursor c.in_ok-name.name c.in_ok-name.ensures.name c.in_ok-name.ensures.source c.read_name.ensures.same (λ f. machine.on_object f c.in_ok-name.name) (λ f. refl) c.read_directives.new.cursor c.in_ok-directives.directives c.in_ok-directives.ensures.reads) (λ f. (refl, refl, c.in_ok-directives.ensures.last)) c.in_err-fields.field-0.0 c.in_err-fields.ensures.reads)
 
 pub returns-clause-reads : goal.returns-clause-reads
 returns-clause-reads c =
     let r = c.in_ok-fields.ensures.reads in
-    D.reads-rest (codes "input") c.args.nodes c.args.cursor.now c.read_directives.new.cursor c.read_inputs.new.cursor (reads.MayOpen 123 125) reads.unopened machine.after_inputs (written.spell_argument_defs node_count) written.inputs_of (λ f. machine.of_object f c.in_ok-name.name c.in_ok-directives.directives)
+    D.reads-rest (codes "input") c.args.nodes c.args.cursor.now c.read_directives.new.cursor c.read_inputs.new.cursor (reads.MayOpen 123 125) reads.before_inputs machine.after_inputs (written.spell_argument_defs node_count) written.inputs_of (λ f. machine.of_object f c.in_ok-name.name c.in_ok-directives.directives)
     c.in_ok-fields.fields r (λ ws. written.input c.in_ok-name.name c.in_ok-directives.directives ws) _ (c.in_ok-directives.ensures.same ∙ c.read_name.ensures.same ∙ c.skip.ensures.same)
     (omega (arith, behind-count c.args.cursor.now.source, behind-count c.skip.new.self.source, ap token_count c.in_ok-skip.ensures.source, ap token_count c.in_ok-name.ensures.source, c.in_ok-directives.ensures.taken))
     (D.to_directives machine.an_input c.args.cursor.now c.skip.new.self c.in_ok-skip.ensures.source c.skip.ensures.same c.read_name.new.cursor c.in_ok-name.name c.in_ok-name.ensures.name c.in_ok-name.ensures.source c.read_name.ensures.same (λ f. machine.on_object f c.in_ok-name.name) (λ f. refl) c.read_directives.new.cursor c.in_ok-directives.directives c.in_ok-directives.ensures.reads) (λ f. (refl, refl, c.in_ok-directives.ensures.last)) (λ f w. refl)

@@ -8,7 +8,7 @@ use Rattle.gql_syntax.specs.Nexts.{next_is}
 use Rattle.gql_syntax.specs.Parts.{goes}
 use Rattle.gql_syntax.specs.Steps.{type_on}
 use Rattle.gql_syntax.proofs.Laying.{kept_here, next_at, next_named, named_laid, list_laid, non_null_laid, mark_within}
-use Rattle.gql_syntax.proofs.TypeMoves.{opens_type, closes_type, no_close, resized, resized_tells}
+use Rattle.gql_syntax.proofs.TypeMoves.{opens_type, closes_type, no_close, same_type_course, resized_tells}
 use Rattle.gql_syntax.proofs.ValueMoves.{tells_by, tells_missing}
 use Rattle.gql_syntax.proofs.types.+read.Goals as goal
 
@@ -53,7 +53,7 @@ read_nullable-returns-in_err-expect-clause-reads t c =
     λ h. rw (e.1, e.2) (tells_by c.in_err-expect.field-0.0 _ _
     (opens_type size c.args.cursor.now.source c.args.room h l n
     ∙ ap (λ s. type_on size (goes (want_type (c.args.room - 1) (listed h))) s) (sym c.in_ok-skip.ensures.source)
-    ∙ resized _ _ (goes (want_type (c.args.room - 1) (listed h))) (goes (closing x h)) c.skip.new.self.source c.read.new.cursor.source (ap length c.skip.ensures.same) (c.in_ok-of.ensures.reads (listed h)))
+    ∙ same_type_course _ _ (goes (want_type (c.args.room - 1) (listed h))) (goes (closing x h)) c.skip.new.self.source c.read.new.cursor.source (ap length c.skip.ensures.same) (c.in_ok-of.ensures.reads (listed h)))
     (resized_tells (length c.read.new.cursor.text) size c.in_err-expect.field-0.0 (goes (closing x h)) c.read.new.cursor.source (ap length text)
     (tells_missing c.in_err-expect.field-0.0 _ _ _ (no_close (length c.read.new.cursor.text) c.read.new.cursor.source x h) c.in_err-expect.ensures.fault)))
 
@@ -65,7 +65,7 @@ read_nullable-returns-clause-reads t c =
     let l : 0 < c.args.room = omega arith in
     λ h. opens_type size c.args.cursor.now.source c.args.room h l n
     ∙ ap (λ s. type_on size (goes (want_type (c.args.room - 1) (listed h))) s) (sym c.in_ok-skip.ensures.source)
-    ∙ resized _ _ (goes (want_type (c.args.room - 1) (listed h))) (goes (closing x h)) c.skip.new.self.source c.read.new.cursor.source (ap length c.skip.ensures.same) (c.in_ok-of.ensures.reads (listed h))
+    ∙ same_type_course _ _ (goes (want_type (c.args.room - 1) (listed h))) (goes (closing x h)) c.skip.new.self.source c.read.new.cursor.source (ap length c.skip.ensures.same) (c.in_ok-of.ensures.reads (listed h))
     ∙ closes_type size c.read.new.cursor.source x h c.in_ok-expect.ensures.found
     ∙ ap (λ s. type_on size (goes (typed (ty.list x) h)) s) (sym c.in_ok-expect.ensures.source)
     ∙ ap (λ y. type_on size (goes (typed (ty.list y) h)) c.expect.new.cursor.source) (sym c.in_ok-new.ensures)

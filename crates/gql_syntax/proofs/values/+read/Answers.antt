@@ -12,7 +12,7 @@ use Rattle.gql_syntax.specs.Spelling.{spell_value, spell_values, spell_members}
 use Rattle.gql_syntax.specs.Steps.{value_on, put_alone}
 use Rattle.gql_syntax.proofs.Tokens.{comes_at, comes_word}
 use Rattle.gql_syntax.proofs.Spelled.{values_behind, members_behind}
-use Rattle.gql_syntax.proofs.ValueMoves.{vals_of-behind, members_of-behind, opens_list, opens_object, item_begins, list_ends, names_field, field_begins, object_ends, tells_by, resized, resized_tells}
+use Rattle.gql_syntax.proofs.ValueMoves.{vals_of-behind, members_of-behind, opens_list, opens_object, item_begins, list_ends, names_field, field_begins, object_ends, tells_by, same_value_course, resized_tells}
 use Rattle.gql_syntax.proofs.values.+read.Goals as goal
 
 pub read_field-returns-clause-reads : goal.read_field-returns-clause-reads
@@ -24,7 +24,7 @@ read_field-returns-clause-reads t c =
     ∙ ap (λ s. value_on size (goes (named c.args.constant c.args.room ms n p)) s) (sym c.in_ok-name.ensures.source)
     ∙ field_begins size c.args.constant c.read_name.new.cursor.source c.args.room ms p n c.in_ok-expect.ensures.found
     ∙ ap (λ s. value_on size (goes (want c.args.constant c.args.room (of_member c.args.constant c.args.room ms n p))) s) (sym c.in_ok-expect.ensures.source)
-    ∙ resized _ _ (goes (want c.args.constant c.args.room (of_member c.args.constant c.args.room ms n p))) (goes (members c.args.constant c.args.room (members_then ms n (value_of c.in_ok-value.value)) p))
+    ∙ same_value_course _ _ (goes (want c.args.constant c.args.room (of_member c.args.constant c.args.room ms n p))) (goes (members c.args.constant c.args.room (members_then ms n (value_of c.in_ok-value.value)) p))
     c.expect.new.cursor.source c.read.new.cursor.source (ap length text) (c.in_ok-value.ensures.reads (of_member c.args.constant c.args.room ms n p))
 
 pub read_field-returns-clause-places : goal.read_field-returns-clause-places
@@ -39,7 +39,7 @@ read_fields-fields-preserved t c =
     let v = value_of c.in_ok-field.field.value in
     let pushed : members_of c.push.new.self ≡ members_then (members_of c.fields.fields) n v = ap members_of c.in_ok-push.ensures.ok ∙ members_of-behind c.fields.fields n v in
     record {
-      reads = λ p. c.fields.invariant.reads p ∙ resized _ _ (goes (members c.args.constant c.args.room (members_of c.fields.fields) p)) (goes (members c.args.constant c.args.room (members_then (members_of c.fields.fields) n v) p))
+      reads = λ p. c.fields.invariant.reads p ∙ same_value_course _ _ (goes (members c.args.constant c.args.room (members_of c.fields.fields) p)) (goes (members c.args.constant c.args.room (members_then (members_of c.fields.fields) n v) p))
           c.fields.cursor.source c.read_field.new.cursor.source (ap length c.fields.invariant.same) (c.in_ok-field.ensures.reads (members_of c.fields.fields) p)
           ∙ ap (λ ms. value_on size (goes (members c.args.constant c.args.room ms p)) c.read_field.new.cursor.source) (sym pushed);
       places = λ around ns. ap (λ ms. lay (spell_members node_count ms around ns) c.args.cursor.now) pushed
@@ -72,7 +72,7 @@ read_items-items-preserved t c =
     let pushed : vals_of c.push.new.self ≡ vals_then (vals_of c.items.values) v = ap vals_of c.in_ok-push.ensures.ok ∙ vals_of-behind c.items.values v in
     record {
       reads = λ p. c.items.invariant.reads p ∙ item_begins size c.args.constant c.items.cursor.source c.args.room (vals_of c.items.values) p n
-          ∙ resized _ _ (goes (want c.args.constant c.args.room (item c.args.constant c.args.room (vals_of c.items.values) p))) (goes (items c.args.constant c.args.room (vals_then (vals_of c.items.values) v) p))
+          ∙ same_value_course _ _ (goes (want c.args.constant c.args.room (item c.args.constant c.args.room (vals_of c.items.values) p))) (goes (items c.args.constant c.args.room (vals_then (vals_of c.items.values) v) p))
           c.items.cursor.source c.read.new.cursor.source (ap length c.items.invariant.same) (c.in_ok-value.ensures.reads (item c.args.constant c.args.room (vals_of c.items.values) p))
           ∙ ap (λ vs. value_on size (goes (items c.args.constant c.args.room vs p)) c.read.new.cursor.source) (sym pushed);
       places = λ around ns. ap (λ vs. lay (spell_values node_count vs around ns) c.args.cursor.now) pushed
@@ -107,7 +107,7 @@ read_punctuated-returns-then-next_is-clause-reads t c =
     let l : 0 < c.args.room = omega arith in
     λ p. opens_list size c.args.constant c.args.cursor.now.source c.args.room p l (comes_at 91 c.args.cursor.now.source n)
     ∙ ap (λ s. value_on size (goes (items c.args.constant (c.args.room - 1) no_vals p)) s) (sym c.in_ok-skip.ensures.source)
-    ∙ resized _ _ (goes (items c.args.constant (c.args.room - 1) no_vals p)) (put_alone (list (vals_of c.in_ok-read_items.field-0)) p) c.skip.new.self.source c.read_items.new.cursor.source (ap length c.skip.ensures.same) (c.in_ok-read_items.ensures.reads p)
+    ∙ same_value_course _ _ (goes (items c.args.constant (c.args.room - 1) no_vals p)) (put_alone (list (vals_of c.in_ok-read_items.field-0)) p) c.skip.new.self.source c.read_items.new.cursor.source (ap length c.skip.ensures.same) (c.in_ok-read_items.ensures.reads p)
 
 pub read_punctuated-returns-in_err-read_fields-clause-reads : goal.read_punctuated-returns-in_err-read_fields-clause-reads
 read_punctuated-returns-in_err-read_fields-clause-reads t c =
@@ -127,4 +127,4 @@ read_punctuated-returns-then-next_is-2-clause-reads t c =
     let l : 0 < c.args.room = omega arith in
     λ p. opens_object size c.args.constant c.args.cursor.now.source c.args.room p l (comes_at 123 c.args.cursor.now.source n)
     ∙ ap (λ s. value_on size (goes (members c.args.constant (c.args.room - 1) no_members p)) s) (sym c.in_ok-skip-2.ensures.source)
-    ∙ resized _ _ (goes (members c.args.constant (c.args.room - 1) no_members p)) (put_alone (object (members_of c.in_ok-read_fields.field-0)) p) c.skip-then-next_is-2.new.self.source c.read_fields.new.cursor.source (ap length c.skip-then-next_is-2.ensures.same) (c.in_ok-read_fields.ensures.reads p)
+    ∙ same_value_course _ _ (goes (members c.args.constant (c.args.room - 1) no_members p)) (put_alone (object (members_of c.in_ok-read_fields.field-0)) p) c.skip-then-next_is-2.new.self.source c.read_fields.new.cursor.source (ap length c.skip-then-next_is-2.ensures.same) (c.in_ok-read_fields.ensures.reads p)

@@ -2,7 +2,7 @@ use Rattle.std.proofs.Common.{◌≡◌, ◌+◌, ◌-◌, drop, ap, ◌∙◌, 
 use Rattle.std.proofs.lemmas.List.{take_rest}
 use Rattle.gql_lex.specs.Values.{escaped_len, escape_char}
 use Rattle.gql_lex.proofs.Texts.{escaped_from}
-use Rattle.gql_lex.proofs.text_values.unescaped.Goals as goal
+use Rattle.gql_lex.proofs.text_values.unescape.Goals as goal
 
 pub escape_char-requires : goal.escape_char-requires
 escape_char-requires c =
