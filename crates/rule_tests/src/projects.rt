@@ -1,6 +1,6 @@
 //! Projects of a schema and two documents. What is wanted is worked out by hand; the rules stand in
 //! `docs/LANGUAGE.md`.
-use crate::texts::{file, shown};
+use crate::texts::{file, text_of_fault};
 use gql_ast::{Definition, Document, Placed};
 use plan_project::{CompileFault, Project, ProjectFile, compile};
 use std::alloc::Global;
@@ -38,7 +38,7 @@ fn verdict(alloc: Global, schema: &str, first: &str, second: &str) -> Result<Str
     ];
     match compile(alloc, &files) {
         Ok(project) => documents_in(alloc, &project),
-        Err(CompileFault::Refused(fault)) => shown(alloc, &fault),
+        Err(CompileFault::Refused(fault)) => text_of_fault(alloc, &fault),
         Err(CompileFault::NoMemory) => Ok(format!(in alloc; "no memory")?),
     }
 }
@@ -205,7 +205,7 @@ fn texts_count_before_the_schema_and_the_schema_before_documents(
 }
 
 /// The document of this number: a query, and a fragment that the next document may spread.
-fn numbered(alloc: Global, number: usize) -> Result<ProjectFile, Fail> {
+fn numbered_file(alloc: Global, number: usize) -> Result<ProjectFile, Fail> {
     let text = format!(in alloc;
         "query Q{number}{{me{{...F{number}}}}}fragment F{number} on User{{name}}"
     )?;
@@ -217,7 +217,7 @@ fn many(alloc: Global, count: usize, last: &str) -> Result<Vec<ProjectFile>, Fai
     let mut files = Vec::new(alloc);
     files.push(file(alloc, "s.graphql", SCHEMA)?)?;
     for number in 0..count {
-        files.push(numbered(alloc, number)?)?;
+        files.push(numbered_file(alloc, number)?)?;
     }
     files.push(file(alloc, "last.graphql", last)?)?;
     Ok(files)
@@ -225,13 +225,13 @@ fn many(alloc: Global, count: usize, last: &str) -> Result<Vec<ProjectFile>, Fai
 
 /// How many documents the project of these files has; else the rule, the file, the line and the
 /// column of their first fault.
-fn counted(alloc: Global, files: &[ProjectFile]) -> Result<String, Fail> {
+fn count_files(alloc: Global, files: &[ProjectFile]) -> Result<String, Fail> {
     if files.len() < 2 || files.len() > 10_000 {
         return Ok(format!(in alloc; "no project")?);
     }
     match compile(alloc, files) {
         Ok(project) => Ok(format!(in alloc; "{}", project.documents().as_slice().len())?),
-        Err(CompileFault::Refused(fault)) => shown(alloc, &fault),
+        Err(CompileFault::Refused(fault)) => text_of_fault(alloc, &fault),
         Err(CompileFault::NoMemory) => Ok(format!(in alloc; "no memory")?),
     }
 }
@@ -240,10 +240,10 @@ fn counted(alloc: Global, files: &[ProjectFile]) -> Result<String, Fail> {
 fn a_thousand_documents_are_one_project(rt: HostRuntime) -> Result<(), Fail> {
     let alloc = rt.alloc();
     let files = many(alloc, 999, "query Last{me{...F0 ...F998}}")?;
-    assert_eq!(rt; counted(alloc, &files)?.as_str(), "1000");
+    assert_eq!(rt; count_files(alloc, &files)?.as_str(), "1000");
     let files = many(alloc, 999, "query Q500{me{name}}")?;
-    assert_eq!(rt; counted(alloc, &files)?.as_str(), "V1 1000 1 7");
+    assert_eq!(rt; count_files(alloc, &files)?.as_str(), "V1 1000 1 7");
     let files = many(alloc, 999, "fragment F998 on User{...F999}")?;
-    assert_eq!(rt; counted(alloc, &files)?.as_str(), "V2 1000 1 10");
+    assert_eq!(rt; count_files(alloc, &files)?.as_str(), "V2 1000 1 10");
     Ok(())
 }

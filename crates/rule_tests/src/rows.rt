@@ -4,7 +4,7 @@
 //! A row is a rule and the documents of one project, between `;`, each on one line. A `^` stands in
 //! front of the place where the rule does not hold, and is no part of the document. Rows begin with
 //! `ok` where no rule is broken. A line of a document ends at `\r`.
-use crate::texts::{file, shown};
+use crate::texts::{file, text_of_fault};
 use plan_project::{CompileFault, ProjectFile, compile};
 use std::alloc::Global;
 use std::process::Abort;
@@ -66,7 +66,7 @@ pub(crate) fn place_after(text: &str) -> (u32, u32) {
 }
 
 /// The place of the mark in documents, as `FILE LINE COLUMN`; nothing where there is none.
-fn marked(alloc: Global, documents: &str) -> Result<String, Fail> {
+fn mark_places(alloc: Global, documents: &str) -> Result<String, Fail> {
     let mut place = String::new(alloc);
     let mut file = 0_u32;
     for document in documents.split(';') {
@@ -98,7 +98,7 @@ fn first_fault(alloc: Global, schema: &str, documents: &str) -> Result<String, F
     }
     match compile(alloc, &files) {
         Ok(_) => Ok(format!(in alloc; "ok")?),
-        Err(CompileFault::Refused(fault)) => shown(alloc, &fault),
+        Err(CompileFault::Refused(fault)) => text_of_fault(alloc, &fault),
         Err(CompileFault::NoMemory) => Ok(format!(in alloc; "no memory")?),
     }
 }
@@ -107,7 +107,7 @@ fn first_fault(alloc: Global, schema: &str, documents: &str) -> Result<String, F
 fn compare(rt: &impl Abort, alloc: Global, schema: &str, rows: &str) -> Result<(), Fail> {
     for row in rows.lines() {
         if let Some((rule, documents)) = row.split_once(' ') {
-            let place = marked(alloc, documents)?;
+            let place = mark_places(alloc, documents)?;
             let wanted = format!(in alloc; "{rule}{place}")?;
             let found = first_fault(alloc, schema, documents)?;
             assert_eq!(rt; found.as_str(), wanted.as_str(), "at {row}");

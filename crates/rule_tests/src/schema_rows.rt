@@ -10,7 +10,7 @@ use std::process::Abort;
 use std::test::Fail;
 
 /// What is to be told of a row as `RULE 0 LINE COLUMN`; nothing where no rule is broken.
-fn wanted(alloc: Global, rule: &str, schema: &str) -> Result<String, Fail> {
+fn answer_due(alloc: Global, rule: &str, schema: &str) -> Result<String, Fail> {
     let Some((before, _)) = schema.split_once('^') else {
         return Ok(String::new(alloc));
     };
@@ -22,7 +22,7 @@ fn wanted(alloc: Global, rule: &str, schema: &str) -> Result<String, Fail> {
 fn compare(rt: &impl Abort, alloc: Global, rows: &str) -> Result<(), Fail> {
     for row in rows.lines() {
         if let Some((rule, schema)) = row.split_once(' ') {
-            let wanted = wanted(alloc, rule, schema)?;
+            let wanted = answer_due(alloc, rule, schema)?;
             let text = schema.replace(alloc, '^', "")?;
             let found = fault_of(alloc, 0, text.as_str())?;
             assert_eq!(rt; found.as_str(), wanted.as_str(), "at {row}");

@@ -1,6 +1,6 @@
 //! What a schema says of its types. That each rule on schemas and each look-up of a rule is kept is
 //! shown over whole projects.
-use crate::texts::{schema, short, shown};
+use crate::texts::{schema, short, text_of_fault};
 use gql_ast::Kind;
 use gql_plain::Ids;
 use gql_sdl::parse_schema;
@@ -30,7 +30,7 @@ fn members_are_found(rt: HostRuntime) -> Result<(), Fail> {
     let schema = schema(rt.alloc(), SCHEMA)?;
     assert!(rt; matches!(schema.field("Query", "me"), Some(field) if field.name.as_str() == "me"));
     assert!(rt; schema.field("Query", "id").is_none());
-    assert!(rt; matches!(schema.inputs("Filter"), Some(inputs) if inputs.items.len() == 1));
+    assert!(rt; matches!(schema.inputs("Filter"), Some(inputs) if inputs.items().len() == 1));
     assert!(rt; schema.inputs("Tag").is_none());
     assert!(rt; matches!(schema.enum_names("Color"), Some(names) if names.contains("GREEN")));
     assert!(rt; schema.enum_names("Query").is_none());
@@ -68,7 +68,7 @@ pub(crate) fn fault_of(alloc: Global, file: u32, text: &str) -> Result<String, F
     let tree = parse_schema(alloc, file, short(text.as_bytes()))?;
     match Schema::build(alloc, &tree) {
         Ok(_) => Ok(String::new(alloc)),
-        Err(RuleFault::Rule(fault)) => shown(alloc, &fault),
+        Err(RuleFault::Rule(fault)) => text_of_fault(alloc, &fault),
         Err(RuleFault::NoMemory) => Ok(format!(in alloc; "no memory")?),
     }
 }

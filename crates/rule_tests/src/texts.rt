@@ -63,7 +63,7 @@ pub(crate) fn file(alloc: Global, name: &str, text: &str) -> Result<ProjectFile,
 }
 
 /// A fault as `RULE FILE LINE COLUMN`.
-pub(crate) fn shown(alloc: Global, fault: &ProjectFault) -> Result<String, Fail> {
+pub(crate) fn text_of_fault(alloc: Global, fault: &ProjectFault) -> Result<String, Fail> {
     Ok(format!(in alloc;
         "{:?} {} {} {}",
         fault.rule, fault.file, fault.line, fault.column

@@ -239,20 +239,20 @@ fn values_of_copy(alloc: Global, env: &Env) -> Result<Words, NoMemory> {
 fn environment(alloc: Global, env: Result<Env, VarFault>) -> Result<Words, NoMemory> {
     match env {
         Ok(env) => values_of_copy(alloc, &env),
-        Err(VarFault::Missing(name)) => named(alloc, "Missing", &name),
-        Err(VarFault::Unfit(name)) => named(alloc, "Unfit", &name),
+        Err(VarFault::Missing(name)) => fault_of_name(alloc, "Missing", &name),
+        Err(VarFault::Unfit(name)) => fault_of_name(alloc, "Unfit", &name),
         Err(VarFault::NoMemory) => Words::new(alloc, "no memory"),
     }
 }
 
 /// A fault with the name of its variable.
-fn named(alloc: Global, fault: &str, name: &Words) -> Result<Words, NoMemory> {
+fn fault_of_name(alloc: Global, fault: &str, name: &Words) -> Result<Words, NoMemory> {
     let text = format!(in alloc; "{fault} {}", name.as_str())?;
     Words::new(alloc, text.as_str())
 }
 
 /// What a query with these variables is given under the values of a JSON text.
-fn given(alloc: Global, schema: &Schema, defined: &str, values: &str) -> Result<Words, Fail> {
+fn fit_values(alloc: Global, schema: &Schema, defined: &str, values: &str) -> Result<Words, Fail> {
     let text = format!(in alloc; "query Q({defined}) {{ me }}")?;
     let documents = documents(alloc, text.as_str())?;
     let root = Words::new(alloc, "Query")?;
@@ -302,7 +302,7 @@ Missing c | $a:Int!=1,$c:Color!,$b:Int! | {\"a\":2}";
     for row in rows.lines() {
         if let Some((wanted, rest)) = row.split_once(" | ") {
             let (defined, values) = rest.split_once(" | ").unwrap_or((rest, ""));
-            let found = given(rt.alloc(), &schema, defined, values)?;
+            let found = fit_values(rt.alloc(), &schema, defined, values)?;
             assert_eq!(rt; found.as_str(), wanted, "at {row}");
         }
     }
@@ -310,7 +310,7 @@ Missing c | $a:Int!=1,$c:Color!,$b:Int! | {\"a\":2}";
 }
 
 /// What a literal is where `x` is 7, `y` is null, and no other variable has a value.
-fn evaluated(alloc: Global, literal: &str) -> Result<Words, Fail> {
+fn value_of_literal(alloc: Global, literal: &str) -> Result<Words, Fail> {
     let env = Env {
         root: Words::new(alloc, "Query")?,
         values: pairs(alloc, "{\"x\":7,\"y\":null}")?,
@@ -340,7 +340,7 @@ null | $z
 -9223372036854775808 | -9223372036854775808";
     for row in rows.lines() {
         if let Some((wanted, literal)) = row.split_once(" | ") {
-            let found = evaluated(rt.alloc(), literal)?;
+            let found = value_of_literal(rt.alloc(), literal)?;
             assert_eq!(rt; found.as_str(), wanted, "at {row}");
         }
     }

@@ -4,12 +4,12 @@ use Rattle.std.proofs.lemmas.List.{length-map, length-take-le, take_more, map-ap
 use Rattle.gql_ast.specs.declared.member.InputTree.{InputTree}
 use Rattle.schema_trees.specs.Located.{Located, InputAt, FieldAt}
 use Rattle.schema_rules.specs.NamedAt.{name_place, field_place, input_place}
-use Rattle.schema_tables.specs.Places.{first_at, first_that, placed}
+use Rattle.schema_tables.specs.Places.{first_at, first_that, first_place}
 use Rattle.schema_rules.specs.Rules.{field_found, input_found, field_names, input_names}
 use Rattle.schema_tables.specs.Types.{Text, input_named}
-use Rattle.schema_tables.proofs.Finding.{within, found, first_at-push}
+use Rattle.schema_tables.proofs.Finding.{within, finds, first_at-push}
 
-get_or_of : {X A : Type 0} (view : X → A) (xs : List X) (i : ℕ) (d : X) → get_or (map view xs) i (view d) ≡ view (get_or xs i d)
+pub get_or_of : {X A : Type 0} (view : X → A) (xs : List X) (i : ℕ) (d : X) → get_or (map view xs) i (view d) ≡ view (get_or xs i d)
 get_or_of view [] i d = refl
 get_or_of view (x ∷ xs) zero d = refl
 get_or_of view (x ∷ xs) (suc i) d = get_or_of view xs i d
@@ -18,7 +18,7 @@ pub place_within : {X A : Type 0} (view : X → A) (passes : A → Bool) (xs : L
 place_within view passes xs at e = simp length-map at (within passes (map view xs) at e)
 
 pub place_item : {X A : Type 0} (view : X → A) (passes : A → Bool) (xs : List X) (at : ℕ) (x : X) → first_at passes (map view xs) ≡ Some at → x ≡ get_or xs at x → Some (view x) ≡ first_that passes (map view xs)
-place_item view passes xs at x e is = ap (λ (y : _). Some (view y)) is ∙ sym (found passes (map view xs) at (view x) e ∙ ap Some (get_or_of view xs at x))
+place_item view passes xs at x e is = ap (λ (y : _). Some (view y)) is ∙ sym (finds passes (map view xs) at (view x) e ∙ ap Some (get_or_of view xs at x))
 
 pub field_found-first : (fs : List FieldAt) (n : Text) → field_found fs n ≡ first_that (λ (f : FieldAt). bytes_eq f.name.name n) fs
 field_found-first [] n = refl
@@ -59,22 +59,22 @@ get_or_own (x ∷ xs) (suc i) d h = next_own xs i d (get_or xs i d) (omega arith
 
 -- one more element of a list is put into an index
 pub place_next : {X A : Type 0} (view : X → A) (passes : A → Bool) (xs : List X) (i : ℕ) (x : X) (at : ℕ) (old new : Option ℕ) → i < length xs → x ≡ get_or xs i x → at ≡ i
-    → old ≡ first_at passes (map view (take i xs)) → new ≡ placed old (passes (view x)) at → new ≡ first_at passes (map view (take (i + 1) xs))
+    → old ≡ first_at passes (map view (take i xs)) → new ≡ first_place old (passes (view x)) at → new ≡ first_at passes (map view (take (i + 1) xs))
 place_next {X = X} view passes xs i x at old new h is e o n =
     let within_list : i ≤ length xs = omega arith in
     let long : length (map view (take i xs)) ≡ i = simp length-map (length-take-le i xs within_list) in
     let last : take (i + 1) xs ≡ take i xs ++ get_or xs i x ∷ [] = take_more xs i x h in
-    n ∙ ap (λ (r : Option ℕ). placed r (passes (view x)) at) o ∙ ap (λ (k : ℕ). placed (first_at passes (map view (take i xs))) (passes (view x)) k) (e ∙ sym long)
+    n ∙ ap (λ (r : Option ℕ). first_place r (passes (view x)) at) o ∙ ap (λ (k : ℕ). first_place (first_at passes (map view (take i xs))) (passes (view x)) k) (e ∙ sym long)
     ∙ sym (first_at-push passes (map view (take i xs)) (view x)) ∙ ap (first_at passes) (sym (map-append view (take i xs) (x ∷ [])))
     ∙ ap (λ (y : X). first_at passes (map view (take i xs ++ y ∷ []))) is ∙ ap (λ (ys : List X). first_at passes (map view ys)) (sym last)
 
 -- the same where the elements are seen as they are
 pub place_next_plain : {X : Type 0} (passes : X → Bool) (xs : List X) (i : ℕ) (x : X) (at : ℕ) (old new : Option ℕ) → i < length xs → x ≡ get_or xs i x → at ≡ i
-    → old ≡ first_at passes (take i xs) → new ≡ placed old (passes x) at → new ≡ first_at passes (take (i + 1) xs)
+    → old ≡ first_at passes (take i xs) → new ≡ first_place old (passes x) at → new ≡ first_at passes (take (i + 1) xs)
 place_next_plain {X = X} passes xs i x at old new h is e o n =
     let within_list : i ≤ length xs = omega arith in
     let last : take (i + 1) xs ≡ take i xs ++ get_or xs i x ∷ [] = take_more xs i x h in
-    n ∙ ap (λ (r : Option ℕ). placed r (passes x) at) o ∙ ap (λ (k : ℕ). placed (first_at passes (take i xs)) (passes x) k) (e ∙ sym (length-take-le i xs within_list))
+    n ∙ ap (λ (r : Option ℕ). first_place r (passes x) at) o ∙ ap (λ (k : ℕ). first_place (first_at passes (take i xs)) (passes x) k) (e ∙ sym (length-take-le i xs within_list))
     ∙ sym (first_at-push passes (take i xs) x) ∙ ap (λ (y : X). first_at passes (take i xs ++ y ∷ [])) is ∙ ap (first_at passes) (sym last)
 
 pub field_names_places : (fs : List FieldAt) (n : Text) → name_place (field_names fs) n ≡ field_place fs n

@@ -8,16 +8,16 @@ use Rattle.schema_rules.specs.declared.fault.ProjectFault.{ProjectFault}
 use Rattle.schema_rules.specs.declared.fault.Rule.{Rule}
 use Rattle.schema_rules.specs.declared.fault.RuleFault.{RuleFault}
 use Rattle.schema_rules.specs.declared.fault.RuleFault.TheVariants as F
-use Rattle.schema_trees.specs.Located.{located}
+use Rattle.schema_trees.specs.Located.{locate}
 use Rattle.schema_rules.specs.Rules.{has_effect, rules, first_broken}
 use Rattle.schema_tables.specs.Types.{Defs}
 
 -- the first rule that does not hold, and the number of the node where it does not
-abbrev pub broken : Defs → Option (Rule × ℕ)
-broken defs = first_broken (rules defs (filter has_effect (located defs)))
+abbrev pub first_fault : Defs → Option (Rule × ℕ)
+first_fault defs = first_broken (rules defs (filter has_effect (locate defs)))
 
 abbrev pub IsSound : Defs → Type 0
-IsSound defs = broken defs ≡ None
+IsSound defs = first_fault defs ≡ None
 
 -- the place of a node by its number; the first place of the first file where there is none
 abbrev pub node_place : List FilePlace → ℕ → FilePlace
@@ -32,7 +32,7 @@ fault_at p r = record { file = p.file; line = p.line; column = p.column; rule = 
 pub record Breaks (tree : Placed SchemaTree) (f : ProjectFault) : Type 0 where
   pub rule : Rule
   pub node : ℕ
-  pub first : broken tree.tree.definitions ≡ Some (rule, node)
+  pub first : first_fault tree.tree.definitions ≡ Some (rule, node)
   pub fault : f ≡ fault_at (node_place tree.places node) rule
 
 abbrev pub IsRuleFault : Placed SchemaTree → RuleFault → Type 0

@@ -19,9 +19,9 @@ use Rattle.schema_tables.specs.declared.kind.TypeKind.{TypeKind}
 use Rattle.schema_tables.specs.BuiltIn.{is_built_in_directive}
 use Rattle.schema_tables.specs.Fits.{is_non_null, literal_fits}
 use Rattle.schema_trees.specs.Located.{Located, TypeAt, InputAt, FieldAt, RootAt, DefAt, schema, scalar, object, interface, union, enum, input, directive}
-use Rattle.gql_graph.specs.Reached.{reached}
+use Rattle.gql_graph.specs.Reached.{any_leads}
 pub use Rattle.gql_graph.specs.Rules.{each, wrong, first_broken}
-pub use Rattle.schema_trees.specs.DefinitionParts.{repeats, repeated, names_of, type_name_of, directive_name_of, fields_in, interfaces_in, union_members_in, enum_values_in, input_fields_in, inputs_in, roots_in, input_names, field_names, root_names, defined_name}
+pub use Rattle.schema_trees.specs.DefinitionParts.{repeats, repeated_names, names_of, type_name_of, directive_name_of, fields_in, interfaces_in, union_members_in, enum_values_in, input_fields_in, inputs_in, roots_in, input_names, field_names, root_names, defined_name}
 use Rattle.schema_tables.specs.Types.{Text, Defs, built_in_scalars, is_built_in_scalar, type_named, kind_of, is_kind, is_input_kind, is_output_kind, is_object_kind, is_interface_kind, is_composite, base_of, implements, applies, interfaces_named, fields_of, input_named, inputs_of, same_kind, default_root, is_empty}
 
 abbrev pub begins_with_underscores : Text → Bool
@@ -53,7 +53,7 @@ repeated_kinds before (r ∷ rs) = wrong (has_kind before r.kind) r.name.at ++ r
 
 abbrev pub names_not_unique : List DefAt → List ℕ
 names_not_unique ds =
-    repeats built_in_scalars (filter_map type_name_of ds) ++ repeated (filter_map directive_name_of ds)
+    repeats built_in_scalars (filter_map type_name_of ds) ++ repeated_names (filter_map directive_name_of ds)
     ++ further_schemas false ds ++ each (λ d. repeated_kinds [] (roots_in d)) ds
 
 -- ---- S2: every type name used is defined or built in
@@ -85,7 +85,7 @@ abbrev pub gives_query : List RootAt → Bool
 gives_query rs = has_kind (map (λ (r : RootAt). r.kind) rs) Query
 
 abbrev pub roots_wrong : Defs → List RootAt → List ℕ
-roots_wrong defs rs = wrong (not (gives_query rs)) first_node ++ each (not_object defs) (root_names rs) ++ repeated (root_names rs)
+roots_wrong defs rs = wrong (not (gives_query rs)) first_node ++ each (not_object defs) (root_names rs) ++ repeated_names (root_names rs)
 
 abbrev pub is_default_root : Text → Bool
 is_default_root n = has_text (default_root Query ∷ default_root Mutation ∷ default_root Subscription ∷ []) n
@@ -114,18 +114,18 @@ root_types_wrong defs ds = roots_wrong_in defs ds (roots_given ds)
 abbrev pub defined_names : DefAt → List Located
 defined_names d = defined_name d ++ field_names (fields_in d) ++ input_names (inputs_in d) ++ enum_values_in d
 
-abbrev pub reserved : Located → List ℕ
-reserved n = wrong (begins_with_underscores n.name) n.at
+abbrev pub reserved_name : Located → List ℕ
+reserved_name n = wrong (begins_with_underscores n.name) n.at
 
 abbrev pub names_reserved : List DefAt → List ℕ
-names_reserved ds = each (λ d. each reserved (defined_names d)) ds
+names_reserved ds = each (λ d. each reserved_name (defined_names d)) ds
 
 -- ---- S5: within one definition fields, arguments of one field, enum values, union members, input fields and implemented interfaces differ
 
 abbrev pub repeated_in : DefAt → List ℕ
 repeated_in d =
-    repeated (field_names (fields_in d)) ++ each (λ (f : FieldAt). repeated (input_names f.arguments)) (fields_in d)
-    ++ repeated (enum_values_in d) ++ repeated (union_members_in d) ++ repeated (input_names (input_fields_in d)) ++ repeated (interfaces_in d)
+    repeated_names (field_names (fields_in d)) ++ each (λ (f : FieldAt). repeated_names (input_names f.arguments)) (fields_in d)
+    ++ repeated_names (enum_values_in d) ++ repeated_names (union_members_in d) ++ repeated_names (input_names (input_fields_in d)) ++ repeated_names (interfaces_in d)
 
 abbrev pub members_not_unique : List DefAt → List ℕ
 members_not_unique ds = each repeated_in ds
@@ -245,13 +245,13 @@ members_missing defs ds = each (empty_in defs) ds
 -- ---- S10: no input type needs itself through non-null fields that are not lists
 
 -- the type that a field of this type needs
-abbrev pub needed : Ty → Option Text
-needed (ty.non_null (ty.named n)) = Some n
-needed t = None
+abbrev pub needed_type : Ty → Option Text
+needed_type (ty.non_null (ty.named n)) = Some n
+needed_type t = None
 
 abbrev pub needs_of : Option (List InputTree) → List Text
 needs_of None = []
-needs_of (Some is) = filter_map (λ (i : InputTree). needed (ty_of i.of)) is
+needs_of (Some is) = filter_map (λ (i : InputTree). needed_type (ty_of i.of)) is
 
 abbrev pub needs : Defs → Text → List Text
 needs defs n = needs_of (inputs_of defs n)
@@ -259,7 +259,7 @@ needs defs n = needs_of (inputs_of defs n)
 -- whether a type that it needs is the type, or leads back to it; a chain without repetition has no more types than there are
 -- definitions
 abbrev pub needs_itself : Defs → DefAt → List ℕ
-needs_itself defs (input n fs) = wrong (reached (needs defs) (length defs) (needs defs n.name) n.name) n.at
+needs_itself defs (input n fs) = wrong (any_leads (needs defs) (length defs) (needs defs n.name) n.name) n.at
 needs_itself defs d = []
 
 abbrev pub inputs_need_themselves : Defs → List DefAt → List ℕ

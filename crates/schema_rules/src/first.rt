@@ -21,19 +21,19 @@ use gql_plain::NoMemory;
 use schema_tables::built_in::is_built_in_directive;
 use schema_tables::tables::Tables;
 use schema_tables::type_forms::is_built_in_scalar;
-use schema_trees::located::{DefAt, located};
+use schema_trees::located::{DefAt, locate};
 use std::alloc::Global;
 
 /// The first rule that a schema does not meet, and the number of the node where it does not.
-pub fn broken(
+pub fn first_fault(
     alloc: Global,
     tables: &Tables,
     schema: &SchemaTree,
 ) -> Result<Option<(Rule, usize)>, NoMemory>
     requires { tables.now ≡ schema.now.definitions }
-    ensures { IfOk result (λ found. found ≡ checked.broken tables.now) }
+    ensures { IfOk result (λ found. found ≡ checked.first_fault tables.now) }
 {
-    let mut definitions = located(alloc, schema)?;
+    let mut definitions = locate(alloc, schema)?;
     keep_with_effect(&mut definitions);
     first_broken(alloc, tables, schema.definitions.len(), &definitions)
 }
@@ -106,6 +106,7 @@ fn first_of_names(
 }
 
 /// The first of the rules S5 to S8 that does not hold, and the number of the node where it does not.
+/// S8 is looked at only where the others hold: its look-ups by name need names that differ.
 fn first_of_members(
     alloc: Global,
     tables: &Tables,
@@ -123,6 +124,9 @@ fn first_of_members(
     let mut interfaces = Least::new();
     interfaces_wrong(alloc, tables, &mut interfaces, definitions)?;
     first.settle(Rule::S7, interfaces.at);
+    if first.found.is_some() {
+        return Ok(first.found);
+    }
     let mut fields = Least::new();
     interfaces_not_implemented(alloc, tables, &mut fields, definitions)?;
     first.settle(Rule::S8, fields.at);

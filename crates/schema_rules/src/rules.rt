@@ -6,3 +6,4 @@ pub(crate) mod names;
 pub(crate) mod needs;
 pub(crate) mod roots;
 pub(crate) mod types;
+pub(crate) mod wanted;

@@ -1,7 +1,7 @@
 -- The first element that passes a test, and its place.
 use Rattle.std.proofs.Common.{◌≡◌, ℕ, zero, suc, ◌+◌, ◌<◌, ◌≤◌, Bool, true, false, cond, List, [], ◌∷◌, ◌++◌, length, map, get_or, take, Option, Some, None, option_map, refl, ap, sym, subst, ◌∙◌, length-take, arith}
 use Rattle.std.proofs.lemmas.List.{length-map, map-append, take_all, take_more}
-use Rattle.schema_tables.specs.Places.{first_at, first_that, placed}
+use Rattle.schema_tables.specs.Places.{first_at, first_that, first_place}
 
 pub suc_of : (r : Option ℕ) (at : ℕ) → option_map suc r ≡ Some at → (k : ℕ) × (r ≡ Some k) × (suc k ≡ at)
 suc_of None at e = cc
@@ -24,9 +24,9 @@ within passes (x ∷ xs) at e = on (λ k. within passes xs k) (passes x) e
         let low = rest later.0 later.1 in
         omega (arith, later.2)
 
-pub found : {X : Type 0} (passes : X → Bool) (xs : List X) (at : ℕ) (d : X) → first_at passes xs ≡ Some at → first_that passes xs ≡ Some (get_or xs at d)
-found passes [] at d e = cc
-found passes (x ∷ xs) at d e = on (λ k. found passes xs k d) (passes x) e
+pub finds : {X : Type 0} (passes : X → Bool) (xs : List X) (at : ℕ) (d : X) → first_at passes xs ≡ Some at → first_that passes xs ≡ Some (get_or xs at d)
+finds passes [] at d e = cc
+finds passes (x ∷ xs) at d e = on (λ k. finds passes xs k d) (passes x) e
   where
     on : ((k : ℕ) → first_at passes xs ≡ Some k → first_that passes xs ≡ Some (get_or xs k d))
         → (b : Bool) → cond b (Some 0) (option_map suc (first_at passes xs)) ≡ Some at
@@ -49,18 +49,18 @@ missing passes (x ∷ xs) e = on (missing passes xs) (passes x) e
     on rest true e = cc
     on rest false e = rest (none_of (first_at passes xs) e)
 
-placed_suc : (r : Option ℕ) (b : Bool) (n : ℕ) → option_map suc (placed r b n) ≡ placed (option_map suc r) b (suc n)
+placed_suc : (r : Option ℕ) (b : Bool) (n : ℕ) → option_map suc (first_place r b n) ≡ first_place (option_map suc r) b (suc n)
 placed_suc None true n = refl
 placed_suc None false n = refl
 placed_suc (Some k) b n = refl
 
 -- one more element at the end counts last
-pub first_at-push : {X : Type 0} (passes : X → Bool) (xs : List X) (x : X) → first_at passes (xs ++ x ∷ []) ≡ placed (first_at passes xs) (passes x) (length xs)
+pub first_at-push : {X : Type 0} (passes : X → Bool) (xs : List X) (x : X) → first_at passes (xs ++ x ∷ []) ≡ first_place (first_at passes xs) (passes x) (length xs)
 first_at-push passes [] x = refl
 first_at-push passes (y ∷ ys) x = on (first_at-push passes ys x) (passes y)
   where
-    on : first_at passes (ys ++ x ∷ []) ≡ placed (first_at passes ys) (passes x) (length ys) → (b : Bool)
-        → cond b (Some 0) (option_map suc (first_at passes (ys ++ x ∷ []))) ≡ placed (cond b (Some 0) (option_map suc (first_at passes ys))) (passes x) (length (y ∷ ys))
+    on : first_at passes (ys ++ x ∷ []) ≡ first_place (first_at passes ys) (passes x) (length ys) → (b : Bool)
+        → cond b (Some 0) (option_map suc (first_at passes (ys ++ x ∷ []))) ≡ first_place (cond b (Some 0) (option_map suc (first_at passes ys))) (passes x) (length (y ∷ ys))
     on rest true = refl
     on rest false = ap (option_map suc) rest ∙ placed_suc (first_at passes ys) (passes x) (length ys)
 
@@ -68,10 +68,10 @@ first_at-push passes (y ∷ ys) x = on (first_at-push passes ys x) (passes y)
 pub kept_within : {X Y : Type 0} (form : X → Y) (passes : X → Bool) (xs : List X) (at : ℕ) → first_at passes xs ≡ Some at → at < length (map form xs)
 kept_within form passes xs at e = let low = within passes xs at e in omega (arith, length-map xs form)
 
-pub kept : {X Y : Type 0} (form : X → Y) (passes : X → Bool) (xs : List X) (at : ℕ) (y : Y) → first_at passes xs ≡ Some at → y ≡ get_or (map form xs) at y
+pub keeps : {X Y : Type 0} (form : X → Y) (passes : X → Bool) (xs : List X) (at : ℕ) (y : Y) → first_at passes xs ≡ Some at → y ≡ get_or (map form xs) at y
     → Some y ≡ option_map form (first_that passes xs)
-kept form passes [] at y e is = cc
-kept form passes (x ∷ xs) at y e is = on (λ k. kept form passes xs k y) (passes x) e
+keeps form passes [] at y e is = cc
+keeps form passes (x ∷ xs) at y e is = on (λ k. keeps form passes xs k y) (passes x) e
   where
     on : ((k : ℕ) → first_at passes xs ≡ Some k → y ≡ get_or (map form xs) k y → Some y ≡ option_map form (first_that passes xs))
         → (b : Bool) → cond b (Some 0) (option_map suc (first_at passes xs)) ≡ Some at → Some y ≡ option_map form (cond b (Some x) (first_that passes xs))
@@ -95,10 +95,10 @@ found_passes passes (x ∷ xs) found_one e = on (found_passes passes xs found_on
 
 -- the next element counts after those before it
 pub first_at-next : {X : Type 0} (passes : X → Bool) (xs : List X) (i : ℕ) (x : X) → i < length xs → x ≡ get_or xs i x
-    → placed (first_at passes (take i xs)) (passes x) i ≡ first_at passes (take (i + 1) xs)
+    → first_place (first_at passes (take i xs)) (passes x) i ≡ first_at passes (take (i + 1) xs)
 first_at-next passes xs i x low is =
     let size : length (take i xs) ≡ i = omega (arith, length-take i xs) in
-    ap (placed (first_at passes (take i xs)) (passes x)) (sym size) ∙ sym (first_at-push passes (take i xs) x)
+    ap (first_place (first_at passes (take i xs)) (passes x)) (sym size) ∙ sym (first_at-push passes (take i xs) x)
     ∙ ap (first_at passes) (ap (λ y. take i xs ++ y ∷ []) is ∙ sym (take_more xs i x low))
 
 pub first_at-all : {X : Type 0} (passes : X → Bool) (xs : List X) (i : ℕ) → length xs ≤ i → first_at passes (take i xs) ≡ first_at passes xs
@@ -129,6 +129,6 @@ kept_length form xs i ys old low =
     omega (arith, size, length-map (take i xs) form, length-take i xs)
 
 pub placed_next : {Y : Type 0} (passes : Y → Bool) (ys zs : List Y) (y : Y) (at : ℕ) (b : Bool) → length ys ≡ at → passes y ≡ b → zs ≡ ys ++ y ∷ []
-    → placed (first_at passes ys) b at ≡ first_at passes zs
+    → first_place (first_at passes ys) b at ≡ first_at passes zs
 placed_next passes ys zs y at b size pass new =
-    (λ k. placed (first_at passes ys) (sym pass k) (sym size k)) ∙ sym (first_at-push passes ys y) ∙ ap (first_at passes) (sym new)
+    (λ k. first_place (first_at passes ys) (sym pass k) (sym size k)) ∙ sym (first_at-push passes ys y) ∙ ap (first_at passes) (sym new)

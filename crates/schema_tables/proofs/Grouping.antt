@@ -3,11 +3,12 @@ use Rattle.std.proofs.Common.{◌≡◌, ℕ, zero, suc, nat_eq, ◌+◌, ◌<�
 use Rattle.std.proofs.lemmas.Bool.{cases_lt}
 use Rattle.std.proofs.lemmas.Slice.Eq.{bytes_eq-Decides}
 use Rattle.std.specs.List.{filter, filter_map, cons_option, list_any}
+use Rattle.gql_plain.proofs.Booleans.{and_false}
 use Rattle.gql_plain.proofs.SortedTexts.{same_texts, AreInOrder-sorted_texts, has_text-sorted_texts}
 use Rattle.gql_plain.specs.Order.{has_text, sorted_texts}
 use Rattle.gql_ast.specs.declared.schema.SchemaDef.{SchemaDef}
 use Rattle.gql_ast.specs.declared.schema.SchemaDef.TheVariants as S
-use Rattle.schema_tables.proofs.Finding.{found, found_passes, missing, suc_of}
+use Rattle.schema_tables.proofs.Finding.{finds, found_passes, missing, suc_of}
 use Rattle.schema_tables.proofs.Named.{type_named-first}
 use Rattle.schema_tables.specs.declared.kind.TypeKind.{TypeKind}
 use Rattle.schema_tables.specs.Objects.{names_object, is_place, is_among, reaches, reaches_named, adds, members_at}
@@ -24,10 +25,6 @@ later (Some k) = refl
 or-false : (a : Bool) → (a || false) ≡ a
 or-false true = refl
 or-false false = refl
-
-and-false : (a : Bool) → (a && false) ≡ false
-and-false true = refl
-and-false false = refl
 
 and-true : (a : Bool) → (a && true) ≡ a
 and-true true = refl
@@ -56,7 +53,7 @@ has_text-filter p (x ∷ xs) t = on (has_text-filter p xs t) (p x) refl (bytes_e
     on rest false e true f =
         let same : x ≡ t = (bytes_eq-Decides x t).0 f in
         let no_t : p t ≡ false = ap p (sym same) ∙ e in
-        rest ∙ ap (λ b. has_text xs t && b) no_t ∙ and-false (has_text xs t) ∙ sym no_t
+        rest ∙ ap (λ b. has_text xs t && b) no_t ∙ and_false (has_text xs t) ∙ sym no_t
     on rest false e false f = rest
 
 sorted_same : (xs ys : List Text) → ((t : Text) → has_text xs t ≡ has_text ys t) → sorted_texts xs ≡ sorted_texts ys
@@ -74,7 +71,7 @@ same_type None m n a b = absurd (true≢false (sym a))
 same_type (Some x) m n a b = sym ((bytes_eq-Decides x.0 m).0 a) ∙ (bytes_eq-Decides x.0 n).0 b
 
 passes_at : (defs : Defs) (n : Text) (at : ℕ) (d : SchemaDef) → first_at (is_type n) defs ≡ Some at → is_type n (get_or defs at d) ≡ true
-passes_at defs n at d e = found_passes (is_type n) defs (get_or defs at d) (found (is_type n) defs at d e)
+passes_at defs n at d e = found_passes (is_type n) defs (get_or defs at d) (finds (is_type n) defs at d e)
 
 one_place : (defs : Defs) (m n : Text) (at : ℕ) → first_at (is_type m) defs ≡ Some at → first_at (is_type n) defs ≡ Some at → m ≡ n
 one_place defs m n at a b =
@@ -114,8 +111,8 @@ adds_one r m t true h e =
   where
     on : (a c : Bool) → ((a && true) || (c && a)) ≡ a
     on true c = refl
-    on false c = and-false c
-adds_one r m t false h e = ap (λ x. x || (h && r t)) (and-false (r m))
+    on false c = and_false c
+adds_one r m t false h e = ap (λ x. x || (h && r t)) (and_false (r m))
 
 adds_all : (defs : Defs) (at : ℕ) (t : Text) (ds : List SchemaDef) → list_any (adds defs at t) ds ≡ (has_text (filter_map object_name ds) t && reaches defs t at)
 adds_all defs at t [] = refl
@@ -159,9 +156,9 @@ members_first passes (d ∷ ds) at e = on (λ k. members_first passes ds k) (pas
         let P : ℕ → Type 0 = λ k. members_at (d ∷ ds) k ≡ union_members_named (first_that passes ds) in
         subst P later.2 (rest later.0 later.1)
 
-joined : (h r m : Bool) → ((h && r) || (m && h)) ≡ (h && (r || m))
-joined true r m = ap (λ b. r || b) (and-true m)
-joined false r m = and-false m
+regroup : (h r m : Bool) → ((h && r) || (m && h)) ≡ (h && (r || m))
+regroup true r m = ap (λ b. r || b) (and-true m)
+regroup false r m = and_false m
 
 -- a group and the object types that the union holds are the object types that the type may be
 pub group_is : (defs : Defs) (n : Text) (at : ℕ) (group : List Text) (is_object : Text → Bool) → first_at (is_type n) defs ≡ Some at
@@ -176,7 +173,7 @@ group_is defs n at group is_object here grouped objects =
         ∙ ap (λ b. b || has_text (filter is_object (members_at defs at)) t) (grouped t ∙ adds_all defs at t defs)
         ∙ ap (λ b. (has_text (filter_map object_name defs) t && reaches defs t at) || b) (has_text-filter is_object (members_at defs at) t)
         ∙ ap (λ b. (has_text (filter_map object_name defs) t && reaches defs t at) || (has_text (members_at defs at) t && b)) (objects t ∙ objects_named defs t)
-        ∙ joined (has_text (filter_map object_name defs) t) (reaches defs t at) (has_text (members_at defs at) t)
+        ∙ regroup (has_text (filter_map object_name defs) t) (reaches defs t at) (has_text (members_at defs at) t)
         ∙ ap (λ b. has_text (filter_map object_name defs) t && (b || has_text (members_at defs at) t)) (reaches_is defs n at here t)
         ∙ ap (λ ms. has_text (filter_map object_name defs) t && ((bytes_eq t n || implements defs t n) || has_text ms t))
         (members_first (is_type n) defs at here ∙ ap union_members_named (sym (type_named-first defs n)))
@@ -187,7 +184,7 @@ group_is defs n at group is_object here grouped objects =
 pub or_both : (h p a e : Bool) → ((h || (p && e)) || (a && e)) ≡ (h || ((p || a) && e))
 or_both true p a e = refl
 or_both false true a true = refl
-or_both false true a false = and-false a
+or_both false true a false = and_false a
 or_both false false a e = refl
 
 -- a type that is not defined reaches nothing
@@ -199,7 +196,7 @@ pub nothing_put : (h e : Bool) (defs : Defs) (m : Text) (k : ℕ) → first_at (
 nothing_put h e defs m k none = sym (ap (λ r. h || (r && e)) (not_reached defs m k none) ∙ or-false h)
 
 pub interfaces_first : (defs : Defs) (m : Text) (at : ℕ) (d : SchemaDef) → first_at (is_type m) defs ≡ Some at → d ≡ get_or defs at d → interfaces_named (type_named defs m) ≡ interfaces_of d
-interfaces_first defs m at d e is = ap interfaces_named (type_named-first defs m ∙ found (is_type m) defs at d e) ∙ ap interfaces_of (sym is)
+interfaces_first defs m at d e is = ap interfaces_named (type_named-first defs m ∙ finds (is_type m) defs at d e) ∙ ap interfaces_of (sym is)
 
 pub members_here : (defs : List SchemaDef) (at : ℕ) (d : SchemaDef) → at < length defs → d ≡ get_or defs at d → union_members_of d ≡ members_at defs at
 members_here [] at d low is = absurd (omega arith)

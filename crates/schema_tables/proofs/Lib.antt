@@ -3,3 +3,4 @@ pub mod Named
 pub mod Literals
 pub mod Grouping
 pub mod InputKept
+pub mod Counting

@@ -1,5 +1,5 @@
 -- Which objects fit, by what is kept of an input object.
-use Rattle.std.proofs.Common.{◌≡◌, ℕ, suc, ◌<◌, ◌+◌, ◌-◌, Bool, true, false, not, ◌&&◌, ◌||◌, List, [], ◌∷◌, map, length, get_or, take, drop, Option, Some, None, option_map, is_some, add-one, drop-cons, length-drop, arith, refl, sym, ap, ◌∙◌}
+use Rattle.std.proofs.Common.{◌≡◌, ℕ, suc, ◌<◌, ◌+◌, ◌-◌, Bool, true, false, true≢false, not, ◌&&◌, ◌||◌, List, [], ◌∷◌, map, length, get_or, take, drop, Option, Some, None, option_map, is_some, add-one, drop-cons, length-drop, arith, refl, sym, ap, ◌∙◌}
 use Rattle.std.proofs.lemmas.List.{take_all}
 use Rattle.gql_ast.specs.Ty.{Ty}
 use Rattle.gql_ast.specs.TypeView.{ty_of}
@@ -12,7 +12,11 @@ use Rattle.schema_tables.specs.Fits.{literal_fits, members_fit, meaning_of, take
 use Rattle.schema_tables.specs.Given.{gives_each}
 use Rattle.schema_tables.specs.Members.{input_among}
 use Rattle.schema_tables.specs.Types.{Text, Defs, base_of, input_def, input_named}
+use Rattle.gql_plain.proofs.Booleans.{and_false}
+use Rattle.gql_plain.specs.Order.{has_text}
+use Rattle.schema_tables.proofs.Counting.{has_member-names, stands_once}
 use Rattle.schema_tables.proofs.Named.{input_among-defs}
+use Rattle.schema_tables.specs.Required.{all_differ, member_names}
 
 gives_each-defs : (is : List InputTree) (ms : Members) → gives_each (map input_def is) ms ≡ gives_required is ms
 gives_each-defs [] ms = refl
@@ -24,16 +28,37 @@ object_is defs ms t n is inputs name meaning kept =
     ap (λ m. takes_object ms m && members_fit defs ms m) (ap (meaning_of defs) (sym name) ∙ meaning)
     ∙ ap (λ b. b && members_fit defs ms (fields is)) (sym (ap (λ xs. gives_each xs ms) kept ∙ gives_each-defs is ms))
 
-pub object_fits : (defs : Defs) (ms : Members) (t : Ty) (n : Text) (is : List InputTree) (inputs : List InputDef) (given fitting : Bool)
-    → n ≡ base_of t → meaning_of defs n ≡ fields is → inputs ≡ map input_def is → given ≡ gives_each inputs ms → given ≡ true → fitting ≡ members_fit defs ms (fields is)
+-- an object fits where its names differ, each input that has to be given is there, and each value fits
+pub object_fits : (defs : Defs) (ms : Members) (t : Ty) (n : Text) (is : List InputTree) (inputs : List InputDef) (fitting : Bool)
+    → n ≡ base_of t → meaning_of defs n ≡ fields is → inputs ≡ map input_def is → gives_each inputs ms ≡ true → fitting ≡ members_fit defs ms (fields is)
     → fitting ≡ literal_fits defs (object ms) t
-object_fits defs ms t n is inputs given fitting name meaning kept gives is_given fit =
-    sym (object_is defs ms t n is inputs name meaning kept ∙ ap (λ b. b && members_fit defs ms (fields is)) (sym gives ∙ is_given) ∙ sym fit)
+object_fits defs ms t n is inputs fitting name meaning kept gives fit =
+    sym (object_is defs ms t n is inputs name meaning kept ∙ ap (λ b. b && members_fit defs ms (fields is)) gives ∙ sym fit)
 
-pub object_lacks : (defs : Defs) (ms : Members) (t : Ty) (n : Text) (is : List InputTree) (inputs : List InputDef) (given : Bool)
-    → n ≡ base_of t → meaning_of defs n ≡ fields is → inputs ≡ map input_def is → given ≡ gives_each inputs ms → given ≡ false → given ≡ literal_fits defs (object ms) t
-object_lacks defs ms t n is inputs given name meaning kept gives lacks =
-    lacks ∙ sym (object_is defs ms t n is inputs name meaning kept ∙ ap (λ b. b && members_fit defs ms (fields is)) (sym gives ∙ lacks))
+-- no object fits where a name stands twice
+repeated_unfit : (defs : Defs) (is : List InputTree) (xs : List (Text × Val)) → all_differ (member_names xs) ≡ false → members_fit defs (members_of xs) (fields is) ≡ false
+repeated_unfit defs is [] e = absurd (true≢false e)
+repeated_unfit defs is (x ∷ xs) e = on (repeated_unfit defs is xs) (has_text (member_names xs) x.0) refl e
+  where
+    on : (all_differ (member_names xs) ≡ false → members_fit defs (members_of xs) (fields is) ≡ false) → (b : Bool) → has_text (member_names xs) x.0 ≡ b
+        → (not b && all_differ (member_names xs)) ≡ false
+        → (not (has_member x.0 (members_of xs)) && is_some (input_named is x.0) && literal_fits defs x.1 (input_type (input_named is x.0)) && members_fit defs (members_of xs) (fields is)) ≡ false
+    on rest true h e =
+        ap (λ b. not b && is_some (input_named is x.0) && literal_fits defs x.1 (input_type (input_named is x.0)) && members_fit defs (members_of xs) (fields is)) (has_member-names xs x.0 ∙ h)
+    on rest false h e =
+        ap (λ b. not (has_member x.0 (members_of xs)) && is_some (input_named is x.0) && literal_fits defs x.1 (input_type (input_named is x.0)) && b) (rest e)
+        ∙ and_false (not (has_member x.0 (members_of xs)) && is_some (input_named is x.0) && literal_fits defs x.1 (input_type (input_named is x.0)))
+
+neither : (d g m named : Bool) → named ≡ (d && g) → named ≡ false → (d ≡ false → m ≡ false) → (g && m) ≡ false
+neither true g m named e none h = ap (λ b. b && m) (sym e ∙ none)
+neither false g m named e none h = ap (λ b. g && b) (h refl) ∙ and_false g
+
+pub object_lacks : (defs : Defs) (xs : List (Text × Val)) (t : Ty) (n : Text) (is : List InputTree) (inputs : List InputDef) (named : Bool)
+    → n ≡ base_of t → meaning_of defs n ≡ fields is → inputs ≡ map input_def is → named ≡ (all_differ (member_names xs) && gives_each inputs (members_of xs)) → named ≡ false
+    → false ≡ literal_fits defs (object (members_of xs)) t
+object_lacks defs xs t n is inputs named name meaning kept e none =
+    sym (object_is defs (members_of xs) t n is inputs name meaning kept
+    ∙ neither (all_differ (member_names xs)) (gives_each inputs (members_of xs)) (members_fit defs (members_of xs) (fields is)) named e none (repeated_unfit defs is xs))
 
 -- ---- the next field of an object
 
@@ -59,9 +84,6 @@ module _ (defs : Defs) (v : Val) where
       let same : input ≡ input_def i = cc in
       ap (λ b. b && m) (ap (λ x. literal_fits defs v (ty_of x.of)) (sym same) ∙ fit)
 
-pub rest_whole : {X : Type 0} (xs : List X) (k : ℕ) → take (length xs - k) (drop k xs) ≡ drop k xs
-rest_whole xs k = take_all (length xs - k) (drop k xs) (omega (arith, length-drop k xs))
-
 -- the fields from the next one on
 abbrev pub from : List Argument → ℕ → Members
 from items at = members_of (map argument_of (drop at items))
@@ -84,6 +106,6 @@ module _ (defs : Defs) (inputs : List InputDef) (is : List InputTree) (same : in
       unfit_value defs (value_of f.value) _ input _ _ (some ∙ named) unfit ∙ ap (λ ms. members_fit defs ms (fields is)) (sym (next_field items at f low next))
 
   pub field_fits : (input : InputDef) → Some input ≡ input_among inputs f.name → literal_fits defs (value_of f.value) (ty_of input.of) ≡ true
-      → has_member f.name (from items (at + 1)) ≡ false → members_fit defs (from items at) (fields is) ≡ members_fit defs (from items (at + 1)) (fields is)
-  field_fits input some fit once =
-      ap (λ ms. members_fit defs ms (fields is)) (next_field items at f low next) ∙ good_value defs (value_of f.value) _ input _ _ (some ∙ named) fit once
+      → all_differ (member_names (map argument_of items)) ≡ true → members_fit defs (from items at) (fields is) ≡ members_fit defs (from items (at + 1)) (fields is)
+  field_fits input some fit differ =
+      ap (λ ms. members_fit defs ms (fields is)) (next_field items at f low next) ∙ good_value defs (value_of f.value) _ input _ _ (some ∙ named) fit (stands_once items at f low next differ)

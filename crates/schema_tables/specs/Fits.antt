@@ -9,12 +9,9 @@ use Rattle.gql_ast.specs.ValueView.{value_of}
 use Rattle.gql_ast.specs.declared.member.InputTree.{InputTree}
 use Rattle.gql_ast.specs.declared.value.ValueTree.{ValueTree}
 use Rattle.schema_tables.specs.Types.{Text, Defs, base_of, is_built_in_scalar, enum_names, inputs_of, input_named}
+pub use Rattle.schema_tables.specs.TypeForms.{is_non_null}
 
 -- ---- forms of types
-
-abbrev pub is_non_null : Ty → Bool
-is_non_null (ty.non_null t) = true
-is_non_null t = false
 
 -- without `!` in front
 abbrev pub nullable : Ty → Ty

@@ -1,3 +1,5 @@
+pub mod TypeForms
+pub mod Inputs
 pub mod Types
 pub mod BuiltIn
 pub mod Fits
@@ -7,5 +9,6 @@ pub mod Parts
 pub mod Kept
 pub mod Means
 pub mod Given
+pub mod Required
 pub mod Known
 pub mod Objects

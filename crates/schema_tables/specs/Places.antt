@@ -12,6 +12,6 @@ first_that passes [] = None
 first_that passes (x ∷ xs) = cond (passes x) (Some x) (first_that passes xs)
 
 -- the place of a name, once this one is put: what was there counts first
-abbrev pub placed : Option ℕ → (is_this : Bool) → ℕ → Option ℕ
-placed (Some old) is_this at = Some old
-placed None is_this at = cond is_this (Some at) None
+abbrev pub first_place : Option ℕ → (is_this : Bool) → ℕ → Option ℕ
+first_place (Some old) is_this at = Some old
+first_place None is_this at = cond is_this (Some at) None

@@ -2,12 +2,12 @@
 ghost use Rattle.std.specs.Prelude.{◌≡◌, ℕ, List, map, IfOk, OnOk};
 ghost use Rattle.std.specs.BTreeMap.{get_by_text};
 ghost use Rattle.schema_tables.specs.Parts.{is_type, is_directive, is_schema, part_of};
-ghost use Rattle.schema_tables.specs.Places.{first_at, placed};
+ghost use Rattle.schema_tables.specs.Places.{first_at, first_place};
 
 use crate::copies::{copy_of_inputs, sorted_names, sorted_values};
 use crate::definitions::DirectiveDef;
 use crate::index::Index;
-use crate::members::{FieldTable, InputTable};
+use crate::members::FieldTable;
 use crate::part::Part;
 use crate::tables::type_name;
 use gql_ast::SchemaDef;
@@ -44,7 +44,7 @@ pub(crate) fn part_of_definition(alloc: Global, definition: &SchemaDef) -> Resul
             alloc,
             values.as_slice(),
         )?)),
-        SchemaDef::Input { fields, .. } => Ok(Part::Inputs(InputTable::new(alloc, fields)?)),
+        SchemaDef::Input { fields, .. } => Ok(Part::Inputs(copy_of_inputs(alloc, fields)?)),
         SchemaDef::Directive {
             name,
             arguments,
@@ -89,7 +89,7 @@ fn put_type(
     at: usize,
 ) -> Result<(), NoMemory>
     ensures { OnOk result ((n : List ℕ) → get_by_text names.new.places n
-        ≡ placed (get_by_text names.old.places n) (is_type n definition.now) at) }
+        ≡ first_place (get_by_text names.old.places n) (is_type n definition.now) at) }
 {
     match type_name(definition) {
         Some(name) => names.put(alloc, name.as_str(), at),
@@ -119,7 +119,7 @@ fn put_directive(
     at: usize,
 ) -> Result<(), NoMemory>
     ensures { OnOk result ((n : List ℕ) → get_by_text names.new.places n
-        ≡ placed (get_by_text names.old.places n) (is_directive n definition.now) at) }
+        ≡ first_place (get_by_text names.old.places n) (is_directive n definition.now) at) }
 {
     match definition {
         SchemaDef::Directive { name, .. } => names.put(alloc, name.as_str(), at),

@@ -186,7 +186,7 @@ fn directive(
 {
     Ok(DirectiveDef {
         name: Words::new(alloc, name)?,
-        arguments: InputDefs { items: arguments },
+        arguments: InputDefs::new(alloc, arguments)?,
         repeatable: false,
         locations: Locations { items: locations },
     })

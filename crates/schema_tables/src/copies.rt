@@ -38,7 +38,7 @@ pub(crate) fn copy_of_inputs(alloc: Global, trees: &InputTrees) -> Result<InputD
     'inputs: for tree in trees.as_slice() {
         items.push(copy_of_input(tree)?)?;
     }
-    Ok(InputDefs { items })
+    InputDefs::new(alloc, items)
 }
 
 /// What is kept of a field.

@@ -1,23 +1,25 @@
 //! Which literals fit a type, and which uses of a variable are allowed (GraphQL, October 2021,
 //! sections 3.4 to 3.12, 5.6 and 5.8.5).
-ghost use Rattle.std.specs.Prelude.{◌≡◌, ℕ, List, map, Some};
+ghost use Rattle.std.specs.Prelude.{◌≡◌, ℕ, ◌&&◌, List, map, true, Some, IfOk};
 ghost use Rattle.gql_ast.specs.TypeView.{ty_of};
 ghost use Rattle.gql_ast.specs.Value.{vals_of, members_of};
 ghost use Rattle.gql_ast.specs.ValueView.{value_of, argument_of};
 ghost use Rattle.gql_ast.specs.declared.member.InputTree.{InputTree};
 ghost use Rattle.gql_plain.specs.Order.{sorted_texts};
 ghost use Rattle.schema_tables.specs.Fits as fits;
-ghost use Rattle.schema_tables.specs.Given.{must_be_given, gives_each};
+ghost use Rattle.schema_tables.specs.Given.{gives_each};
 ghost use Rattle.schema_tables.specs.Means.{Means};
+ghost use Rattle.schema_tables.specs.Required.{all_differ, count_among, member_names, required_names};
 ghost use Rattle.schema_tables.specs.Types as types;
 
-use crate::definitions::InputDef;
-use crate::members::InputTable;
+use crate::definitions::InputDefs;
 use crate::part::Part;
 use crate::tables::Tables;
 use crate::type_forms::{base_of, is_built_in_scalar, is_non_null, item_of};
 use gql_ast::{Argument, Arguments, TypeTree, ValueTree, ValueTrees, VariableDef};
-use gql_plain::Ids;
+use gql_graph::seen::Seen;
+use gql_plain::{Ids, NoMemory};
+use std::alloc::Global;
 
 /// What a named type takes.
 #[derive(Drop)]
@@ -26,7 +28,7 @@ pub(crate) enum Meaning<'a> {
     /// One of the names of an enum.
     OneOf(&'a Ids),
     /// An object with these fields.
-    Fields(&'a InputTable),
+    Fields(&'a InputDefs),
     Anything,
 }
 
@@ -45,67 +47,88 @@ impl Tables {
         }
     }
 
-    /// Whether the literal fits the type. A variable fits everywhere.
+    /// Whether the literal fits the type. A variable fits everywhere. The memory that it takes is
+    /// that of the names of an object's fields.
     #[cycle(fits)]
-    pub fn literal_fits(&self, value: &ValueTree, of: &TypeTree) -> bool
-        ensures { result ≡ fits.literal_fits self.now (value_of value.now) (ty_of of.now) }
+    pub fn literal_fits(
+        &self,
+        alloc: Global,
+        value: &ValueTree,
+        of: &TypeTree,
+    ) -> Result<bool, NoMemory>
+        ensures { IfOk result (λ b. b ≡ fits.literal_fits self.now (value_of value.now) (ty_of of.now)) }
     {
         match value {
-            ValueTree::Variable(_) => true,
-            ValueTree::Null => !is_non_null(of),
+            ValueTree::Variable(_) => Ok(true),
+            ValueTree::Null => Ok(!is_non_null(of)),
             ValueTree::List(values) => match item_of(of) {
-                Some(item) => self.items_fit(values, item),
-                None => matches!(self.meaning(base_of(of)), Meaning::Anything),
+                Some(item) => {
+                    let fit = self.items_fit(alloc, values, item)?;
+                    Ok(fit)
+                }
+                None => Ok(matches!(self.meaning(base_of(of)), Meaning::Anything)),
             },
             ValueTree::Object(fields) => match self.meaning(base_of(of)) {
                 Meaning::Fields(inputs) => {
-                    gives_required(inputs, fields) && self.members_fit(fields, inputs)
+                    if !names_fit(alloc, inputs, fields)? {
+                        return Ok(false);
+                    }
+                    let fit = self.members_fit(alloc, fields, inputs)?;
+                    Ok(fit)
                 }
-                Meaning::Anything => true,
-                Meaning::BuiltIn => false,
-                Meaning::OneOf(_) => false,
+                Meaning::Anything => Ok(true),
+                Meaning::BuiltIn => Ok(false),
+                Meaning::OneOf(_) => Ok(false),
             },
-            ValueTree::Int(_) => self.single_fits(value, base_of(of)),
-            ValueTree::Text(_) => self.single_fits(value, base_of(of)),
-            ValueTree::Bool(_) => self.single_fits(value, base_of(of)),
-            ValueTree::Enum(_) => self.single_fits(value, base_of(of)),
+            ValueTree::Int(_) => Ok(self.single_fits(value, base_of(of))),
+            ValueTree::Text(_) => Ok(self.single_fits(value, base_of(of))),
+            ValueTree::Bool(_) => Ok(self.single_fits(value, base_of(of))),
+            ValueTree::Enum(_) => Ok(self.single_fits(value, base_of(of))),
         }
     }
 
     /// Whether each value fits as an item of that type.
     #[cycle(fits)]
-    fn items_fit(&self, values: &ValueTrees, item: &TypeTree) -> bool
-        ensures { result ≡ fits.items_fit self.now (vals_of values.now) (Some (ty_of item.now)) }
+    fn items_fit(
+        &self,
+        alloc: Global,
+        values: &ValueTrees,
+        item: &TypeTree,
+    ) -> Result<bool, NoMemory>
+        ensures { IfOk result (λ b. b ≡ fits.items_fit self.now (vals_of values.now) (Some (ty_of item.now))) }
     {
         'items: for value in &values.items {
             if !may_be_item(value, item) {
-                return false;
+                return Ok(false);
             }
-            if !self.literal_fits(value, item) {
-                return false;
+            if !self.literal_fits(alloc, value, item)? {
+                return Ok(false);
             }
         }
-        true
+        Ok(true)
     }
 
-    /// Whether each field is one of the inputs, stands once, and has a fitting value.
+    /// Whether each field, of those whose names differ, is one of the inputs and has a fitting value.
     #[cycle(fits)]
-    fn members_fit(&self, fields: &Arguments, inputs: &InputTable) -> bool
-        ensures { (is : List InputTree) → inputs.now ≡ map types.input_def is
-            → result ≡ fits.members_fit self.now (members_of fields.now) (fits.fields is) }
+    fn members_fit(
+        &self,
+        alloc: Global,
+        fields: &Arguments,
+        inputs: &InputDefs,
+    ) -> Result<bool, NoMemory>
+        requires { all_differ (member_names fields.now) ≡ true }
+        ensures { IfOk result (λ b. (is : List InputTree) → inputs.now ≡ map types.input_def is
+            → b ≡ fits.members_fit self.now (members_of fields.now) (fits.fields is)) }
     {
-        'fields: for (at, field) in fields.items.iter().enumerate() {
+        'fields: for field in &fields.items {
             let Some(input) = inputs.find(field.name.as_str()) else {
-                return false;
+                return Ok(false);
             };
-            if !self.literal_fits(&field.value, &input.of) {
-                return false;
-            }
-            if has_member(&fields.items[at + 1..], field.name.as_str()) {
-                return false;
+            if !self.literal_fits(alloc, &field.value, &input.of)? {
+                return Ok(false);
             }
         }
-        true
+        Ok(true)
     }
 
     /// Whether a value that is no list, object, null or variable fits the named type.
@@ -229,33 +252,56 @@ fn is_among(value: &ValueTree, names: &Ids) -> bool
     }
 }
 
-/// Whether a field of that name is among these.
-fn has_member(fields: &[Argument], name: &str) -> bool
-    ensures { result ≡ fits.has_member name.now (members_of (map argument_of fields.now)) }
+/// Whether the names of fields differ, and each input that has to be given is among them.
+fn names_fit(alloc: Global, inputs: &InputDefs, fields: &Arguments) -> Result<bool, NoMemory>
+    ensures { IfOk result (λ b. b ≡ (all_differ (member_names fields.now) && gives_each inputs.now (members_of fields.now))) }
 {
-    'fields: for field in fields {
-        if field.name.as_str() == name {
-            return true;
-        }
+    if !names_differ(alloc, fields)? {
+        return Ok(false);
     }
-    false
+    Ok(gives_required(inputs, fields))
 }
 
-/// Whether an input has to be given.
-fn is_required(input: &InputDef) -> bool
-    ensures { result ≡ must_be_given input.now }
+/// Whether the names of fields differ. It goes from the last to the first.
+fn names_differ(alloc: Global, fields: &Arguments) -> Result<bool, NoMemory>
+    ensures { IfOk result (λ b. b ≡ all_differ (member_names fields.now)) }
 {
-    is_non_null(&input.of) && input.default.is_none()
+    let mut seen = Seen::new(alloc);
+    let mut differ = true;
+    let mut left = fields.items.len();
+    'fields: while left > 0 {
+        left -= 1;
+        let field = &fields.items[left];
+        let is_new = seen.insert(field.name.as_str())?;
+        differ = are_both(is_new, differ);
+    }
+    Ok(differ)
 }
 
-/// Whether each input that has to be given is among the fields.
-fn gives_required(inputs: &InputTable, fields: &Arguments) -> bool
+/// Whether both hold.
+fn are_both(first: bool, second: bool) -> bool
+    ensures { result ≡ (first && second) }
+{
+    first && second
+}
+
+/// Whether each input that has to be given is among the fields, whose names differ.
+fn gives_required(inputs: &InputDefs, fields: &Arguments) -> bool
+    requires { all_differ (member_names fields.now) ≡ true }
     ensures { result ≡ gives_each inputs.now (members_of fields.now) }
 {
-    'inputs: for input in &inputs.all().items {
-        if is_required(input) && !has_member(&fields.items, input.name.as_str()) {
-            return false;
+    count_required(inputs, &fields.items) == inputs.required_count()
+}
+
+/// How many fields have the names of inputs that have to be given.
+fn count_required(inputs: &InputDefs, fields: &[Argument]) -> usize
+    ensures { result ≡ count_among (required_names inputs.now) (member_names (map argument_of fields.now)) }
+{
+    let mut count = 0;
+    'fields: for field in fields {
+        if inputs.needs(field.name.as_str()) {
+            count += 1;
         }
     }
-    true
+    count
 }

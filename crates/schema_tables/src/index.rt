@@ -1,7 +1,7 @@
 //! The places of names.
 ghost use Rattle.std.specs.Prelude.{◌≡◌, ℕ, List, bytes_eq, OnOk};
 ghost use Rattle.std.specs.BTreeMap.{get_by_text};
-ghost use Rattle.schema_tables.specs.Places.{placed};
+ghost use Rattle.schema_tables.specs.Places.{first_place};
 
 use gql_plain::NoMemory;
 use std::alloc::Global;
@@ -26,7 +26,7 @@ impl Index {
     /// Puts a name with its place, unless the name is there.
     pub fn put(&mut self, alloc: Global, name: &str, at: usize) -> Result<(), NoMemory>
         ensures { OnOk result ((other : List ℕ) → get_by_text self.new.places other
-            ≡ placed (get_by_text self.old.places other) (bytes_eq name.now other) at) }
+            ≡ first_place (get_by_text self.old.places other) (bytes_eq name.now other) at) }
     {
         if !self.places.contains_key(name) {
             drop(self.places.insert(String::from_str(alloc, name)?, at)?);

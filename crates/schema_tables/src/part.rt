@@ -1,6 +1,6 @@
 //! What is kept of a definition for look-ups.
-use crate::definitions::DirectiveDef;
-use crate::members::{FieldTable, InputTable};
+use crate::definitions::{DirectiveDef, InputDefs};
+use crate::members::FieldTable;
 use gql_plain::Ids;
 
 /// What is kept of a definition.
@@ -15,6 +15,6 @@ pub(crate) enum Part {
     /// Of an enum: the names of its values.
     Values(Ids),
     /// Of an input object.
-    Inputs(InputTable),
+    Inputs(InputDefs),
     Directive(DirectiveDef),
 }

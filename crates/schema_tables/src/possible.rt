@@ -5,7 +5,7 @@ ghost use Rattle.std.specs.List.{filter, list_any};
 ghost use Rattle.gql_plain.specs.Order.{has_text, sorted_texts};
 ghost use Rattle.schema_tables.specs.Objects.{adds, reaches, is_among, is_place, names_object};
 ghost use Rattle.schema_tables.specs.Parts.{is_type};
-ghost use Rattle.schema_tables.specs.Places.{first_at, placed};
+ghost use Rattle.schema_tables.specs.Places.{first_at, first_place};
 ghost use Rattle.schema_tables.specs.Types as says;
 
 use crate::index::Index;
@@ -52,7 +52,7 @@ fn put_object(
     at: usize,
 ) -> Result<(), NoMemory>
     ensures { OnOk result ((n : List ℕ) → get_by_text names.new.places n
-        ≡ placed (get_by_text names.old.places n) (names_object n definition.now) at) }
+        ≡ first_place (get_by_text names.old.places n) (names_object n definition.now) at) }
 {
     match definition {
         SchemaDef::Object { name, .. } => names.put(alloc, name.as_str(), at),

@@ -129,7 +129,7 @@ impl Tables {
         ensures { option_copied result ≡ option_map (map types.input_def) (types.inputs_of self.now of.now) }
     {
         match self.part(of) {
-            Some(Part::Inputs(inputs)) => Some(inputs.all()),
+            Some(Part::Inputs(inputs)) => Some(inputs),
             _ => None,
         }
     }
@@ -204,7 +204,7 @@ impl Tables {
         ensures { result ≡ types.has_id self.now of.now }
     {
         match self.field(of, "id") {
-            Some(field) => is_id_type(&field.of) && field.arguments.items.is_empty(),
+            Some(field) => is_id_type(&field.of) && field.arguments.items().is_empty(),
             None => false,
         }
     }

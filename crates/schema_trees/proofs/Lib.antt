@@ -1,2 +1,4 @@
 pub mod LocatedSteps
 pub mod RepeatSteps
+pub mod NumberLaws
+pub mod BelowSteps

@@ -12,16 +12,16 @@ use Rattle.schema_trees.specs.Located.{type_at, type_nodes}
 use Rattle.schema_trees.specs.Located as spec
 
 -- the place of a type's name is the last of the type
-type_end : (from : ℕ) (t : Ty) → suc (type_at from t).at ≡ from + type_nodes t
+pub type_end : (from : ℕ) (t : Ty) → suc (type_at from t).at ≡ from + type_nodes t
 type_end from (ty.named n) = omega arith
 type_end from (ty.list t) = let h : suc (type_at from t).at ≡ from + type_nodes t = type_end from t in omega arith
 type_end from (ty.non_null t) = let h : suc (type_at from t).at ≡ from + type_nodes t = type_end from t in omega arith
 
-placed : (t : Ty) (m n : ℕ) → m ≡ n → (let a : spec.TypeAt = record { of = t; at = m } in a) ≡ record { of = t; at = n }
-placed t m n e = ap (λ (x : ℕ). let a : spec.TypeAt = record { of = t; at = x } in a) e
+same_place : (t : Ty) (m n : ℕ) → m ≡ n → (let a : spec.TypeAt = record { of = t; at = m } in a) ≡ record { of = t; at = n }
+same_place t m n e = ap (λ (x : ℕ). let a : spec.TypeAt = record { of = t; at = x } in a) e
 
 pub type_place : (from : ℕ) (t : TypeTree) (next : ℕ) → next ≡ from + type_nodes (ty_of t) → (let a : spec.TypeAt = record { of = ty_of t; at = next - 1 } in a) ≡ type_at from (ty_of t)
-type_place from t next e = let h : next - 1 ≡ (type_at from (ty_of t)).at = omega (arith, type_end from (ty_of t)) in placed (ty_of t) _ _ h
+type_place from t next e = let h : next - 1 ≡ (type_at from (ty_of t)).at = omega (arith, type_end from (ty_of t)) in same_place (ty_of t) _ _ h
 
 -- what stands in a list is at most as deep as the list
 pub value_depth : (vs : List ValueTree) (i : ℕ) (d : ValueTree) → i < length vs → val_depth (value_of (get_or vs i d)) ≤ vals_depth (vals_of (map value_of vs))

@@ -4,10 +4,11 @@ use Rattle.std.proofs.Math.Seq.{drop-cons}
 use Rattle.std.proofs.lemmas.List.{drop_all}
 use Rattle.std.specs.BTreeSet.{BTreeSet}
 use Rattle.std.specs.Str.{bytes_eq}
+use Rattle.gql_plain.proofs.Booleans.{or_false, or_swap, or_rotate}
 use Rattle.gql_plain.specs.Order.{has_text}
 use Rattle.gql_graph.proofs.Listing.{has_either}
 use Rattle.gql_graph.proofs.TextSteps.{same_text}
-use Rattle.gql_graph.specs.Leasts.{noted}
+use Rattle.gql_graph.specs.Leasts.{least_from}
 use Rattle.gql_graph.specs.Rules.{wrong}
 use Rattle.gql_graph.specs.Seen.{Knows}
 use Rattle.gql_graph.specs.Texts.{Text}
@@ -26,41 +27,35 @@ known_already now k n h = case (bytes_eq k n) refl where
 
 -- what is noted at one more name, and what is seen then
 pub repeats_step : (new : BTreeSet (Bor (List ℕ))) (now : List Text) (n : Located) (ns : List Located) (o p : Option ℕ) (is_new : Bool)
-    → Knows new (n.name ∷ now) → is_new ≡ not (has_text now n.name) → p ≡ noted o (wrong (not is_new) n.at)
-    → (then : List Text) × Knows new then × (noted p (repeats then ns) ≡ noted o (repeats now (n ∷ ns))) × ((m : Text) → has_text then m ≡ (bytes_eq n.name m || has_text now m))
+    → Knows new (n.name ∷ now) → is_new ≡ not (has_text now n.name) → p ≡ least_from o (wrong (not is_new) n.at)
+    → (then : List Text) × Knows new then × (least_from p (repeats then ns) ≡ least_from o (repeats now (n ∷ ns))) × ((m : Text) → has_text then m ≡ (bytes_eq n.name m || has_text now m))
 repeats_step new now n ns o p is_new k e q = case (has_text now n.name) refl where
-  case : (b : Bool) → has_text now n.name ≡ b → (then : List Text) × Knows new then × (noted p (repeats then ns) ≡ noted o (repeats now (n ∷ ns))) × ((m : Text) → has_text then m ≡ (bytes_eq n.name m || has_text now m))
+  case : (b : Bool) → has_text now n.name ≡ b → (then : List Text) × Knows new then × (least_from p (repeats then ns) ≡ least_from o (repeats now (n ∷ ns))) × ((m : Text) → has_text then m ≡ (bytes_eq n.name m || has_text now m))
   case true h = (
     now,
     λ m. k m ∙ known_already now n.name m h,
-    ap (λ (x : Option ℕ). noted x (repeats now ns)) (q ∙ ap (λ (b : Bool). noted o (wrong (not b) n.at)) (e ∙ ap not h)) ∙ sym (ap (λ (b : Bool). noted o (cond b (n.at ∷ repeats now ns) (repeats (n.name ∷ now) ns))) h),
+    ap (λ (x : Option ℕ). least_from x (repeats now ns)) (q ∙ ap (λ (b : Bool). least_from o (wrong (not b) n.at)) (e ∙ ap not h)) ∙ sym (ap (λ (b : Bool). least_from o (cond b (n.at ∷ repeats now ns) (repeats (n.name ∷ now) ns))) h),
     λ m. sym (known_already now n.name m h),
   )
   case false h = (
     n.name ∷ now,
     k,
-    ap (λ (x : Option ℕ). noted x (repeats (n.name ∷ now) ns)) (q ∙ ap (λ (b : Bool). noted o (wrong (not b) n.at)) (e ∙ ap not h)) ∙ sym (ap (λ (b : Bool). noted o (cond b (n.at ∷ repeats now ns) (repeats (n.name ∷ now) ns))) h),
+    ap (λ (x : Option ℕ). least_from x (repeats (n.name ∷ now) ns)) (q ∙ ap (λ (b : Bool). least_from o (wrong (not b) n.at)) (e ∙ ap not h)) ∙ sym (ap (λ (b : Bool). least_from o (cond b (n.at ∷ repeats now ns) (repeats (n.name ∷ now) ns))) h),
     λ m. refl,
   )
 
 abbrev pub texts : List NameAt → List Text
 texts xs = names_of (map name_of xs)
 
-moved : (a b c : Bool) → ((b || a) || c) ≡ (a || (b || c))
-moved true true c = refl
-moved true false c = refl
-moved false true c = refl
-moved false false c = refl
-
 -- what the loop over names keeps
 abbrev pub Noting : BTreeSet (Bor (List ℕ)) → Option ℕ → List NameAt → (places : Option ℕ) → (known : Text → Bool) → Type 0
 Noting set least left places known =
-    (now : List Text) × Knows set now × (noted least (repeats now (map name_of left)) ≡ places) × ((m : Text) → (has_text now m || has_text (texts left) m) ≡ known m)
+    (now : List Text) × Knows set now × (least_from least (repeats now (map name_of left)) ≡ places) × ((m : Text) → (has_text now m || has_text (texts left) m) ≡ known m)
 
 -- one more name of a list
 pub repeats_next : (new : BTreeSet (Bor (List ℕ))) (now : List Text) (xs : List NameAt) (i : ℕ) (d : NameAt) (o p : Option ℕ) (is_new : Bool) (places : Option ℕ) (known : Text → Bool) → i < length xs
-    → Knows new ((get_or xs i d).name.now ∷ now) → is_new ≡ not (has_text now (get_or xs i d).name.now) → p ≡ noted o (wrong (not is_new) (get_or xs i d).at)
-    → noted o (repeats now (map name_of (drop i xs))) ≡ places → ((m : Text) → (has_text now m || has_text (texts (drop i xs)) m) ≡ known m)
+    → Knows new ((get_or xs i d).name.now ∷ now) → is_new ≡ not (has_text now (get_or xs i d).name.now) → p ≡ least_from o (wrong (not is_new) (get_or xs i d).at)
+    → least_from o (repeats now (map name_of (drop i xs))) ≡ places → ((m : Text) → (has_text now m || has_text (texts (drop i xs)) m) ≡ known m)
     → Noting new p (drop (i + 1) xs) places known
 repeats_next new now xs i d o p is_new places known h k e q w s =
     let n : Text = (get_or xs i d).name.now in
@@ -68,32 +63,22 @@ repeats_next new now xs i d o p is_new places known h k e q w s =
     let same : drop i xs ≡ get_or xs i d ∷ drop (i + 1) xs = rw add-one (drop-cons xs i d h) in (
       r.0,
       r.1,
-      r.2 ∙ sym (ap (λ (ys : List NameAt). noted o (repeats now (map name_of ys))) same) ∙ w,
+      r.2 ∙ sym (ap (λ (ys : List NameAt). least_from o (repeats now (map name_of ys))) same) ∙ w,
       λ m.
-          ap (λ (b : Bool). b || has_text (texts (drop (i + 1) xs)) m) (r.3 m) ∙ moved (has_text now m) (bytes_eq n m) (has_text (texts (drop (i + 1) xs)) m)
+          ap (λ (b : Bool). b || has_text (texts (drop (i + 1) xs)) m) (r.3 m) ∙ or_rotate (has_text now m) (bytes_eq n m) (has_text (texts (drop (i + 1) xs)) m)
           ∙ sym (ap (λ (ys : List NameAt). has_text now m || has_text (texts ys) m) same) ∙ s m,
     )
-
-or_false : (a : Bool) → (a || false) ≡ a
-or_false true = refl
-or_false false = refl
-
-swapped : (a b : Bool) → (a || b) ≡ (b || a)
-swapped true true = refl
-swapped true false = refl
-swapped false true = refl
-swapped false false = refl
 
 -- all names are seen
 pub all_seen : (set : BTreeSet (Bor (List ℕ))) (least : Option ℕ) (before : List Text) (xs : List NameAt) (i : ℕ) (places : Option ℕ) → length xs ≤ i
     → Noting set least (drop i xs) places (λ m. has_text before m || has_text (texts xs) m) → Knows set (texts xs ++ before)
 all_seen set least before xs i places h p = λ m.
     p.1 m ∙ sym (or_false (has_text p.0 m)) ∙ sym (ap (λ (ys : List NameAt). has_text p.0 m || has_text (texts ys) m) (drop_all i xs h)) ∙ p.3 m
-    ∙ swapped (has_text before m) (has_text (texts xs) m) ∙ sym (has_either (texts xs) before m)
+    ∙ or_swap (has_text before m) (has_text (texts xs) m) ∙ sym (has_either (texts xs) before m)
 
 -- all places are noted
 pub all_noted : (set : BTreeSet (Bor (List ℕ))) (least : Option ℕ) (xs : List NameAt) (i : ℕ) (places : Option ℕ) (known : Text → Bool) → length xs ≤ i → Noting set least (drop i xs) places known → least ≡ places
-all_noted set least xs i places known h p = sym (ap (λ (ys : List NameAt). noted least (repeats p.0 (map name_of ys))) (drop_all i xs h)) ∙ p.2
+all_noted set least xs i places known h p = sym (ap (λ (ys : List NameAt). least_from least (repeats p.0 (map name_of ys))) (drop_all i xs h)) ∙ p.2
 
 -- one more name of a list is put
 pub known_next : (set : BTreeSet (Bor (List ℕ))) (before : List Text) (xs : List NameAt) (i : ℕ) (d : NameAt) (whole : Text → Bool) → i < length xs
@@ -105,6 +90,6 @@ known_next set before xs i d whole h k e =
       (get_or xs i d).name.now ∷ before,
       k,
       λ n.
-          moved (has_text before n) (bytes_eq (get_or xs i d).name.now n) (has_text (names_of (map name_of (drop (i + 1) xs))) n)
+          or_rotate (has_text before n) (bytes_eq (get_or xs i d).name.now n) (has_text (names_of (map name_of (drop (i + 1) xs))) n)
           ∙ sym (ap (λ (ys : List NameAt). has_text before n || has_text (names_of (map name_of ys)) n) same) ∙ e n,
     )

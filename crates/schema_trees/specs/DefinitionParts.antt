@@ -10,8 +10,8 @@ abbrev pub repeats : (before : List Text) → List Located → List ℕ
 repeats before [] = []
 repeats before (n ∷ ns) = cond (has_text before n.name) (n.at ∷ repeats before ns) (repeats (n.name ∷ before) ns)
 
-abbrev pub repeated : List Located → List ℕ
-repeated ns = repeats [] ns
+abbrev pub repeated_names : List Located → List ℕ
+repeated_names ns = repeats [] ns
 
 abbrev pub names_of : List Located → List Text
 names_of ns = map (λ (n : Located). n.name) ns

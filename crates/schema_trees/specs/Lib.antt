@@ -1,3 +1,4 @@
 pub mod Located
 pub mod LocatedView
 pub mod DefinitionParts
+pub mod Numbers

@@ -183,5 +183,5 @@ defs_at from [] = []
 defs_at from (d ∷ ds) = def_at from d ∷ defs_at (from + def_nodes d) ds
 
 -- the definitions of a whole schema, which is a node itself
-abbrev pub located : List SchemaDef → List DefAt
-located ds = defs_at 1 ds
+abbrev pub locate : List SchemaDef → List DefAt
+locate ds = defs_at 1 ds

@@ -5,7 +5,7 @@ ghost use Rattle.gql_ast.specs.TypeView.{ty_of};
 ghost use Rattle.gql_ast.specs.Value.{members_of, vals_of};
 ghost use Rattle.gql_ast.specs.ValueView.{value_of};
 ghost use Rattle.gql_ast.specs.declared.schema.SchemaDef.TheVariants as S;
-ghost use Rattle.schema_trees.specs.Located.{located, default_nodes, def_at, def_nodes, defs_at, directives_nodes, enum_values_at, enum_values_nodes, field_at, field_nodes, fields_at, fields_nodes, input_at, input_nodes, inputs_at, inputs_nodes, members_nodes, name_at, names_at, names_nodes, roots_at, roots_nodes, type_at, type_nodes, value_nodes, values_nodes};
+ghost use Rattle.schema_trees.specs.Located.{locate, default_nodes, def_at, def_nodes, defs_at, directives_nodes, enum_values_at, enum_values_nodes, field_at, field_nodes, fields_at, fields_nodes, input_at, input_nodes, inputs_at, inputs_nodes, members_nodes, name_at, names_at, names_nodes, roots_at, roots_nodes, type_at, type_nodes, value_nodes, values_nodes};
 ghost use Rattle.schema_trees.specs.LocatedView.{name_of, type_of, input_of, field_of, root_of, def_of};
 
 use gql_ast::document::Kind;
@@ -517,8 +517,8 @@ fn def_at<'a>(
 }
 
 /// The definitions of a schema with the numbers of the nodes of their names, in text order.
-pub fn located<'a>(alloc: Global, schema: &'a SchemaTree) -> Result<Vec<DefAt<'a>>, NoMemory>
-    ensures { IfOk result (λ ds. map def_of ds.items ≡ located schema.now.definitions) }
+pub fn locate<'a>(alloc: Global, schema: &'a SchemaTree) -> Result<Vec<DefAt<'a>>, NoMemory>
+    ensures { IfOk result (λ ds. map def_of ds.items ≡ locate schema.now.definitions) }
 {
     let mut at = 1;
     let mut definitions = Vec::new(alloc);

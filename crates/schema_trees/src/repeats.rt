@@ -1,9 +1,9 @@
 //! Names that stand in a list before.
 ghost use Rattle.std.specs.Prelude.{◌≡◌, ◌++◌, map, IfOk, OnOk, List};
-ghost use Rattle.gql_graph.specs.Leasts.{noted};
+ghost use Rattle.gql_graph.specs.Leasts.{least_from};
 ghost use Rattle.gql_graph.specs.Seen.{Knows};
 ghost use Rattle.gql_graph.specs.Texts.{Text};
-ghost use Rattle.schema_trees.specs.DefinitionParts.{repeats, repeated, names_of};
+ghost use Rattle.schema_trees.specs.DefinitionParts.{repeats, repeated_names, names_of};
 ghost use Rattle.schema_trees.specs.LocatedView.{name_of};
 
 use crate::located::NameAt;
@@ -29,7 +29,7 @@ pub fn note_repeats<'a>(
     seen: &mut Seen<'a>,
     names: &[NameAt<'a>],
 ) -> Result<(), NoMemory>
-    ensures places { (before : List Text) → Knows seen.old.names before → OnOk result (least.new.at ≡ noted least.old.at (repeats before (map name_of names.now))) }
+    ensures places { (before : List Text) → Knows seen.old.names before → OnOk result (least.new.at ≡ least_from least.old.at (repeats before (map name_of names.now))) }
     ensures known { (before : List Text) → Knows seen.old.names before → OnOk result (Knows seen.new.names (names_of (map name_of names.now) ++ before)) }
 {
     'names: for name in names {
@@ -41,7 +41,7 @@ pub fn note_repeats<'a>(
 
 /// Notes each name that stands in the list before.
 pub fn note_repeated(alloc: Global, least: &mut Least, names: &[NameAt<'_>]) -> Result<(), NoMemory>
-    ensures { OnOk result (least.new.at ≡ noted least.old.at (repeated (map name_of names.now))) }
+    ensures { OnOk result (least.new.at ≡ least_from least.old.at (repeated_names (map name_of names.now))) }
 {
     let mut seen = Seen::new(alloc);
     note_repeats(least, &mut seen, names)

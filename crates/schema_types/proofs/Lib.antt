@@ -1,1 +1,3 @@
 pub mod DocumentRows
+pub mod SiteNumberLaws
+pub mod RulePlaces

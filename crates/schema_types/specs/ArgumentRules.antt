@@ -17,8 +17,8 @@ use Rattle.schema_tables.specs.Fits.{item_of, has_member, literal_fits, use_allo
 use Rattle.schema_tables.specs.Given.{must_be_given}
 use Rattle.schema_trees.specs.Located.{Located, value_nodes}
 use Rattle.schema_types.specs.NameRules.{operations, fragments, spreads_in, names_of_all, spread_by}
-use Rattle.gql_graph.specs.Reached.{reached}
-use Rattle.schema_rules.specs.Rules.{each, wrong, repeated}
+use Rattle.gql_graph.specs.Reached.{any_leads}
+use Rattle.schema_rules.specs.Rules.{each, wrong, repeated_names}
 use Rattle.schema_types.specs.Sites.{ValueAt, ArgumentAt, DirectiveAt, VariableAt, Site, field, spread, inline, OperationAt, FragmentAt, DefinitionAt, operation, fragment, typename}
 use Rattle.schema_tables.specs.Types.{Text, Defs, base_of, kind_of, is_kind, is_input_kind, field_on, inputs_of, input_named}
 use Rattle.schema_tables.specs.declared.definitions.DirectiveDef.{DirectiveDef}
@@ -96,7 +96,7 @@ not_taken free n = []
 not_taken unknown n = []
 
 abbrev pub arguments_of_call_wrong : Call → List ℕ
-arguments_of_call_wrong c = each (not_taken c.takes) (argument_names c.arguments) ++ repeated (argument_names c.arguments)
+arguments_of_call_wrong c = each (not_taken c.takes) (argument_names c.arguments) ++ repeated_names (argument_names c.arguments)
 
 abbrev pub arguments_wrong : Defs → List DefinitionAt → List ℕ
 arguments_wrong defs ds = each (λ d. each arguments_of_call_wrong (calls_of defs d)) ds
@@ -225,7 +225,7 @@ abbrev pub names_once : Defs → List DirectiveAt → List Located
 names_once defs ds = filter (λ (n : Located). stands_once (known.directive defs n.name)) (map (λ (d : DirectiveAt). d.name) ds)
 
 abbrev pub directed_wrong : Defs → Directed → List ℕ
-directed_wrong defs d = each (stands_wrong defs d.location) d.directives ++ repeated (names_once defs d.directives)
+directed_wrong defs d = each (stands_wrong defs d.location) d.directives ++ repeated_names (names_once defs d.directives)
 
 abbrev pub directives_wrong : Defs → List DefinitionAt → List ℕ
 directives_wrong defs ds = each (λ d. each (directed_wrong defs) (directed_in d)) ds
@@ -320,12 +320,12 @@ not_input defs v = wrong (not (is_input_type defs (ty_of v.defined.of))) v.name.
 -- the uses in a fragment that an operation reaches
 abbrev pub uses_wrong_in : Defs → List FragmentAt → OperationAt → FragmentAt → List ℕ
 uses_wrong_in defs fs o f =
-    cond (reached (spread_by fs) (length fs) (names_of_all (spreads_in o.sites)) f.name.name)
+    cond (any_leads (spread_by fs) (length fs) (names_of_all (spreads_in o.sites)) f.name.name)
     (each (use_wrong o.variables (local_names f)) (uses_of defs f.directives f.sites)) []
 
 abbrev pub variables_of_wrong : Defs → List FragmentAt → OperationAt → List ℕ
 variables_of_wrong defs fs o =
-    repeated (map (λ (v : VariableAt). v.name) o.variables) ++ each (not_input defs) o.variables
+    repeated_names (map (λ (v : VariableAt). v.name) o.variables) ++ each (not_input defs) o.variables
     ++ each (use_wrong o.variables []) (uses_of defs o.directives o.sites) ++ each (uses_wrong_in defs fs o) fs
 
 abbrev pub variables_wrong : Defs → List DefinitionAt → List ℕ

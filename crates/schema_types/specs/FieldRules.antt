@@ -8,7 +8,7 @@ use Rattle.gql_ast.specs.Ty.{Ty}
 use Rattle.gql_ast.specs.declared.document.Kind.TheVariants.{Subscription}
 use Rattle.schema_trees.specs.Located.{Located}
 use Rattle.schema_types.specs.NameRules.{operations, fragments, sites_of, fragment_named}
-use Rattle.gql_graph.specs.Reached.{reached}
+use Rattle.gql_graph.specs.Reached.{any_leads}
 use Rattle.gql_graph.specs.Rules.{each, wrong}
 use Rattle.schema_types.specs.Sites.{Site, field, spread, inline, OperationAt, FragmentAt, DefinitionAt, typename, field_type}
 use Rattle.schema_tables.specs.Types.{Text, Defs, base_of, is_leaf, is_composite, possible, applies, root, same_kind}
@@ -119,7 +119,7 @@ spreads_below defs root (Some f) = cond (applies defs root f.on.name) (spreads_a
 -- the keys of a fragment that applies and is reached
 abbrev pub keys_of_fragment : Defs → List FragmentAt → (root : Text) → Sels → FragmentAt → List Key
 keys_of_fragment defs fs root s f =
-    cond (applies defs root f.on.name && reached (λ n. spreads_below defs root (fragment_named fs n)) (length fs) (spreads_at_root defs root s) f.name.name)
+    cond (applies defs root f.on.name && any_leads (λ n. spreads_below defs root (fragment_named fs n)) (length fs) (spreads_at_root defs root s) f.name.name)
     (keys_in defs root f.selections) []
 
 abbrev pub root_keys : Defs → List FragmentAt → (root : Text) → Sels → List Key

@@ -4,3 +4,4 @@ pub mod FieldRules
 pub mod ArgumentRules
 pub mod DocumentRules
 pub mod Environments
+pub mod SiteNumbers

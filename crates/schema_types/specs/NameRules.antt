@@ -5,7 +5,7 @@ use Rattle.std.specs.List.{filter_map}
 use Rattle.gql_plain.specs.Order.{has_text}
 use Rattle.schema_trees.specs.Located.{Located}
 use Rattle.gql_graph.specs.Reached.{leads}
-use Rattle.schema_rules.specs.Rules.{each, wrong, repeated}
+use Rattle.schema_rules.specs.Rules.{each, wrong, repeated_names}
 use Rattle.schema_types.specs.Sites.{Site, field, spread, inline, OperationAt, FragmentAt, DefinitionAt, operation, fragment}
 use Rattle.schema_tables.specs.Types.{Text, Defs, is_composite, root}
 
@@ -40,7 +40,7 @@ abbrev pub operation_names : List DefinitionAt → List Located
 operation_names ds = filter_map (λ (o : OperationAt). o.name) (operations ds)
 
 abbrev pub operations_not_named : List DefinitionAt → List ℕ
-operations_not_named ds = each without_name (operations ds) ++ repeated (operation_names ds)
+operations_not_named ds = each without_name (operations ds) ++ repeated_names (operation_names ds)
 
 -- ---- V2 (5.5.1.1): the names of fragments differ
 
@@ -48,7 +48,7 @@ abbrev pub fragment_names : List DefinitionAt → List Located
 fragment_names ds = map (λ (f : FragmentAt). f.name) (fragments ds)
 
 abbrev pub fragments_not_unique : List DefinitionAt → List ℕ
-fragments_not_unique ds = repeated (fragment_names ds)
+fragments_not_unique ds = repeated_names (fragment_names ds)
 
 -- ---- V3 (5.5.1.2, 5.5.1.3): type conditions name an object, an interface or a union
 

@@ -10,9 +10,9 @@ ghost use Rattle.schema_tables.specs.Fits as fits;
 ghost use Rattle.schema_tables.specs.Types as types;
 
 use gql_ast::{FilePlaces, Kind, Placed, SchemaTree, TypeTree, ValueTree, VariableDef};
-use gql_plain::{Ids, Name};
+use gql_plain::{Ids, Name, NoMemory};
 use schema_rules::fault::{ProjectFault, Rule, RuleFault};
-use schema_rules::first::broken;
+use schema_rules::first::first_fault;
 use schema_tables::definitions::{DirectiveDef, FieldDef, InputDef, InputDefs};
 use schema_tables::fits::use_allowed;
 use schema_tables::kind::TypeKind;
@@ -75,7 +75,7 @@ impl Schema {
         ensures fault { IfErr result (IsRuleFault tree.now) }
     {
         let tables = Tables::new(alloc, tree.tree.definitions.copy()?)?;
-        match broken(alloc, &tables, &tree.tree)? {
+        match first_fault(alloc, &tables, &tree.tree)? {
             Some((rule, at)) => Err(RuleFault::Rule(fault_at(&tree.places, at, rule))),
             None => Ok(Schema { tables }),
         }
@@ -169,11 +169,18 @@ impl Schema {
         self.tables.directive(name)
     }
 
-    /// Whether the literal fits the type. A variable fits everywhere.
-    pub fn literal_fits(&self, value: &ValueTree, of: &TypeTree) -> bool
-        ensures { result ≡ fits.literal_fits self.now (value_of value.now) (ty_of of.now) }
+    /// Whether the literal fits the type. A variable fits everywhere. The memory that it takes is
+    /// that of the names of an object's fields.
+    pub fn literal_fits(
+        &self,
+        alloc: Global,
+        value: &ValueTree,
+        of: &TypeTree,
+    ) -> Result<bool, NoMemory>
+        ensures { IfOk result (λ b. b ≡ fits.literal_fits self.now (value_of value.now) (ty_of of.now)) }
     {
-        self.tables.literal_fits(value, of)
+        let is_good = self.tables.literal_fits(alloc, value, of)?;
+        Ok(is_good)
     }
 
     /// Whether the use of a variable is allowed at a place of a type that has a default or has none

@@ -1,10 +1,11 @@
 -- Which objects fit, by what is kept of an input object.
-use Rattle.std.proofs.Common.{◌≡◌, ◌<◌, ◌+◌, ℕ, suc, Bool, true, false, not, ◌&&◌, ◌||◌, cond, List, [], ◌∷◌, map, length, get_or, drop, Option, Some, None, option_map, is_some, bytes_eq, add-one, drop-cons, refl, sym, ap, ◌∙◌}
+use Rattle.std.proofs.Common.{◌≡◌, ◌<◌, ◌+◌, ℕ, suc, Bool, true, false, not, ◌&&◌, ◌||◌, ◌==◌, List, [], ◌∷◌, map, length, get_or, drop, Option, Some, None, option_map, is_some, bytes_eq, add-one, drop-cons, refl, sym, ap, ◌∙◌}
+use Rattle.std.specs.Map.{keys_of}
 use Rattle.std.specs.Option.{option_and_then}
 use Rattle.gql_ast.specs.Ty.{Ty}
 use Rattle.gql_ast.specs.TypeView.{ty_of}
 use Rattle.gql_ast.specs.declared.member.InputTree.{InputTree}
-use Rattle.gql_plain.specs.Order.{member_at}
+use Rattle.gql_plain.specs.Order.{AreInOrder, has_text}
 use Rattle.gql_plain.specs.Shown.{tree_of, shown_members}
 use Rattle.gql_plain.specs.Tree.{Tree, Members, object, member, members_of}
 use Rattle.gql_plain.specs.declared.plain.Plain.{Plain}
@@ -12,21 +13,12 @@ use Rattle.schema_tables.specs.declared.definitions.InputDef.{InputDef}
 use Rattle.schema_types.specs.Environments.{fits, members_fit, suits_as_object, gives_each_required, has_key}
 use Rattle.schema_tables.specs.Fits.{meaning_of, is_required, input_type, fields}
 use Rattle.schema_tables.specs.Types.{Text, Defs, base_of, inputs_of, input_def, input_named}
+use Rattle.schema_tables.proofs.Counting.{count_gives, differ_sorted, gives_by}
+use Rattle.schema_tables.specs.Given.{must_be_given}
+use Rattle.schema_tables.specs.Required.{count_among, required_names}
 use Rattle.schema_values.specs.Means.{gives_each}
 
 -- ---- objects
-
-some_or : (b : Bool) (t : Tree) (r : Option Tree) → is_some (cond b (Some t) r) ≡ (b || is_some r)
-some_or true t r = refl
-some_or false t r = refl
-
-pub has_key-member_at : (ms : List (List ℕ × Tree)) (n : Text) → is_some (member_at ms n) ≡ has_key n (members_of ms)
-has_key-member_at [] n = refl
-has_key-member_at (m ∷ ms) n = some_or (bytes_eq m.0 n) m.1 (member_at ms n) ∙ ap (λ b. bytes_eq m.0 n || b) (has_key-member_at ms n)
-
-pub is_some-option_map : {A B : Type 0} (f : A → B) (r : Option A) → is_some r ≡ is_some (option_map f r)
-is_some-option_map f None = refl
-is_some-option_map f (Some a) = refl
 
 gives_each-defs : (is : List InputTree) (ms : Members) → gives_each (map input_def is) ms ≡ gives_each_required is ms
 gives_each-defs [] ms = refl
@@ -48,6 +40,23 @@ pub object_lacks : (defs : Defs) (ms : Members) (t : Ty) (n : Text) (is : List I
     → n ≡ base_of t → meaning_of defs n ≡ fields is → inputs ≡ map input_def is → given ≡ gives_each inputs ms → given ≡ false → given ≡ fits defs (object ms) t
 object_lacks defs ms t n is inputs given name means kept gives lacks =
     lacks ∙ sym (object_is defs ms t n is inputs name means kept ∙ ap (λ b. b && members_fit defs ms (fields is)) (sym gives ∙ lacks))
+
+-- ---- what has to be given
+
+gives_each-by : (is : List InputDef) (ms : Members) → gives_by (λ n. has_key n ms) is ≡ gives_each is ms
+gives_each-by [] ms = refl
+gives_each-by (i ∷ is) ms = ap (λ b. (not (must_be_given i) || has_key i.name ms) && b) (gives_each-by is ms)
+
+has_key-keys : (es : List (List ℕ × Plain)) (n : Text) → has_key n (members_of (shown_members es)) ≡ has_text (keys_of es) n
+has_key-keys [] n = refl
+has_key-keys (e ∷ es) n = ap (λ b. bytes_eq e.0 n || b) (has_key-keys es n)
+
+-- the keys differ, so as many have to be given as are there
+pub pairs_give : (is : List InputDef) (es : List (List ℕ × Plain)) (a b : ℕ) → AreInOrder (keys_of es) → a ≡ count_among (required_names is) (keys_of es) → b ≡ length (required_names is)
+    → (a == b) ≡ gives_each is (members_of (shown_members es))
+pairs_give is es a b ordered count all =
+    (λ k. count k == all k) ∙ count_gives (λ n. has_key n (members_of (shown_members es))) is (keys_of es) (differ_sorted (keys_of es) ordered) (has_key-keys es)
+    ∙ gives_each-by is (members_of (shown_members es))
 
 -- ---- the next pair of an object
 

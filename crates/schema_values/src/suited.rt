@@ -1,5 +1,6 @@
 //! Which values that are given fit a type (GraphQL, October 2021, sections 3.4 to 3.12 and 6.1.2).
 ghost use Rattle.std.specs.Prelude.{◌≡◌, ℕ, List, Some};
+ghost use Rattle.std.specs.Map.{keys_of};
 ghost use Rattle.gql_ast.specs.TypeView.{ty_of};
 ghost use Rattle.gql_ast.specs.declared.member.InputTree.{InputTree};
 ghost use Rattle.gql_plain.specs.Order.{sorted_texts};
@@ -7,14 +8,14 @@ ghost use Rattle.gql_plain.specs.Shown.{tree_of};
 ghost use Rattle.gql_plain.specs.Tree.{trees_of, members_of};
 ghost use Rattle.schema_types.specs.Environments as environments;
 ghost use Rattle.schema_tables.specs.Fits.{fields, meaning_of};
-ghost use Rattle.schema_tables.specs.Given.{must_be_given};
+ghost use Rattle.schema_tables.specs.Required.{count_among, required_names};
 ghost use Rattle.schema_tables.specs.Types as types;
 ghost use Rattle.schema_values.specs.Means.{Means, gives_each};
 
 use gql_ast::TypeTree;
-use gql_plain::{Ids, Pairs, Plain, Plains};
+use gql_plain::{Ids, Pairs, Plain, Plains, Words};
 use schema_tables::type_forms::{base_of, is_built_in_scalar, is_non_null, item_of};
-use schema_types::{InputDef, InputDefs, Schema};
+use schema_types::{InputDefs, Schema};
 
 /// What a named type takes.
 #[derive(Drop)]
@@ -167,28 +168,22 @@ fn is_among(value: &Plain, names: &Ids) -> bool
     }
 }
 
-/// Whether the object has the key.
-fn has_key(pairs: &Pairs, name: &str) -> bool
-    ensures { result ≡ environments.has_key name.now (members_of pairs.now) }
-{
-    pairs.get(name).is_some()
-}
-
-/// Whether an input has to be given.
-fn is_required(input: &InputDef) -> bool
-    ensures { result ≡ must_be_given input.now }
-{
-    is_non_null(&input.of) && input.default.is_none()
-}
-
-/// Whether each input that has to be given is among the keys.
+/// Whether each input that has to be given is among the keys, which differ.
 fn gives_each_required(inputs: &InputDefs, pairs: &Pairs) -> bool
     ensures { result ≡ gives_each inputs.now (members_of pairs.now) }
 {
-    'inputs: for input in &inputs.items {
-        if is_required(input) && !has_key(pairs, input.name.as_str()) {
-            return false;
+    count_required(inputs, &pairs.entries) == inputs.required_count()
+}
+
+/// How many pairs have the names of inputs that have to be given as their keys.
+fn count_required(inputs: &InputDefs, pairs: &[(Words, Plain)]) -> usize
+    ensures { result ≡ count_among (required_names inputs.now) (keys_of pairs.now) }
+{
+    let mut count = 0;
+    'pairs: for (key, _) in pairs {
+        if inputs.needs(key.as_str()) {
+            count += 1;
         }
     }
-    true
+    count
 }

@@ -2,20 +2,26 @@
 //! interfaces, with the same type or a narrower one, each argument with the same type, and no
 //! further required argument. `interface N { id: ID } type A implements N { x: Int }` breaks it at
 //! `A`.
-ghost use Rattle.std.specs.Prelude.{◌≡◌, [], ◌&&◌, not, map, List, Some, None, IfOk, OnOk, option_map, is_some};
+ghost use Rattle.std.specs.Prelude.{◌≡◌, ◌==◌, [], ◌∷◌, IsTrue, ◌&&◌, not, cond, map, length, count_by, bytes_eq, List, Some, None, IfOk, OnOk, option_map, option_and_then, option_copied, is_some};
 ghost use Rattle.std.specs.BTreeMap.{get_by_text};
+ghost use Rattle.std.specs.List.{AllByRecursion, IsDistinct};
+ghost use Rattle.std.specs.Option.{IfSome, option_to_list};
+ghost use Rattle.gql_ast.specs.declared.member.FieldTree.{FieldTree};
+ghost use Rattle.gql_ast.specs.declared.member.InputTree.{InputTree};
 ghost use Rattle.gql_ast.specs.TypeView.{ty_of};
-ghost use Rattle.gql_graph.specs.Leasts.{noted};
+ghost use Rattle.gql_graph.specs.Leasts.{least_from};
 ghost use Rattle.schema_trees.specs.Located as located;
 ghost use Rattle.schema_trees.specs.LocatedView.{name_of, input_of, field_of, def_of};
 ghost use Rattle.schema_rules.specs.NamedAt.{name_place, field_place, input_place, wanted_place};
 ghost use Rattle.schema_rules.specs.Rules as rules;
+ghost use Rattle.schema_tables.specs.Places.{first_at};
 ghost use Rattle.schema_tables.specs.Types as types;
 
 use crate::rules::interfaces::is_interface;
 use crate::rules::members::is_object;
 use crate::rules::names::{field_names, input_names};
-use gql_ast::{FieldTree, InputTree, SchemaDef, TypeTree};
+use crate::rules::wanted::{field_wanted, fields_wanted, wanted_places};
+use gql_ast::{FieldTree, InputTree, TypeTree};
 use gql_graph::least::Least;
 use gql_plain::NoMemory;
 use schema_tables::index::Index;
@@ -23,6 +29,7 @@ use schema_tables::tables::Tables;
 use schema_tables::type_forms::is_non_null;
 use schema_trees::located::{DefAt, FieldAt, InputAt, NameAt};
 use std::alloc::Global;
+use std::collections::BTreeMap;
 
 /// S8: a type has each field of its interfaces, of the same type or a narrower one; it has each
 /// argument with the same type, and further arguments are not required (GraphQL, October 2021,
@@ -33,10 +40,11 @@ pub(crate) fn interfaces_not_implemented(
     least: &mut Least,
     definitions: &[DefAt<'_>],
 ) -> Result<(), NoMemory>
-    ensures { OnOk result (least.new.at ≡ noted least.old.at (rules.interfaces_not_implemented tables.now (map def_of definitions.now))) }
+    ensures { OnOk result (least.new.at ≡ least_from least.old.at (rules.interfaces_not_implemented tables.now (map def_of definitions.now))) }
 {
+    let wanted = wanted_places(alloc, tables, definitions)?;
     'definitions: for definition in definitions {
-        note_not_implemented(alloc, tables, least, definition)?;
+        note_not_implemented(alloc, tables, &wanted, least, definition)?;
     }
     Ok(())
 }
@@ -45,22 +53,26 @@ pub(crate) fn interfaces_not_implemented(
 fn note_not_implemented(
     alloc: Global,
     tables: &Tables,
+    wanted: &BTreeMap<String, Index>,
     least: &mut Least,
     definition: &DefAt<'_>,
 ) -> Result<(), NoMemory>
-    ensures { OnOk result (least.new.at ≡ noted least.old.at (rules.not_implemented_in tables.now (def_of definition.now))) }
+    requires { (n : types.Text) → IfSome (get_by_text wanted.now n) (λ index.
+        IsDistinct bytes_eq (map (λ (w : FieldTree). w.name) (rules.interface_fields (types.type_named tables.now n)))
+        × ((m : types.Text) → get_by_text index.places m ≡ first_at (λ (w : FieldTree). bytes_eq w.name m) (rules.interface_fields (types.type_named tables.now n)))) }
+    ensures { OnOk result (least.new.at ≡ least_from least.old.at (rules.not_implemented_in tables.now (def_of definition.now))) }
 {
     match definition {
         DefAt::Object {
             name,
             interfaces,
             fields,
-        } => note_lacks(alloc, tables, least, name, fields, interfaces),
+        } => note_lacks(alloc, tables, wanted, least, name, fields, interfaces),
         DefAt::Interface {
             name,
             interfaces,
             fields,
-        } => note_lacks(alloc, tables, least, name, fields, interfaces),
+        } => note_lacks(alloc, tables, wanted, least, name, fields, interfaces),
         DefAt::Schema { .. } => Ok(()),
         DefAt::Scalar { .. } => Ok(()),
         DefAt::Union { .. } => Ok(()),
@@ -74,44 +86,148 @@ fn note_not_implemented(
 fn note_lacks(
     alloc: Global,
     tables: &Tables,
+    wanted: &BTreeMap<String, Index>,
     least: &mut Least,
     name: &NameAt<'_>,
     fields: &[FieldAt<'_>],
     interfaces: &[NameAt<'_>],
 ) -> Result<(), NoMemory>
-    ensures { OnOk result (least.new.at ≡ noted least.old.at (rules.each (rules.lacks_of_interface tables.now (name_of name.now) (map field_of fields.now)) (map name_of interfaces.now))) }
+    requires { (n : types.Text) → IfSome (get_by_text wanted.now n) (λ index.
+        IsDistinct bytes_eq (map (λ (w : FieldTree). w.name) (rules.interface_fields (types.type_named tables.now n)))
+        × ((m : types.Text) → get_by_text index.places m ≡ first_at (λ (w : FieldTree). bytes_eq w.name m) (rules.interface_fields (types.type_named tables.now n)))) }
+    ensures { OnOk result (least.new.at ≡ least_from least.old.at (rules.each (rules.lacks_of_interface tables.now (name_of name.now) (map field_of fields.now)) (map name_of interfaces.now))) }
 {
     let places = places_of_fields(alloc, fields)?;
     'interfaces: for interface in interfaces {
-        let wanted = fields_wanted(tables, interface.name);
-        note_differences(alloc, tables, least, name, fields, &places, wanted)?;
+        note_interface(
+            alloc,
+            tables,
+            wanted,
+            least,
+            name,
+            fields,
+            &places,
+            interface.name,
+        )?;
     }
     Ok(())
 }
 
-/// The fields of an interface.
-fn fields_wanted<'t>(tables: &'t Tables, name: &str) -> &'t [FieldTree]
-    ensures { result.now ≡ rules.interface_fields (types.type_named tables.now name.now) }
+/// What a type lacks of an interface. It is looked up by the names of the type's fields, where the
+/// interface has its places, and else by those of the interface.
+fn note_interface(
+    alloc: Global,
+    tables: &Tables,
+    wanted: &BTreeMap<String, Index>,
+    least: &mut Least,
+    name: &NameAt<'_>,
+    fields: &[FieldAt<'_>],
+    places: &Index,
+    interface: &str,
+) -> Result<(), NoMemory>
+    requires wanted { (n : types.Text) → IfSome (get_by_text wanted.now n) (λ index.
+        IsDistinct bytes_eq (map (λ (w : FieldTree). w.name) (rules.interface_fields (types.type_named tables.now n)))
+        × ((m : types.Text) → get_by_text index.places m ≡ first_at (λ (w : FieldTree). bytes_eq w.name m) (rules.interface_fields (types.type_named tables.now n)))) }
+    requires places { (n : types.Text) → get_by_text places.now.places n ≡ field_place (map field_of fields.now) n }
+    ensures { OnOk result (least.new.at ≡ least_from least.old.at (rules.each (λ w. rules.field_differs tables.now name.now.at (rules.field_found (map field_of fields.now) w.name) w) (rules.interface_fields (types.type_named tables.now interface.now)))) }
 {
-    match tables.definition(name) {
-        Some(definition) => fields_of(definition),
-        None => &[],
+    let due = fields_wanted(tables, interface);
+    match wanted.get(interface) {
+        Some(index) => note_by_name(alloc, tables, least, name, fields, places, due, index),
+        None => note_differences(alloc, tables, least, name, fields, places, due),
     }
 }
 
-/// The fields of a definition.
-fn fields_of(definition: &SchemaDef) -> &[FieldTree]
-    ensures { result.now ≡ types.fields_of definition.now }
+/// What a type lacks of an interface whose fields have names that differ. Takes a look-up for each
+/// field of the type, however many the interface has.
+fn note_by_name(
+    alloc: Global,
+    tables: &Tables,
+    least: &mut Least,
+    name: &NameAt<'_>,
+    fields: &[FieldAt<'_>],
+    places: &Index,
+    wanted: &[FieldTree],
+    index: &Index,
+) -> Result<(), NoMemory>
+    requires places { (n : types.Text) → get_by_text places.now.places n ≡ field_place (map field_of fields.now) n }
+    requires distinct { IsDistinct bytes_eq (map (λ (w : FieldTree). w.name) wanted.now) }
+    requires index { (m : types.Text) → get_by_text index.now.places m ≡ first_at (λ (w : FieldTree). bytes_eq w.name m) wanted.now }
+    ensures { OnOk result (least.new.at ≡ least_from least.old.at (rules.each (λ w. rules.field_differs tables.now name.now.at (rules.field_found (map field_of fields.now) w.name) w) wanted.now)) }
 {
-    match definition {
-        SchemaDef::Object { fields, .. } => fields.as_slice(),
-        SchemaDef::Interface { fields, .. } => fields.as_slice(),
-        SchemaDef::Schema { .. } => &[],
-        SchemaDef::Scalar { .. } => &[],
-        SchemaDef::Union { .. } => &[],
-        SchemaDef::Enum { .. } => &[],
-        SchemaDef::Input { .. } => &[],
-        SchemaDef::Directive { .. } => &[],
+    let found = note_found(alloc, tables, least, fields, places, wanted, index)?;
+    least.note_if(found < wanted.len(), name.at);
+    Ok(())
+}
+
+/// What the fields of a type differ in from those of an interface, of the fields that both have, and
+/// how many fields of the interface the type has.
+fn note_found(
+    alloc: Global,
+    tables: &Tables,
+    least: &mut Least,
+    fields: &[FieldAt<'_>],
+    places: &Index,
+    wanted: &[FieldTree],
+    index: &Index,
+) -> Result<usize, NoMemory>
+    requires places { (n : types.Text) → get_by_text places.now.places n ≡ field_place (map field_of fields.now) n }
+    requires distinct { IsDistinct bytes_eq (map (λ (w : FieldTree). w.name) wanted.now) }
+    requires index { (m : types.Text) → get_by_text index.now.places m ≡ first_at (λ (w : FieldTree). bytes_eq w.name m) wanted.now }
+    ensures places { OnOk result (least.new.at ≡ least_from least.old.at (rules.each (λ w. rules.each (λ f. rules.field_differs tables.now 0 (Some f) w) (option_to_list (rules.field_found (map field_of fields.now) w.name))) wanted.now)) }
+    ensures count { IfOk result (λ found. found ≡ count_by (λ (w : FieldTree). is_some (rules.field_found (map field_of fields.now) w.name)) wanted.now) }
+{
+    let mut found = 0;
+    let mut at = 0;
+    'fields: for field in fields {
+        let due = wanted_once(places, at, field.name.name, wanted, index);
+        let count = note_pair(alloc, tables, least, field, due)?;
+        found += count;
+        at += 1;
+    }
+    Ok(found)
+}
+
+/// The field of an interface of this name, unless the type has a field of the name before this place.
+fn wanted_once<'t>(
+    places: &Index,
+    at: usize,
+    name: &str,
+    wanted: &'t [FieldTree],
+    index: &Index,
+) -> Option<&'t FieldTree>
+    requires { (m : types.Text) → get_by_text index.now.places m ≡ first_at (λ (w : FieldTree). bytes_eq w.name m) wanted.now }
+    ensures { option_copied result ≡ option_and_then (λ first. cond (first == at) (types.field_named wanted.now name.now) None) (get_by_text places.now.places name.now) }
+{
+    match places.find(name) {
+        Some(first) => {
+            if first == at {
+                field_wanted(wanted, index, name)
+            } else {
+                None
+            }
+        }
+        None => None,
+    }
+}
+
+/// What a field differs in from that of an interface, where there is one, and how many there are.
+fn note_pair(
+    alloc: Global,
+    tables: &Tables,
+    least: &mut Least,
+    field: &FieldAt<'_>,
+    wanted: Option<&FieldTree>,
+) -> Result<usize, NoMemory>
+    ensures places { OnOk result (least.new.at ≡ least_from least.old.at (rules.each (rules.field_differs tables.now 0 (Some (field_of field.now))) (option_to_list (option_copied wanted.entry)))) }
+    ensures count { IfOk result (λ count. count ≡ length (option_to_list (option_copied wanted.entry))) }
+{
+    match wanted {
+        Some(one) => {
+            note_field(alloc, tables, least, field, one)?;
+            Ok(1)
+        }
+        None => Ok(0),
     }
 }
 
@@ -172,7 +288,7 @@ fn note_differences(
     wanted: &[FieldTree],
 ) -> Result<(), NoMemory>
     requires { (n : types.Text) → get_by_text places.now.places n ≡ field_place (map field_of fields.now) n }
-    ensures { OnOk result (least.new.at ≡ noted least.old.at (rules.each (λ w. rules.field_differs tables.now name.now.at (rules.field_found (map field_of fields.now) w.name) w) wanted.now)) }
+    ensures { OnOk result (least.new.at ≡ least_from least.old.at (rules.each (λ w. rules.field_differs tables.now name.now.at (rules.field_found (map field_of fields.now) w.name) w) wanted.now)) }
 {
     'wanted: for field in wanted {
         let found = field_found(fields, places, field.name.as_str());
@@ -220,7 +336,7 @@ fn note_difference(
     found: Option<&FieldAt<'_>>,
     wanted: &FieldTree,
 ) -> Result<(), NoMemory>
-    ensures { OnOk result (least.new.at ≡ noted least.old.at (rules.field_differs tables.now lacks (option_map (λ f. field_of f.now) found.entry) wanted.now)) }
+    ensures { OnOk result (least.new.at ≡ least_from least.old.at (rules.field_differs tables.now lacks (option_map (λ f. field_of f.now) found.entry) wanted.now)) }
 {
     match found {
         Some(field) => note_field(alloc, tables, least, field, wanted),
@@ -240,22 +356,26 @@ fn note_field(
     field: &FieldAt<'_>,
     wanted: &FieldTree,
 ) -> Result<(), NoMemory>
-    ensures { OnOk result (least.new.at ≡ noted least.old.at (rules.field_differs tables.now 0 (Some (field_of field.now)) wanted.now)) }
+    ensures { OnOk result (least.new.at ≡ least_from least.old.at (rules.field_differs tables.now 0 (Some (field_of field.now)) wanted.now)) }
 {
     least.note_if(!is_narrower(tables, field.of.of, &wanted.of), field.of.at);
     note_arguments(alloc, least, field, wanted)?;
     note_further(alloc, least, field, wanted)
 }
 
-/// Arguments that a field lacks, or whose types differ.
+/// Arguments that a field lacks, or whose types differ. Those that are wanted are passed over where
+/// none could be noted before the least place, as once a field before this one lacked one.
 fn note_arguments(
     alloc: Global,
     least: &mut Least,
     field: &FieldAt<'_>,
     wanted: &FieldTree,
 ) -> Result<(), NoMemory>
-    ensures { OnOk result (least.new.at ≡ noted least.old.at (rules.each (rules.arguments_lack (field_of field.now)) wanted.now.arguments)) }
+    ensures { OnOk result (least.new.at ≡ least_from least.old.at (rules.each (rules.arguments_lack (field_of field.now)) wanted.now.arguments)) }
 {
+    if is_settled(least, field) {
+        return Ok(());
+    }
     let places = places_of_inputs(alloc, &field.arguments)?;
     'arguments: for argument in wanted.arguments.as_slice() {
         let found = input_found(&field.arguments, &places, argument.name.as_str());
@@ -264,9 +384,29 @@ fn note_arguments(
     Ok(())
 }
 
+/// Whether no argument that a field lacks, or whose type differs, is noted before the least place,
+/// whatever an interface wants.
+fn is_settled(least: &Least, field: &FieldAt<'_>) -> bool
+    ensures { IsTrue result → (ws : List InputTree) → least_from least.now.at (rules.each (rules.arguments_lack (field_of field.now)) ws) ≡ least.now.at }
+{
+    least.is_at_most(field.name.at) && are_settled(least, &field.arguments)
+}
+
+/// Whether no type of these arguments stands before the least place.
+fn are_settled(least: &Least, arguments: &[InputAt<'_>]) -> bool
+    ensures { IsTrue result → AllByRecursion (λ (i : located.InputAt). least_from least.now.at (i.of.at ∷ []) ≡ least.now.at) (map input_of arguments.now) }
+{
+    'arguments: for argument in arguments {
+        if !least.is_at_most(argument.of.at) {
+            return false;
+        }
+    }
+    true
+}
+
 /// What an argument, if there is one, differs in from that of an interface.
 fn note_argument(least: &mut Least, lacks: usize, found: Option<&InputAt<'_>>, wanted: &InputTree)
-    ensures { least.new.at ≡ noted least.old.at (rules.argument_differs lacks (option_map (λ i. input_of i.now) found.entry) wanted.now) }
+    ensures { least.new.at ≡ least_from least.old.at (rules.argument_differs lacks (option_map (λ i. input_of i.now) found.entry) wanted.now) }
 {
     match found {
         Some(input) => least.note_if(!same_type(input.of.of, &wanted.of), input.of.at),
@@ -281,18 +421,43 @@ fn note_further(
     field: &FieldAt<'_>,
     wanted: &FieldTree,
 ) -> Result<(), NoMemory>
-    ensures { OnOk result (least.new.at ≡ noted least.old.at (rules.each (rules.further_argument wanted.now.arguments) (field_of field.now).arguments)) }
+    ensures { OnOk result (least.new.at ≡ least_from least.old.at (rules.each (rules.further_argument wanted.now.arguments) (field_of field.now).arguments)) }
 {
+    if are_named_later(least, &field.arguments) {
+        return Ok(());
+    }
     let places = places_of_wanted(alloc, wanted.arguments.as_slice())?;
     note_not_wanted(least, &places, wanted, &field.arguments);
     Ok(())
+}
+
+/// Whether no argument that is required is named before the least place.
+fn are_named_later(least: &Least, arguments: &[InputAt<'_>]) -> bool
+    ensures { IsTrue result → (ws : List InputTree) → least_from least.now.at (rules.each (rules.further_argument ws) (map input_of arguments.now)) ≡ least.now.at }
+{
+    'arguments: for argument in arguments {
+        if !is_named_later(least, argument) {
+            return false;
+        }
+    }
+    true
+}
+
+/// Whether an argument is not required, or is not named before the least place.
+fn is_named_later(least: &Least, argument: &InputAt<'_>) -> bool
+    ensures { IsTrue result → (ws : List InputTree) → least_from least.now.at (rules.further_argument ws (input_of argument.now)) ≡ least.now.at }
+{
+    if !is_required(argument) {
+        return true;
+    }
+    least.is_at_most(argument.name.at)
 }
 
 /// Arguments that are required and not wanted.
 #[tactic(auto, using(gql_graph::proofs::LeastSteps::noting))]
 fn note_not_wanted(least: &mut Least, places: &Index, wanted: &FieldTree, arguments: &[InputAt<'_>])
     requires { (n : types.Text) → get_by_text places.now.places n ≡ wanted_place wanted.now.arguments n }
-    ensures { least.new.at ≡ noted least.old.at (rules.each (rules.further_argument wanted.now.arguments) (map input_of arguments.now)) }
+    ensures { least.new.at ≡ least_from least.old.at (rules.each (rules.further_argument wanted.now.arguments) (map input_of arguments.now)) }
 {
     'arguments: for argument in arguments {
         least.note_if(is_further(places, wanted, argument), argument.name.at);

@@ -5,7 +5,7 @@ ghost use Rattle.std.specs.Prelude.{◌≡◌, [], ◌∷◌, ◌++◌, ◌||◌
 ghost use Rattle.std.specs.List.{list_any};
 ghost use Rattle.std.specs.Str.{bytes_eq};
 ghost use Rattle.gql_plain.specs.Order.{has_text};
-ghost use Rattle.gql_graph.specs.Leasts.{noted};
+ghost use Rattle.gql_graph.specs.Leasts.{least_from};
 ghost use Rattle.schema_trees.specs.Located as located;
 ghost use Rattle.schema_trees.specs.LocatedView.{name_of, def_of};
 ghost use Rattle.schema_rules.specs.Rules as rules;
@@ -30,7 +30,7 @@ pub(crate) fn interfaces_wrong(
     least: &mut Least,
     definitions: &[DefAt<'_>],
 ) -> Result<(), NoMemory>
-    ensures { OnOk result (least.new.at ≡ noted least.old.at (rules.interfaces_wrong tables.now (map def_of definitions.now))) }
+    ensures { OnOk result (least.new.at ≡ least_from least.old.at (rules.interfaces_wrong tables.now (map def_of definitions.now))) }
 {
     'definitions: for definition in definitions {
         note_implements_in(alloc, tables, least, definition)?;
@@ -45,7 +45,7 @@ fn note_implements_in(
     least: &mut Least,
     definition: &DefAt<'_>,
 ) -> Result<(), NoMemory>
-    ensures { OnOk result (least.new.at ≡ noted least.old.at (rules.implements_wrong_in tables.now (def_of definition.now))) }
+    ensures { OnOk result (least.new.at ≡ least_from least.old.at (rules.implements_wrong_in tables.now (def_of definition.now))) }
 {
     match definition {
         DefAt::Object {
@@ -76,7 +76,7 @@ fn note_implements(
     name: &NameAt<'_>,
     interfaces: &[NameAt<'_>],
 ) -> Result<(), NoMemory>
-    ensures { OnOk result (least.new.at ≡ noted least.old.at (rules.implements_wrong tables.now (name_of name.now) (map name_of interfaces.now))) }
+    ensures { OnOk result (least.new.at ≡ least_from least.old.at (rules.implements_wrong tables.now (name_of name.now) (map name_of interfaces.now))) }
 {
     note_cannot_implement(tables, least, name.name, interfaces);
     let leaves_out = leave_out(alloc, tables, interfaces)?;
@@ -87,7 +87,7 @@ fn note_implements(
 /// Names that a type cannot implement.
 #[tactic(auto, using(gql_graph::proofs::LeastSteps::noting))]
 fn note_cannot_implement(tables: &Tables, least: &mut Least, name: &str, interfaces: &[NameAt<'_>])
-    ensures { least.new.at ≡ noted least.old.at (rules.each (rules.cannot_implement tables.now name.now) (map name_of interfaces.now)) }
+    ensures { least.new.at ≡ least_from least.old.at (rules.each (rules.cannot_implement tables.now name.now) (map name_of interfaces.now)) }
 {
     'interfaces: for interface in interfaces {
         least.note_if(cannot_implement(tables, name, interface.name), interface.at);

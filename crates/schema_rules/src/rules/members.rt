@@ -4,7 +4,7 @@
 //! S11, defaults (section 3.6.1): default values fit. `type Query { team(size: Int = "2"): Int }`
 //! breaks it at `size`.
 ghost use Rattle.std.specs.Prelude.{◌≡◌, [], ◌∷◌, ◌++◌, map, OnOk};
-ghost use Rattle.gql_graph.specs.Leasts.{noted};
+ghost use Rattle.gql_graph.specs.Leasts.{least_from};
 ghost use Rattle.schema_trees.specs.Located as located;
 ghost use Rattle.schema_trees.specs.LocatedView.{name_of, input_of, def_of};
 ghost use Rattle.schema_rules.specs.Rules as rules;
@@ -41,7 +41,7 @@ fn is_object_kind(kind: TypeKind) -> bool
 /// Notes names that are none of object types.
 #[tactic(auto, using(gql_graph::proofs::LeastSteps::noting))]
 pub(crate) fn note_not_objects(tables: &Tables, least: &mut Least, names: &[NameAt<'_>])
-    ensures { least.new.at ≡ noted least.old.at (rules.each (rules.not_object tables.now) (map name_of names.now)) }
+    ensures { least.new.at ≡ least_from least.old.at (rules.each (rules.not_object tables.now) (map name_of names.now)) }
 {
     'names: for name in names {
         least.note_if(!is_object(tables, name.name), name.at);
@@ -52,7 +52,7 @@ pub(crate) fn note_not_objects(tables: &Tables, least: &mut Least, names: &[Name
 /// are object types (GraphQL, October 2021, sections 3.6 to 3.10).
 #[tactic(auto, using(gql_graph::proofs::LeastSteps::noting))]
 pub(crate) fn members_missing(tables: &Tables, least: &mut Least, definitions: &[DefAt<'_>])
-    ensures { least.new.at ≡ noted least.old.at (rules.members_missing tables.now (map def_of definitions.now)) }
+    ensures { least.new.at ≡ least_from least.old.at (rules.members_missing tables.now (map def_of definitions.now)) }
 {
     'definitions: for definition in definitions {
         note_empty(tables, least, definition);
@@ -62,7 +62,7 @@ pub(crate) fn members_missing(tables: &Tables, least: &mut Least, definitions: &
 /// A definition that lacks a member.
 #[tactic(auto, using(gql_graph::proofs::LeastSteps::noting))]
 fn note_empty(tables: &Tables, least: &mut Least, definition: &DefAt<'_>)
-    ensures { least.new.at ≡ noted least.old.at (rules.empty_in tables.now (def_of definition.now)) }
+    ensures { least.new.at ≡ least_from least.old.at (rules.empty_in tables.now (def_of definition.now)) }
 {
     match definition {
         DefAt::Object { name, fields, .. } => least.note_if(fields.is_empty(), name.at),
@@ -88,7 +88,7 @@ pub(crate) fn defaults_wrong(
     least: &mut Least,
     definitions: &[DefAt<'_>],
 ) -> Result<(), NoMemory>
-    ensures { OnOk result (least.new.at ≡ noted least.old.at (rules.defaults_wrong tables.now (map def_of definitions.now))) }
+    ensures { OnOk result (least.new.at ≡ least_from least.old.at (rules.defaults_wrong tables.now (map def_of definitions.now))) }
 {
     'definitions: for definition in definitions {
         note_defaults_in(alloc, tables, least, definition)?;
@@ -103,29 +103,43 @@ fn note_defaults_in(
     least: &mut Least,
     definition: &DefAt<'_>,
 ) -> Result<(), NoMemory>
-    ensures { OnOk result (least.new.at ≡ noted least.old.at (rules.each (rules.default_wrong tables.now) (rules.inputs_in (def_of definition.now)))) }
+    ensures { OnOk result (least.new.at ≡ least_from least.old.at (rules.each (rules.default_wrong tables.now) (rules.inputs_in (def_of definition.now)))) }
 {
     let inputs = definition.inputs(alloc)?;
-    note_defaults(tables, least, &inputs);
-    Ok(())
+    note_defaults(alloc, tables, least, &inputs)
 }
 
 /// Arguments or input fields whose defaults do not fit.
 #[tactic(auto, using(gql_graph::proofs::LeastSteps::noting))]
-fn note_defaults(tables: &Tables, least: &mut Least, inputs: &[InputAt<'_>])
-    ensures { least.new.at ≡ noted least.old.at (rules.each (rules.default_wrong tables.now) (map input_of inputs.now)) }
+fn note_defaults(
+    alloc: Global,
+    tables: &Tables,
+    least: &mut Least,
+    inputs: &[InputAt<'_>],
+) -> Result<(), NoMemory>
+    ensures { OnOk result (least.new.at ≡ least_from least.old.at (rules.each (rules.default_wrong tables.now) (map input_of inputs.now))) }
 {
     'inputs: for input in inputs {
-        note_default(tables, least, input);
+        note_default(alloc, tables, least, input)?;
     }
+    Ok(())
 }
 
 /// An argument or an input field whose default does not fit.
-fn note_default(tables: &Tables, least: &mut Least, input: &InputAt<'_>)
-    ensures { least.new.at ≡ noted least.old.at (rules.default_wrong tables.now (input_of input.now)) }
+fn note_default(
+    alloc: Global,
+    tables: &Tables,
+    least: &mut Least,
+    input: &InputAt<'_>,
+) -> Result<(), NoMemory>
+    ensures { OnOk result (least.new.at ≡ least_from least.old.at (rules.default_wrong tables.now (input_of input.now))) }
 {
     match input.default {
-        Some(value) => least.note_if(!tables.literal_fits(value, input.of.of), input.name.at),
-        None => {}
+        Some(value) => {
+            let is_good = tables.literal_fits(alloc, value, input.of.of)?;
+            least.note_if(!is_good, input.name.at);
+            Ok(())
+        }
+        None => Ok(()),
     }
 }

@@ -5,7 +5,7 @@
 //! field, enum values, union members, input fields and implemented interfaces differ.
 //! `enum E { A A }` breaks it at the second `A`.
 ghost use Rattle.std.specs.Prelude.{◌≡◌, [], ◌∷◌, map, IfOk, OnOk};
-ghost use Rattle.gql_graph.specs.Leasts.{noted};
+ghost use Rattle.gql_graph.specs.Leasts.{least_from};
 ghost use Rattle.schema_trees.specs.LocatedView.{name_of, input_of, field_of, root_of, def_of};
 ghost use Rattle.schema_rules.specs.Rules as rules;
 
@@ -24,7 +24,7 @@ pub(crate) fn names_reserved(
     least: &mut Least,
     definitions: &[DefAt<'_>],
 ) -> Result<(), NoMemory>
-    ensures { OnOk result (least.new.at ≡ noted least.old.at (rules.names_reserved (map def_of definitions.now))) }
+    ensures { OnOk result (least.new.at ≡ least_from least.old.at (rules.names_reserved (map def_of definitions.now))) }
 {
     'definitions: for definition in definitions {
         note_reserved_in(alloc, least, definition)?;
@@ -39,7 +39,7 @@ fn note_reserved_in(
     least: &mut Least,
     definition: &DefAt<'_>,
 ) -> Result<(), NoMemory>
-    ensures { OnOk result (least.new.at ≡ noted least.old.at (rules.each rules.reserved (rules.defined_names (def_of definition.now)))) }
+    ensures { OnOk result (least.new.at ≡ least_from least.old.at (rules.each rules.reserved_name (rules.defined_names (def_of definition.now)))) }
 {
     note_reserved_name(least, definition);
     note_reserved_fields(least, definition.fields());
@@ -51,7 +51,7 @@ fn note_reserved_in(
 
 /// The name of a definition, where it is reserved.
 fn note_reserved_name(least: &mut Least, definition: &DefAt<'_>)
-    ensures { least.new.at ≡ noted least.old.at (rules.each rules.reserved (rules.defined_name (def_of definition.now))) }
+    ensures { least.new.at ≡ least_from least.old.at (rules.each rules.reserved_name (rules.defined_name (def_of definition.now))) }
 {
     match definition.name() {
         Some(name) => least.note_if(is_reserved(name.name), name.at),
@@ -69,7 +69,7 @@ fn is_reserved(name: &str) -> bool
 /// Names that are reserved.
 #[tactic(auto, using(gql_graph::proofs::LeastSteps::noting))]
 fn note_reserved(least: &mut Least, names: &[NameAt<'_>])
-    ensures { least.new.at ≡ noted least.old.at (rules.each rules.reserved (map name_of names.now)) }
+    ensures { least.new.at ≡ least_from least.old.at (rules.each rules.reserved_name (map name_of names.now)) }
 {
     'names: for name in names {
         least.note_if(is_reserved(name.name), name.at);
@@ -79,7 +79,7 @@ fn note_reserved(least: &mut Least, names: &[NameAt<'_>])
 /// Names of fields that are reserved.
 #[tactic(auto, using(gql_graph::proofs::LeastSteps::noting))]
 fn note_reserved_fields(least: &mut Least, fields: &[FieldAt<'_>])
-    ensures { least.new.at ≡ noted least.old.at (rules.each rules.reserved (rules.field_names (map field_of fields.now))) }
+    ensures { least.new.at ≡ least_from least.old.at (rules.each rules.reserved_name (rules.field_names (map field_of fields.now))) }
 {
     'fields: for field in fields {
         least.note_if(is_reserved(field.name.name), field.name.at);
@@ -89,7 +89,7 @@ fn note_reserved_fields(least: &mut Least, fields: &[FieldAt<'_>])
 /// Names of arguments or input fields that are reserved.
 #[tactic(auto, using(gql_graph::proofs::LeastSteps::noting))]
 fn note_reserved_inputs(least: &mut Least, inputs: &[InputAt<'_>])
-    ensures { least.new.at ≡ noted least.old.at (rules.each rules.reserved (rules.input_names (map input_of inputs.now))) }
+    ensures { least.new.at ≡ least_from least.old.at (rules.each rules.reserved_name (rules.input_names (map input_of inputs.now))) }
 {
     'inputs: for input in inputs {
         least.note_if(is_reserved(input.name.name), input.name.at);
@@ -104,7 +104,7 @@ pub(crate) fn members_not_unique(
     least: &mut Least,
     definitions: &[DefAt<'_>],
 ) -> Result<(), NoMemory>
-    ensures { OnOk result (least.new.at ≡ noted least.old.at (rules.members_not_unique (map def_of definitions.now))) }
+    ensures { OnOk result (least.new.at ≡ least_from least.old.at (rules.members_not_unique (map def_of definitions.now))) }
 {
     'definitions: for definition in definitions {
         note_repeated_in(alloc, least, definition)?;
@@ -119,7 +119,7 @@ fn note_repeated_in(
     least: &mut Least,
     definition: &DefAt<'_>,
 ) -> Result<(), NoMemory>
-    ensures { OnOk result (least.new.at ≡ noted least.old.at (rules.repeated_in (def_of definition.now))) }
+    ensures { OnOk result (least.new.at ≡ least_from least.old.at (rules.repeated_in (def_of definition.now))) }
 {
     let names = field_names(alloc, definition.fields())?;
     note_repeated(alloc, least, &names)?;
@@ -164,7 +164,7 @@ fn note_repeated_inputs(
     least: &mut Least,
     inputs: &[InputAt<'_>],
 ) -> Result<(), NoMemory>
-    ensures { OnOk result (least.new.at ≡ noted least.old.at (rules.repeated (rules.input_names (map input_of inputs.now)))) }
+    ensures { OnOk result (least.new.at ≡ least_from least.old.at (rules.repeated_names (rules.input_names (map input_of inputs.now)))) }
 {
     let names = input_names(alloc, inputs)?;
     note_repeated(alloc, least, &names)
@@ -177,7 +177,7 @@ fn note_repeated_arguments(
     least: &mut Least,
     fields: &[FieldAt<'_>],
 ) -> Result<(), NoMemory>
-    ensures { OnOk result (least.new.at ≡ noted least.old.at (rules.each (λ f. rules.repeated (rules.input_names f.arguments)) (map field_of fields.now))) }
+    ensures { OnOk result (least.new.at ≡ least_from least.old.at (rules.each (λ f. rules.repeated_names (rules.input_names f.arguments)) (map field_of fields.now))) }
 {
     'fields: for field in fields {
         note_repeated_inputs(alloc, least, &field.arguments)?;

@@ -5,11 +5,11 @@ ghost use Rattle.std.specs.List.{filter_map};
 ghost use Rattle.gql_ast.specs.Ty as ty;
 ghost use Rattle.gql_ast.specs.TypeView.{ty_of};
 ghost use Rattle.gql_graph.specs.Graphs.{Holds, Tells};
-ghost use Rattle.gql_graph.specs.Leasts.{noted};
+ghost use Rattle.gql_graph.specs.Leasts.{least_from};
 ghost use Rattle.schema_trees.specs.LocatedView.{def_of};
 ghost use Rattle.schema_rules.specs.Needing.{needing};
 ghost use Rattle.gql_graph.specs.Ranks.{rank_in, NeverRises};
-ghost use Rattle.gql_graph.specs.Reached.{reached};
+ghost use Rattle.gql_graph.specs.Reached.{any_leads};
 ghost use Rattle.schema_rules.specs.Rules as rules;
 ghost use Rattle.schema_tables.specs.Types.{Text, Defs};
 
@@ -36,7 +36,7 @@ pub(crate) fn inputs_need_themselves(
     definitions: &[DefAt<'_>],
 ) -> Result<(), NoMemory>
     requires { steps ≡ length tables.now }
-    ensures { OnOk result (least.new.at ≡ noted least.old.at (rules.inputs_need_themselves tables.now (map def_of definitions.now))) }
+    ensures { OnOk result (least.new.at ≡ least_from least.old.at (rules.inputs_need_themselves tables.now (map def_of definitions.now))) }
 {
     let graph = needs(alloc, tables)?;
     let ranks = Ranks::of(alloc, &graph)?;
@@ -56,7 +56,7 @@ fn note_needing(
     definition: &DefAt<'_>,
 ) -> Result<(), NoMemory>
     ensures { (defs : Defs) → Tells graph.now (rules.needs defs) → steps ≡ length defs → NeverRises (rank_in ranks.now) (rules.needs defs)
-        → OnOk result (least.new.at ≡ noted least.old.at (rules.needs_itself defs (def_of definition.now))) }
+        → OnOk result (least.new.at ≡ least_from least.old.at (rules.needs_itself defs (def_of definition.now))) }
 {
     match definition {
         DefAt::Input { name, .. } => note_input(alloc, graph, steps, ranks, least, name),
@@ -81,7 +81,7 @@ fn note_input(
     name: &NameAt<'_>,
 ) -> Result<(), NoMemory>
     ensures { (next : Text → List Text) → Tells graph.now next → NeverRises (rank_in ranks.now) next
-        → OnOk result (least.new.at ≡ noted least.old.at (rules.wrong (reached next steps (next name.now.name.now) name.now.name.now) name.now.at)) }
+        → OnOk result (least.new.at ≡ least_from least.old.at (rules.wrong (any_leads next steps (next name.now.name.now) name.now.name.now) name.now.at)) }
 {
     if least.is_at_most(name.at) {
         return Ok(());
@@ -127,11 +127,11 @@ fn put_needs<'t>(
 
 /// The types that input fields need.
 fn needs_of<'t>(alloc: Global, inputs: &'t InputTrees) -> Result<Vec<&'t str>, NoMemory>
-    ensures { IfOk result (λ ns. map (λ n. n.now) ns.items ≡ filter_map (λ i. rules.needed (ty_of i.of)) inputs.now) }
+    ensures { IfOk result (λ ns. map (λ n. n.now) ns.items ≡ filter_map (λ i. rules.needed_type (ty_of i.of)) inputs.now) }
 {
     let mut names = Vec::new(alloc);
     'inputs: for input in &inputs.items {
-        if let Some(name) = needed(&input.of) {
+        if let Some(name) = needed_type(&input.of) {
             names.push(name)?;
         }
     }
@@ -139,19 +139,19 @@ fn needs_of<'t>(alloc: Global, inputs: &'t InputTrees) -> Result<Vec<&'t str>, N
 }
 
 /// The type that a field of this type needs.
-fn needed(of: &TypeTree) -> Option<&str>
-    ensures { option_map (λ n. n.now) result ≡ rules.needed (ty_of of.now) }
+fn needed_type(of: &TypeTree) -> Option<&str>
+    ensures { option_map (λ n. n.now) result ≡ rules.needed_type (ty_of of.now) }
 {
     match of {
         TypeTree::Named(_) => None,
         TypeTree::List(_) => None,
-        TypeTree::NonNull(inner) => named(inner.tree()),
+        TypeTree::NonNull(inner) => nullable_type(inner.tree()),
     }
 }
 
 /// The name of a type that is no list and may be null.
-fn named(of: &TypeTree) -> Option<&str>
-    ensures { option_map (λ n. n.now) result ≡ rules.needed (ty.non_null (ty_of of.now)) }
+fn nullable_type(of: &TypeTree) -> Option<&str>
+    ensures { option_map (λ n. n.now) result ≡ rules.needed_type (ty.non_null (ty_of of.now)) }
 {
     match of {
         TypeTree::Named(name) => Some(name.as_str()),

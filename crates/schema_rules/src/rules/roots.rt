@@ -9,7 +9,7 @@ ghost use Rattle.std.specs.List.{filter_map};
 ghost use Rattle.gql_ast.specs.declared.document.Kind.{Kind};
 ghost use Rattle.gql_ast.specs.declared.document.Kind.TheVariants.{Query};
 ghost use Rattle.schema_rules.specs.Kinds.{KnowsKinds};
-ghost use Rattle.gql_graph.specs.Leasts.{noted};
+ghost use Rattle.gql_graph.specs.Leasts.{least_from};
 ghost use Rattle.gql_graph.specs.Seen.{Knows};
 ghost use Rattle.schema_trees.specs.Located as located;
 ghost use Rattle.schema_trees.specs.LocatedView.{name_of, root_of, def_of};
@@ -34,7 +34,7 @@ pub(crate) fn names_not_unique(
     least: &mut Least,
     definitions: &[DefAt<'_>],
 ) -> Result<(), NoMemory>
-    ensures { OnOk result (least.new.at ≡ noted least.old.at (rules.names_not_unique (map def_of definitions.now))) }
+    ensures { OnOk result (least.new.at ≡ least_from least.old.at (rules.names_not_unique (map def_of definitions.now))) }
 {
     note_repeated_types(alloc, least, definitions)?;
     note_repeated_directives(alloc, least, definitions)?;
@@ -49,7 +49,7 @@ fn note_repeated_types(
     least: &mut Least,
     definitions: &[DefAt<'_>],
 ) -> Result<(), NoMemory>
-    ensures { OnOk result (least.new.at ≡ noted least.old.at (rules.repeats types.built_in_scalars (filter_map rules.type_name_of (map def_of definitions.now)))) }
+    ensures { OnOk result (least.new.at ≡ least_from least.old.at (rules.repeats types.built_in_scalars (filter_map rules.type_name_of (map def_of definitions.now)))) }
 {
     let names = type_names(alloc, definitions)?;
     let mut seen = built_in_scalars(alloc)?;
@@ -75,7 +75,7 @@ fn note_repeated_directives(
     least: &mut Least,
     definitions: &[DefAt<'_>],
 ) -> Result<(), NoMemory>
-    ensures { OnOk result (least.new.at ≡ noted least.old.at (rules.repeated (filter_map rules.directive_name_of (map def_of definitions.now)))) }
+    ensures { OnOk result (least.new.at ≡ least_from least.old.at (rules.repeated_names (filter_map rules.directive_name_of (map def_of definitions.now)))) }
 {
     let names = directive_names(alloc, definitions)?;
     note_repeated(alloc, least, &names)
@@ -112,7 +112,7 @@ fn directive_names<'a>(
 
 /// Definitions of the schema itself after the first one.
 fn note_further_schemas(least: &mut Least, definitions: &[DefAt<'_>])
-    ensures { least.new.at ≡ noted least.old.at (rules.further_schemas false (map def_of definitions.now)) }
+    ensures { least.new.at ≡ least_from least.old.at (rules.further_schemas false (map def_of definitions.now)) }
 {
     let mut seen = false;
     'definitions: for definition in definitions {
@@ -122,8 +122,8 @@ fn note_further_schemas(least: &mut Least, definitions: &[DefAt<'_>])
 
 /// A definition of the schema itself, where one is seen already.
 fn note_further_schema(least: &mut Least, seen: &mut bool, definition: &DefAt<'_>)
-    ensures { (ds : List located.DefAt) → noted least.new.at (rules.further_schemas seen.new ds)
-        ≡ noted least.old.at (rules.further_schemas seen.old (def_of definition.now ∷ ds)) }
+    ensures { (ds : List located.DefAt) → least_from least.new.at (rules.further_schemas seen.new ds)
+        ≡ least_from least.old.at (rules.further_schemas seen.old (def_of definition.now ∷ ds)) }
 {
     match definition {
         DefAt::Schema { at, .. } => {
@@ -177,7 +177,7 @@ impl Kinds {
 /// Kinds that stand twice in definitions of the schema itself.
 #[tactic(auto, using(gql_graph::proofs::LeastSteps::noting))]
 fn note_repeated_kinds_in(least: &mut Least, definitions: &[DefAt<'_>])
-    ensures { least.new.at ≡ noted least.old.at (rules.each (λ d. rules.repeated_kinds [] (rules.roots_in d)) (map def_of definitions.now)) }
+    ensures { least.new.at ≡ least_from least.old.at (rules.each (λ d. rules.repeated_kinds [] (rules.roots_in d)) (map def_of definitions.now)) }
 {
     'definitions: for definition in definitions {
         note_repeated_kinds(least, definition);
@@ -186,14 +186,14 @@ fn note_repeated_kinds_in(least: &mut Least, definitions: &[DefAt<'_>])
 
 /// Kinds that stand twice in a definition of the schema itself.
 fn note_repeated_kinds(least: &mut Least, definition: &DefAt<'_>)
-    ensures { least.new.at ≡ noted least.old.at (rules.repeated_kinds [] (rules.roots_in (def_of definition.now))) }
+    ensures { least.new.at ≡ least_from least.old.at (rules.repeated_kinds [] (rules.roots_in (def_of definition.now))) }
 {
     note_repeated_among(least, definition.roots());
 }
 
 /// Kinds that stand twice.
 fn note_repeated_among(least: &mut Least, roots: &[RootAt<'_>])
-    ensures { least.new.at ≡ noted least.old.at (rules.repeated_kinds [] (map root_of roots.now)) }
+    ensures { least.new.at ≡ least_from least.old.at (rules.repeated_kinds [] (map root_of roots.now)) }
 {
     let mut kinds = Kinds {
         query: false,
@@ -215,7 +215,7 @@ pub(crate) fn root_types_wrong(
     least: &mut Least,
     definitions: &[DefAt<'_>],
 ) -> Result<(), NoMemory>
-    ensures { OnOk result (least.new.at ≡ noted least.old.at (rules.root_types_wrong tables.now (map def_of definitions.now))) }
+    ensures { OnOk result (least.new.at ≡ least_from least.old.at (rules.root_types_wrong tables.now (map def_of definitions.now))) }
 {
     match roots_given(definitions) {
         Some(roots) => note_roots(alloc, tables, least, roots),
@@ -260,7 +260,7 @@ fn note_roots(
     least: &mut Least,
     roots: &[RootAt<'_>],
 ) -> Result<(), NoMemory>
-    ensures { OnOk result (least.new.at ≡ noted least.old.at (rules.roots_wrong tables.now (map root_of roots.now))) }
+    ensures { OnOk result (least.new.at ≡ least_from least.old.at (rules.roots_wrong tables.now (map root_of roots.now))) }
 {
     let names = root_names(alloc, roots)?;
     least.note_if(!gives_query(roots), 0);
@@ -310,7 +310,7 @@ fn note_default_roots(
     least: &mut Least,
     definitions: &[DefAt<'_>],
 ) -> Result<(), NoMemory>
-    ensures { OnOk result (least.new.at ≡ noted least.old.at (rules.default_roots_wrong tables.now (map def_of definitions.now))) }
+    ensures { OnOk result (least.new.at ≡ least_from least.old.at (rules.default_roots_wrong tables.now (map def_of definitions.now))) }
 {
     let names = type_names(alloc, definitions)?;
     least.note_if(!is_defined(tables, "Query"), 0);
@@ -328,7 +328,7 @@ fn is_defined(tables: &Tables, name: &str) -> bool
 /// Types that have the name of a root and are none of objects.
 #[tactic(auto, using(gql_graph::proofs::LeastSteps::noting))]
 fn note_wrong_roots(tables: &Tables, least: &mut Least, names: &[NameAt<'_>])
-    ensures { least.new.at ≡ noted least.old.at (rules.each (rules.default_root_wrong tables.now) (map name_of names.now)) }
+    ensures { least.new.at ≡ least_from least.old.at (rules.each (rules.default_root_wrong tables.now) (map name_of names.now)) }
 {
     'names: for name in names {
         least.note_if(is_wrong_root(tables, name.name), name.at);

@@ -8,7 +8,7 @@
 //! list. `type Query { rows: [[Query]] }` breaks it at the `Query` of the type.
 ghost use Rattle.std.specs.Prelude.{◌≡◌, ◌++◌, map, OnOk, nat_lt, is_some, ◌&&◌};
 ghost use Rattle.gql_ast.specs.TypeView.{ty_of};
-ghost use Rattle.gql_graph.specs.Leasts.{noted};
+ghost use Rattle.gql_graph.specs.Leasts.{least_from};
 ghost use Rattle.schema_trees.specs.LocatedView.{name_of, input_of, field_of, root_of, type_of, def_of};
 ghost use Rattle.schema_rules.specs.Rules as rules;
 ghost use Rattle.schema_tables.specs.Types as types;
@@ -29,7 +29,7 @@ pub(crate) fn types_not_defined(
     least: &mut Least,
     definitions: &[DefAt<'_>],
 ) -> Result<(), NoMemory>
-    ensures { OnOk result (least.new.at ≡ noted least.old.at (rules.types_not_defined tables.now (map def_of definitions.now))) }
+    ensures { OnOk result (least.new.at ≡ least_from least.old.at (rules.types_not_defined tables.now (map def_of definitions.now))) }
 {
     'definitions: for definition in definitions {
         note_undefined_in(alloc, tables, least, definition)?;
@@ -45,7 +45,7 @@ fn note_undefined_in(
     least: &mut Least,
     definition: &DefAt<'_>,
 ) -> Result<(), NoMemory>
-    ensures { OnOk result (least.new.at ≡ noted least.old.at (rules.each (rules.not_defined tables.now) (rules.used_in (def_of definition.now)))) }
+    ensures { OnOk result (least.new.at ≡ least_from least.old.at (rules.each (rules.not_defined tables.now) (rules.used_in (def_of definition.now)))) }
 {
     note_undefined_names_in(tables, least, definition);
     note_undefined_fields_in(tables, least, definition);
@@ -55,7 +55,7 @@ fn note_undefined_in(
 /// The names in a definition that stand alone and are not defined.
 #[tactic(auto, using(gql_graph::proofs::LeastSteps::each_noting))]
 fn note_undefined_names_in(tables: &Tables, least: &mut Least, definition: &DefAt<'_>)
-    ensures { least.new.at ≡ noted least.old.at (rules.each (rules.not_defined tables.now)
+    ensures { least.new.at ≡ least_from least.old.at (rules.each (rules.not_defined tables.now)
         (rules.root_names (rules.roots_in (def_of definition.now)) ++ rules.interfaces_in (def_of definition.now) ++ rules.union_members_in (def_of definition.now))) }
 {
     note_undefined_roots(tables, least, definition.roots());
@@ -73,7 +73,7 @@ fn is_defined(tables: &Tables, name: &str) -> bool
 /// Names that are not defined.
 #[tactic(auto, using(gql_graph::proofs::LeastSteps::noting))]
 fn note_undefined(tables: &Tables, least: &mut Least, names: &[NameAt<'_>])
-    ensures { least.new.at ≡ noted least.old.at (rules.each (rules.not_defined tables.now) (map name_of names.now)) }
+    ensures { least.new.at ≡ least_from least.old.at (rules.each (rules.not_defined tables.now) (map name_of names.now)) }
 {
     'names: for name in names {
         least.note_if(!is_defined(tables, name.name), name.at);
@@ -83,7 +83,7 @@ fn note_undefined(tables: &Tables, least: &mut Least, names: &[NameAt<'_>])
 /// Root types that are not defined.
 #[tactic(auto, using(gql_graph::proofs::LeastSteps::noting))]
 fn note_undefined_roots(tables: &Tables, least: &mut Least, roots: &[RootAt<'_>])
-    ensures { least.new.at ≡ noted least.old.at (rules.each (rules.not_defined tables.now) (rules.root_names (map root_of roots.now))) }
+    ensures { least.new.at ≡ least_from least.old.at (rules.each (rules.not_defined tables.now) (rules.root_names (map root_of roots.now))) }
 {
     'roots: for root in roots {
         least.note_if(!is_defined(tables, root.name.name), root.name.at);
@@ -93,7 +93,7 @@ fn note_undefined_roots(tables: &Tables, least: &mut Least, roots: &[RootAt<'_>]
 /// Types of fields that are not defined.
 #[tactic(auto, using(gql_graph::proofs::LeastSteps::noting))]
 fn note_undefined_fields(tables: &Tables, least: &mut Least, fields: &[FieldAt<'_>])
-    ensures { least.new.at ≡ noted least.old.at (rules.each (rules.not_defined tables.now) (map (λ f. rules.named_at f.of) (map field_of fields.now))) }
+    ensures { least.new.at ≡ least_from least.old.at (rules.each (rules.not_defined tables.now) (map (λ f. rules.named_at f.of) (map field_of fields.now))) }
 {
     'fields: for field in fields {
         least.note_if(!is_defined(tables, base_of(field.of.of)), field.of.at);
@@ -102,7 +102,7 @@ fn note_undefined_fields(tables: &Tables, least: &mut Least, fields: &[FieldAt<'
 
 /// Types of the fields of a definition that are not defined.
 fn note_undefined_fields_in(tables: &Tables, least: &mut Least, definition: &DefAt<'_>)
-    ensures { least.new.at ≡ noted least.old.at (rules.each (rules.not_defined tables.now) (map (λ f. rules.named_at f.of) (rules.fields_in (def_of definition.now)))) }
+    ensures { least.new.at ≡ least_from least.old.at (rules.each (rules.not_defined tables.now) (map (λ f. rules.named_at f.of) (rules.fields_in (def_of definition.now)))) }
 {
     note_undefined_fields(tables, least, definition.fields());
 }
@@ -114,7 +114,7 @@ fn note_undefined_inputs_in(
     least: &mut Least,
     definition: &DefAt<'_>,
 ) -> Result<(), NoMemory>
-    ensures { OnOk result (least.new.at ≡ noted least.old.at (rules.each (rules.not_defined tables.now) (map (λ i. rules.named_at i.of) (rules.inputs_in (def_of definition.now))))) }
+    ensures { OnOk result (least.new.at ≡ least_from least.old.at (rules.each (rules.not_defined tables.now) (map (λ i. rules.named_at i.of) (rules.inputs_in (def_of definition.now))))) }
 {
     let inputs = definition.inputs(alloc)?;
     note_undefined_inputs(tables, least, &inputs);
@@ -124,7 +124,7 @@ fn note_undefined_inputs_in(
 /// Types of arguments or input fields that are not defined.
 #[tactic(auto, using(gql_graph::proofs::LeastSteps::noting))]
 fn note_undefined_inputs(tables: &Tables, least: &mut Least, inputs: &[InputAt<'_>])
-    ensures { least.new.at ≡ noted least.old.at (rules.each (rules.not_defined tables.now) (map (λ i. rules.named_at i.of) (map input_of inputs.now))) }
+    ensures { least.new.at ≡ least_from least.old.at (rules.each (rules.not_defined tables.now) (map (λ i. rules.named_at i.of) (map input_of inputs.now))) }
 {
     'inputs: for input in inputs {
         least.note_if(!is_defined(tables, base_of(input.of.of)), input.of.at);
@@ -140,7 +140,7 @@ pub(crate) fn kinds_wrong(
     least: &mut Least,
     definitions: &[DefAt<'_>],
 ) -> Result<(), NoMemory>
-    ensures { OnOk result (least.new.at ≡ noted least.old.at (rules.kinds_wrong tables.now (map def_of definitions.now))) }
+    ensures { OnOk result (least.new.at ≡ least_from least.old.at (rules.kinds_wrong tables.now (map def_of definitions.now))) }
 {
     'definitions: for definition in definitions {
         note_kinds_in(alloc, tables, least, definition)?;
@@ -156,7 +156,7 @@ fn note_kinds_in(
     least: &mut Least,
     definition: &DefAt<'_>,
 ) -> Result<(), NoMemory>
-    ensures { OnOk result (least.new.at ≡ noted least.old.at (rules.kinds_wrong_in tables.now (def_of definition.now))) }
+    ensures { OnOk result (least.new.at ≡ least_from least.old.at (rules.kinds_wrong_in tables.now (def_of definition.now))) }
 {
     note_not_output(tables, least, definition.fields());
     let inputs = definition.inputs(alloc)?;
@@ -208,7 +208,7 @@ fn is_input_kind(kind: TypeKind) -> bool
 /// Fields whose types are none of outputs.
 #[tactic(auto, using(gql_graph::proofs::LeastSteps::noting))]
 fn note_not_output(tables: &Tables, least: &mut Least, fields: &[FieldAt<'_>])
-    ensures { least.new.at ≡ noted least.old.at (rules.each (λ f. rules.not_of types.is_output_kind tables.now f.of) (map field_of fields.now)) }
+    ensures { least.new.at ≡ least_from least.old.at (rules.each (λ f. rules.not_of types.is_output_kind tables.now f.of) (map field_of fields.now)) }
 {
     'fields: for field in fields {
         least.note_if(!is_output(tables, field.of.of), field.of.at);
@@ -218,7 +218,7 @@ fn note_not_output(tables: &Tables, least: &mut Least, fields: &[FieldAt<'_>])
 /// Arguments or input fields whose types are none of inputs.
 #[tactic(auto, using(gql_graph::proofs::LeastSteps::noting))]
 fn note_not_input(tables: &Tables, least: &mut Least, inputs: &[InputAt<'_>])
-    ensures { least.new.at ≡ noted least.old.at (rules.each (λ i. rules.not_of types.is_input_kind tables.now i.of) (map input_of inputs.now)) }
+    ensures { least.new.at ≡ least_from least.old.at (rules.each (λ i. rules.not_of types.is_input_kind tables.now i.of) (map input_of inputs.now)) }
 {
     'inputs: for input in inputs {
         least.note_if(!is_input(tables, input.of.of), input.of.at);
@@ -228,7 +228,7 @@ fn note_not_input(tables: &Tables, least: &mut Least, inputs: &[InputAt<'_>])
 /// S12: no field has a composite type inside more than one list. This project's own.
 #[tactic(auto, using(gql_graph::proofs::LeastSteps::noting))]
 pub(crate) fn composites_in_lists(tables: &Tables, least: &mut Least, definitions: &[DefAt<'_>])
-    ensures { least.new.at ≡ noted least.old.at (rules.composites_in_lists tables.now (map def_of definitions.now)) }
+    ensures { least.new.at ≡ least_from least.old.at (rules.composites_in_lists tables.now (map def_of definitions.now)) }
 {
     'definitions: for definition in definitions {
         note_in_lists(tables, least, definition.fields());
@@ -238,7 +238,7 @@ pub(crate) fn composites_in_lists(tables: &Tables, least: &mut Least, definition
 /// Fields of a composite type inside more than one list.
 #[tactic(auto, using(gql_graph::proofs::LeastSteps::noting))]
 fn note_in_lists(tables: &Tables, least: &mut Least, fields: &[FieldAt<'_>])
-    ensures { least.new.at ≡ noted least.old.at (rules.each (rules.in_lists tables.now) (map field_of fields.now)) }
+    ensures { least.new.at ≡ least_from least.old.at (rules.each (rules.in_lists tables.now) (map field_of fields.now)) }
 {
     'fields: for field in fields {
         least.note_if(is_composite_in_lists(tables, field.of.of), field.of.at);

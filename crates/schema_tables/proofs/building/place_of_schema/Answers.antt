@@ -2,7 +2,7 @@ use Rattle.std.proofs.Common.{None, sym, ap, ◌∙◌}
 use Rattle.schema_tables.proofs.Finding.{first_at-next, first_at-all, first_here}
 use Rattle.schema_tables.proofs.building.place_of_schema.Goals as goal
 use Rattle.schema_tables.specs.Parts.{is_schema}
-use Rattle.schema_tables.specs.Places.{placed}
+use Rattle.schema_tables.specs.Places.{first_place}
 
 pub returns-then-defines_schema : goal.returns-then-defines_schema
 returns-then-defines_schema c =
@@ -12,8 +12,8 @@ returns-then-defines_schema c =
 pub definitions-preserved : goal.definitions-preserved
 definitions-preserved c =
     sym (first_at-next is_schema c.args.definitions.now c.definitions.at c.index-definitions-at.result c.definitions-test.true c.index-definitions-at.is)
-    ∙ ap (λ r. placed r (is_schema c.index-definitions-at.result) c.definitions.at) c.definitions.invariant
-    ∙ ap (λ b. placed None b c.definitions.at) (sym c.defines_schema.ensures ∙ c.if-defines_schema.false)
+    ∙ ap (λ r. first_place r (is_schema c.index-definitions-at.result) c.definitions.at) c.definitions.invariant
+    ∙ ap (λ b. first_place None b c.definitions.at) (sym c.defines_schema.ensures ∙ c.if-defines_schema.false)
 
 pub returns : goal.returns
 returns c = sym (sym (first_at-all is_schema c.args.definitions.now c.definitions.at c.definitions-test.false) ∙ c.definitions.invariant)

@@ -2,11 +2,11 @@ use Rattle.std.proofs.Common.{ap, ◌∙◌}
 use Rattle.schema_tables.proofs.Finding.{first_at-next, first_at-all}
 use Rattle.schema_tables.proofs.building.places_of_types.Goals as goal
 use Rattle.schema_tables.specs.Parts.{is_type}
-use Rattle.schema_tables.specs.Places.{placed}
+use Rattle.schema_tables.specs.Places.{first_place}
 
 pub definitions-preserved : goal.definitions-preserved
 definitions-preserved c = λ n.
-    c.in_ok-put_type.ensures n ∙ ap (λ r. placed r (is_type n c.index-definitions-at.result) c.definitions.at) (c.definitions.invariant n)
+    c.in_ok-put_type.ensures n ∙ ap (λ r. first_place r (is_type n c.index-definitions-at.result) c.definitions.at) (c.definitions.invariant n)
     ∙ first_at-next (is_type n) c.args.definitions.now c.definitions.at c.index-definitions-at.result c.definitions-test.true c.index-definitions-at.is
 
 pub returns : goal.returns

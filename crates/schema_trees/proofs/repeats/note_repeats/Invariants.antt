@@ -1,7 +1,7 @@
 -- The set has the names so far; what is noted and what is left are the whole.
 use Rattle.std.proofs.Common.{◌||◌, List, map, drop}
 use Rattle.gql_plain.specs.Order.{has_text}
-use Rattle.gql_graph.specs.Leasts.{noted}
+use Rattle.gql_graph.specs.Leasts.{least_from}
 use Rattle.gql_graph.specs.Seen.{Knows}
 use Rattle.gql_graph.specs.Texts.{Text}
 use Rattle.schema_trees.specs.DefinitionParts.{repeats}
@@ -11,4 +11,4 @@ use Rattle.schema_trees.proofs.repeats.note_repeats.Given as goal
 
 abbrev pub invariant-names : goal.invariant-names
 invariant-names l = (before : List Text) → Knows l.initial.seen.names before
-    → Noting l.seen.names l.least.at (drop l.name-index l.names) (noted l.initial.least.at (repeats before (map name_of l.names))) (λ m. has_text before m || has_text (texts l.names) m)
+    → Noting l.seen.names l.least.at (drop l.name-index l.names) (least_from l.initial.least.at (repeats before (map name_of l.names))) (λ m. has_text before m || has_text (texts l.names) m)

@@ -1,7 +1,7 @@
 use Rattle.std.proofs.Common.{◌≡◌, List, Some, drop}
 use Rattle.gql_ast.specs.TypeView.{ty_of}
 use Rattle.gql_ast.specs.declared.member.InputTree.{InputTree}
-use Rattle.gql_plain.specs.Shown.{shown, shown_members}
+use Rattle.gql_plain.specs.Shown.{plain_trees, shown_members}
 use Rattle.gql_plain.specs.Tree.{trees_of, members_of}
 use Rattle.schema_types.specs.Environments.{items_fit, members_fit}
 use Rattle.schema_tables.specs.Fits.{fields}
@@ -10,7 +10,7 @@ use Rattle.schema_values.proofs.suited.+fits.Given as goal
 
 abbrev pub invariant-items_fit-items : goal.invariant-items_fit-items
 invariant-items_fit-items l =
-    items_fit l.schema (trees_of l.items) (Some (ty_of l.of)) ≡ items_fit l.schema (trees_of (shown (drop l.item-index l.item-items))) (Some (ty_of l.of))
+    items_fit l.schema (trees_of l.items) (Some (ty_of l.of)) ≡ items_fit l.schema (trees_of (plain_trees (drop l.item-index l.item-items))) (Some (ty_of l.of))
 
 abbrev pub invariant-members_fit-members : goal.invariant-members_fit-members
 invariant-members_fit-members l = (is : List InputTree) → inputs_of l.schema l.of ≡ Some is

@@ -1,7 +1,5 @@
 -- One more interface.
-use Rattle.std.proofs.Common.{[], List, map, get_or, ap, ◌∙◌, arith}
-use Rattle.gql_ast.specs.declared.member.FieldTree.{FieldTree}
-use Rattle.gql_graph.specs.Leasts.{noted}
+use Rattle.std.proofs.Common.{[], map, get_or, arith}
 use Rattle.schema_trees.specs.LocatedView.{name_of, field_of}
 use Rattle.schema_rules.specs.Rules as rules
 use Rattle.schema_trees.specs.declared.located.NameAt.{NameAt}
@@ -16,6 +14,5 @@ pub interfaces-preserved : goal.interfaces-preserved
 unfolding none
 interfaces-preserved c =
     each_next name_of (rules.lacks_of_interface c.args.tables.now (name_of c.args.name.now) (map field_of c.args.fields.now)) c.args.interfaces.now c.interfaces.interface-index
-    (get_or c.args.interfaces.now c.interfaces.interface-index none) c.interfaces.least.at c.note_differences.new.least.at _ (omega arith) (get_or_own c.args.interfaces.now c.interfaces.interface-index none (omega arith))
-    (c.in_ok-note_differences.ensures ∙ ap (λ (ws : List FieldTree). noted c.interfaces.least.at (rules.each (λ (w : FieldTree). rules.field_differs c.args.tables.now c.args.name.now.at (rules.field_found (map field_of c.args.fields.now) w.name) w) ws)) c.fields_wanted-wanted.ensures)
-    c.interfaces.invariant
+    (get_or c.args.interfaces.now c.interfaces.interface-index none) c.interfaces.least.at c.note_interface.new.least.at _ (omega arith) (get_or_own c.args.interfaces.now c.interfaces.interface-index none (omega arith))
+    c.in_ok-note_interface.ensures c.interfaces.invariant

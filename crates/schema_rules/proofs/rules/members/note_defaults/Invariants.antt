@@ -1,9 +1,9 @@
 -- What is noted and what is left are the whole.
 use Rattle.std.proofs.Common.{◌≡◌, map, drop}
-use Rattle.gql_graph.specs.Leasts.{noted}
+use Rattle.gql_graph.specs.Leasts.{least_from}
 use Rattle.schema_trees.specs.LocatedView.{input_of}
 use Rattle.schema_rules.specs.Rules as rules
 use Rattle.schema_rules.proofs.rules.members.note_defaults.Given as goal
 
 abbrev pub invariant-inputs : goal.invariant-inputs
-invariant-inputs l = noted l.least.at (rules.each (rules.default_wrong l.tables) (map input_of (drop l.input-index l.inputs))) ≡ noted l.initial.least.at (rules.each (rules.default_wrong l.tables) (map input_of l.inputs))
+invariant-inputs l = least_from l.least.at (rules.each (rules.default_wrong l.tables) (map input_of (drop l.input-index l.inputs))) ≡ least_from l.initial.least.at (rules.each (rules.default_wrong l.tables) (map input_of l.inputs))

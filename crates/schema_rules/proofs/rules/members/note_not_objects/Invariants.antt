@@ -1,9 +1,9 @@
 -- What is noted and what is left are the whole.
 use Rattle.std.proofs.Common.{◌≡◌, map, drop}
-use Rattle.gql_graph.specs.Leasts.{noted}
+use Rattle.gql_graph.specs.Leasts.{least_from}
 use Rattle.schema_trees.specs.LocatedView.{name_of}
 use Rattle.schema_rules.specs.Rules as rules
 use Rattle.schema_rules.proofs.rules.members.note_not_objects.Given as goal
 
 abbrev pub invariant-names : goal.invariant-names
-invariant-names l = noted l.least.at (rules.each (rules.not_object l.tables) (map name_of (drop l.name-index l.names))) ≡ noted l.initial.least.at (rules.each (rules.not_object l.tables) (map name_of l.names))
+invariant-names l = least_from l.least.at (rules.each (rules.not_object l.tables) (map name_of (drop l.name-index l.names))) ≡ least_from l.initial.least.at (rules.each (rules.not_object l.tables) (map name_of l.names))

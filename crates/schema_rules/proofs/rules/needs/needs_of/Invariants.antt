@@ -6,4 +6,4 @@ use Rattle.schema_rules.specs.Rules as rules
 use Rattle.schema_rules.proofs.rules.needs.needs_of.Given as goal
 
 abbrev pub invariant-inputs : goal.invariant-inputs
-invariant-inputs l = map (λ n. n.now) l.names.items ++ filter_map (λ i. rules.needed (ty_of i.of)) (drop l.input-index l.input-items) ≡ filter_map (λ i. rules.needed (ty_of i.of)) l.inputs
+invariant-inputs l = map (λ n. n.now) l.names.items ++ filter_map (λ i. rules.needed_type (ty_of i.of)) (drop l.input-index l.input-items) ≡ filter_map (λ i. rules.needed_type (ty_of i.of)) l.inputs

@@ -1,9 +1,9 @@
 -- What is noted and what is left are the whole.
 use Rattle.std.proofs.Common.{◌≡◌, map, drop}
-use Rattle.gql_graph.specs.Leasts.{noted}
+use Rattle.gql_graph.specs.Leasts.{least_from}
 use Rattle.schema_trees.specs.LocatedView.{field_of}
 use Rattle.schema_rules.specs.Rules as rules
 use Rattle.schema_rules.proofs.rules.types.note_undefined_fields.Given as goal
 
 abbrev pub invariant-fields : goal.invariant-fields
-invariant-fields l = noted l.least.at (rules.each (rules.not_defined l.tables) (map (λ f. rules.named_at f.of) (map field_of (drop l.field-index l.fields)))) ≡ noted l.initial.least.at (rules.each (rules.not_defined l.tables) (map (λ f. rules.named_at f.of) (map field_of l.fields)))
+invariant-fields l = least_from l.least.at (rules.each (rules.not_defined l.tables) (map (λ f. rules.named_at f.of) (map field_of (drop l.field-index l.fields)))) ≡ least_from l.initial.least.at (rules.each (rules.not_defined l.tables) (map (λ f. rules.named_at f.of) (map field_of l.fields)))

@@ -1,9 +1,9 @@
 -- What is noted and what is left are the whole.
 use Rattle.std.proofs.Common.{◌≡◌, map, drop}
-use Rattle.gql_graph.specs.Leasts.{noted}
+use Rattle.gql_graph.specs.Leasts.{least_from}
 use Rattle.schema_trees.specs.LocatedView.{input_of}
 use Rattle.schema_rules.specs.Rules as rules
 use Rattle.schema_rules.proofs.rules.types.note_undefined_inputs.Given as goal
 
 abbrev pub invariant-inputs : goal.invariant-inputs
-invariant-inputs l = noted l.least.at (rules.each (rules.not_defined l.tables) (map (λ i. rules.named_at i.of) (map input_of (drop l.input-index l.inputs)))) ≡ noted l.initial.least.at (rules.each (rules.not_defined l.tables) (map (λ i. rules.named_at i.of) (map input_of l.inputs)))
+invariant-inputs l = least_from l.least.at (rules.each (rules.not_defined l.tables) (map (λ i. rules.named_at i.of) (map input_of (drop l.input-index l.inputs)))) ≡ least_from l.initial.least.at (rules.each (rules.not_defined l.tables) (map (λ i. rules.named_at i.of) (map input_of l.inputs)))

@@ -1,9 +1,9 @@
 -- What is noted and what is left are the whole.
 use Rattle.std.proofs.Common.{◌≡◌, map, drop}
-use Rattle.gql_graph.specs.Leasts.{noted}
+use Rattle.gql_graph.specs.Leasts.{least_from}
 use Rattle.schema_trees.specs.LocatedView.{def_of}
 use Rattle.schema_rules.specs.Rules as rules
 use Rattle.schema_rules.proofs.rules.types.types_not_defined.Given as goal
 
 abbrev pub invariant-definitions : goal.invariant-definitions
-invariant-definitions l = noted l.least.at (rules.types_not_defined l.tables (map def_of (drop l.definition-index l.definitions))) ≡ noted l.initial.least.at (rules.types_not_defined l.tables (map def_of l.definitions))
+invariant-definitions l = least_from l.least.at (rules.types_not_defined l.tables (map def_of (drop l.definition-index l.definitions))) ≡ least_from l.initial.least.at (rules.types_not_defined l.tables (map def_of l.definitions))

@@ -3,9 +3,9 @@ use Rattle.std.proofs.lemmas.Map.Text.{btree_map_updates_text}
 use Rattle.std.proofs.lemmas.Slice.Eq.{bytes_eq-Decides}
 use Rattle.std.specs.BTreeMap.{get_by_text}
 use Rattle.schema_tables.proofs.index.Index.put.Goals as goal
-use Rattle.schema_tables.specs.Places.{placed}
+use Rattle.schema_tables.specs.Places.{first_place}
 
-placed_over : (r : Option ℕ) (b : Bool) (at : ℕ) → (b ≡ true → r ≡ None) → cond b (Some at) r ≡ placed r b at
+placed_over : (r : Option ℕ) (b : Bool) (at : ℕ) → (b ≡ true → r ≡ None) → cond b (Some at) r ≡ first_place r b at
 placed_over None true at h = refl
 placed_over None false at h = refl
 placed_over (Some k) true at h = let none : Some k ≡ None = h refl in cc

@@ -1,5 +1,5 @@
 use Rattle.std.proofs.Common.{Some, sym, ap, ◌∙◌, arith}
-use Rattle.schema_tables.proofs.Finding.{within, found, missing}
+use Rattle.schema_tables.proofs.Finding.{within, finds, missing}
 use Rattle.schema_tables.proofs.members.FieldTable.find.Goals as goal
 use Rattle.schema_tables.specs.Members.{is_field, field_among}
 
@@ -11,7 +11,7 @@ index-requires c =
 pub returns-in-Some : goal.returns-in-Some
 returns-in-Some c =
     ap Some c.index.ensures
-    ∙ sym (found (is_field c.args.name.now) c.self.inside.items.items c.in-Some.at c.index.result.now (sym (c.self.invariant c.args.name.now) ∙ sym c.find.ensures ∙ c.in-Some.is))
+    ∙ sym (finds (is_field c.args.name.now) c.self.inside.items.items c.in-Some.at c.index.result.now (sym (c.self.invariant c.args.name.now) ∙ sym c.find.ensures ∙ c.in-Some.is))
     ∙ ap (λ fs. field_among fs c.args.name.now) c.self.view_is
 
 pub returns-in-None : goal.returns-in-None

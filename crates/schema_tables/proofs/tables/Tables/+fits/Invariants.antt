@@ -22,4 +22,4 @@ invariant-items_fit-items l =
 
 abbrev pub invariant-members_fit-fields : goal.invariant-members_fit-fields
 invariant-members_fit-fields l = (is : List InputTree) → l.inputs ≡ map input_def is
-    → members_fit l.self (members_of l.fields) (fields is) ≡ members_fit l.self (members_of (map argument_of (drop l.at l.field-items))) (fields is)
+    → members_fit l.self (members_of l.fields) (fields is) ≡ members_fit l.self (members_of (map argument_of (drop l.field-index l.field-items))) (fields is)

@@ -1,5 +1,5 @@
 use Rattle.std.proofs.Common.{Some, sym, ap, ◌∙◌, arith}
-use Rattle.schema_tables.proofs.Finding.{within, found, missing}
+use Rattle.schema_tables.proofs.Finding.{within, finds, missing}
 use Rattle.schema_tables.proofs.Named.{type_named-first}
 use Rattle.schema_tables.proofs.tables.Tables.definition.Goals as goal
 use Rattle.schema_tables.specs.Parts.{is_type}
@@ -15,7 +15,7 @@ index-requires c =
 pub returns-in-Some : goal.returns-in-Some
 returns-in-Some c =
     ap Some c.index.ensures
-    ∙ sym (found (is_type c.args.name.now) c.definitions.inside.items.items c.in-Some.at c.index.result.now
+    ∙ sym (finds (is_type c.args.name.now) c.definitions.inside.items.items c.in-Some.at c.index.result.now
     (ap (first_at (is_type c.args.name.now)) c.definitions.view_is ∙ sym (c.self.invariant.types c.args.name.now) ∙ sym c.find.ensures ∙ c.in-Some.is))
     ∙ sym (type_named-first c.definitions.inside.items.items c.args.name.now)
     ∙ ap (λ ds. type_named ds c.args.name.now) (c.definitions.view_is ∙ c.self.view_is)

@@ -1,6 +1,6 @@
 use Rattle.std.proofs.Common.{◌<◌, length, get_or, List, option_map, subst, sym, ap, ◌∙◌, arith}
 use Rattle.std.specs.Option.{option_and_then}
-use Rattle.schema_tables.proofs.Finding.{kept, kept_within, missing}
+use Rattle.schema_tables.proofs.Finding.{keeps, kept_within, missing}
 use Rattle.schema_tables.proofs.Named.{directive_found, directive_in, not_directive}
 use Rattle.schema_tables.proofs.tables.Tables.directive_given.Goals as goal
 use Rattle.schema_tables.specs.declared.part.Part.{Part}
@@ -16,7 +16,7 @@ index-requires c =
 
 pub returns-in-Directive : goal.returns-in-Directive
 returns-in-Directive c =
-    let held = kept part_of (is_directive c.args.name.now) c.self.inside.definitions c.in-Some.at c.index.result.now
+    let held = keeps part_of (is_directive c.args.name.now) c.self.inside.definitions c.in-Some.at c.index.result.now
     (sym (c.self.invariant.directives c.args.name.now) ∙ sym c.find.ensures ∙ c.in-Some.is)
     (c.index.ensures ∙ ap (λ ps. get_or ps c.in-Some.at c.index.result.now) (sym c.self.invariant.parts)) in
     sym (ap directive_in c.in-Directive.is) ∙ ap (option_and_then directive_in) held ∙ sym (directive_found c.self.inside.definitions c.args.name.now)
@@ -24,7 +24,7 @@ returns-in-Directive c =
 
 pub returns-in_default : goal.returns-in_default
 returns-in_default c =
-    let held = kept part_of (is_directive c.args.name.now) c.self.inside.definitions c.in-Some.at c.index.result.now
+    let held = keeps part_of (is_directive c.args.name.now) c.self.inside.definitions c.in-Some.at c.index.result.now
     (sym (c.self.invariant.directives c.args.name.now) ∙ sym c.find.ensures ∙ c.in-Some.is)
     (c.index.ensures ∙ ap (λ ps. get_or ps c.in-Some.at c.index.result.now) (sym c.self.invariant.parts)) in
     sym (not_directive c.index.result.now c.in_default.not-Directive) ∙ ap (option_and_then directive_in) held

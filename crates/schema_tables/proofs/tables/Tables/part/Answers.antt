@@ -1,5 +1,5 @@
 use Rattle.std.proofs.Common.{◌<◌, length, get_or, List, option_map, subst, sym, ap, ◌∙◌, arith}
-use Rattle.schema_tables.proofs.Finding.{kept, kept_within, missing}
+use Rattle.schema_tables.proofs.Finding.{keeps, kept_within, missing}
 use Rattle.schema_tables.proofs.Named.{type_named-first}
 use Rattle.schema_tables.proofs.tables.Tables.part.Goals as goal
 use Rattle.schema_tables.specs.declared.part.Part.{Part}
@@ -14,7 +14,7 @@ index-requires c =
 
 pub returns-in-Some : goal.returns-in-Some
 returns-in-Some c =
-    kept part_of (is_type c.args.name.now) c.self.inside.definitions c.in-Some.at c.index.result.now
+    keeps part_of (is_type c.args.name.now) c.self.inside.definitions c.in-Some.at c.index.result.now
     (sym (c.self.invariant.types c.args.name.now) ∙ sym c.find.ensures ∙ c.in-Some.is)
     (c.index.ensures ∙ ap (λ ps. get_or ps c.in-Some.at c.index.result.now) (sym c.self.invariant.parts))
     ∙ ap (option_map part_of) (sym (type_named-first c.self.inside.definitions c.args.name.now))

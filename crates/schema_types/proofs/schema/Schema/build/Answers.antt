@@ -1,6 +1,6 @@
 -- The tables are of the definitions of the tree.
 use Rattle.std.proofs.Common.{◌≡◌, sym, ap, ◌∙◌}
-use Rattle.schema_rules.specs.Checked.{broken}
+use Rattle.schema_rules.specs.Checked.{first_fault}
 use Rattle.schema_tables.specs.Types.{Defs}
 use Rattle.schema_types.proofs.schema.Schema.build.Goals as goal
 
@@ -10,6 +10,6 @@ returns-in-Some-clause-fault c =
     record {
       rule = c.in-Some.rule;
       node = c.in-Some.at;
-      first = sym (ap (λ (defs : Defs). broken defs) same) ∙ sym c.in_ok-rule.ensures ∙ c.in-Some.is;
+      first = sym (ap (λ (defs : Defs). first_fault defs) same) ∙ sym c.in_ok-rule.ensures ∙ c.in-Some.is;
       fault = c.fault_at.ensures;
     }
