@@ -1,0 +1,71 @@
+-- What the nodes of a document are that rules number: names, the first tokens of values, and those of operations and of inline
+-- fragments.
+use Rattle.std.specs.Prelude.{◌≡◌, ℕ, ◌+◌, List}
+use Rattle.std.specs.List.{AllByRecursion}
+use Rattle.gql_ast.specs.Value.{Val, Vals, Members, variable, int, text, truth, null, enum, list, object, no_vals, val, no_members, member}
+use Rattle.gql_ast.specs.declared.document.Kind.{Kind}
+use Rattle.gql_ast.specs.declared.place.FilePlace.{FilePlace}
+use Rattle.gql_graph.specs.Texts.{Text}
+use Rattle.gql_lex.specs.Sources.{Piece}
+use Rattle.gql_lex.specs.Toks as tok
+use Rattle.gql_lex.specs.Toks.{Tok, tok_of_piece}
+use Rattle.gql_syntax.specs.Words.{kind_word, truth_word, null_word}
+use Rattle.schema_trees.specs.Located.{value_nodes}
+use Rattle.schema_types.specs.SiteNumbers.{HoldsDefinition}
+use Rattle.schema_types.specs.Sites.{DefinitionAt}
+use Rattle.text_places.specs.Naming.{BeginsAt, NamedAt}
+
+abbrev pub first_token : Val → Tok
+first_token (variable n) = tok.dollar
+first_token (int n) = tok.int n
+first_token (text t) = tok.text t
+first_token (truth b) = tok.name (truth_word b)
+first_token null = tok.name null_word
+first_token (enum n) = tok.name n
+first_token (list vs) = tok.open_bracket
+first_token (object ms) = tok.open_brace
+
+-- `N` holds of each name inside a value that begins at this number
+abbrev mutual
+  pub HoldsInside : (N : Text → ℕ → Type 0) → Val → ℕ → Type 0
+  HoldsInside N (variable n) at = N n (at + 1)
+  HoldsInside N (int n) at = Unit {0}
+  HoldsInside N (text t) at = Unit {0}
+  HoldsInside N (truth b) at = Unit {0}
+  HoldsInside N null at = Unit {0}
+  HoldsInside N (enum n) at = N n (at + 1)
+  HoldsInside N (list vs) at = HoldsItems N vs (at + 1)
+  HoldsInside N (object ms) at = HoldsMembers N ms (at + 1)
+
+  pub HoldsItems : (N : Text → ℕ → Type 0) → Vals → ℕ → Type 0
+  HoldsItems N no_vals at = Unit {0}
+  HoldsItems N (val x vs) at = HoldsInside N x at × HoldsItems N vs (at + value_nodes x)
+
+  pub HoldsMembers : (N : Text → ℕ → Type 0) → Members → ℕ → Type 0
+  HoldsMembers N no_members at = Unit {0}
+  HoldsMembers N (member n x ms) at = N n (at + 1) × HoldsInside N x (at + 2) × HoldsMembers N ms (at + (2 + value_nodes x))
+
+-- a token that an operation or an inline fragment begins with
+abbrev pub Opens : Tok → Type 0
+Opens tok.spread = Unit {0}
+Opens tok.open_brace = Unit {0}
+Opens (tok.name n) = (k : Kind) × (n ≡ kind_word k)
+Opens t = ⊥
+
+-- the node of a number begins at such a token
+pub record OpensAt (file : ℕ) (bytes : List ℕ) (nodes : List ℕ) (places : List FilePlace) (at : ℕ) : Type 0 where
+  pub piece : Piece
+  pub there : BeginsAt file bytes nodes places at piece
+  pub head : Opens (tok_of_piece piece)
+
+-- the node of a number begins at the first token of this value, and so do the names in the value
+pub record ValueBeginsAt (file : ℕ) (bytes : List ℕ) (nodes : List ℕ) (places : List FilePlace) (x : Val) (at : ℕ) : Type 0 where
+  pub piece : Piece
+  pub there : BeginsAt file bytes nodes places at piece
+  pub head : tok_of_piece piece ≡ first_token x
+  pub inside : HoldsInside (NamedAt file bytes nodes places) x at
+
+-- each name and each value of these definitions, at its number
+abbrev pub AreWritten : (file : ℕ) → (bytes : List ℕ) → (nodes : List ℕ) → (places : List FilePlace) → List DefinitionAt → Type 0
+AreWritten file bytes nodes places ds =
+    AllByRecursion (HoldsDefinition (OpensAt file bytes nodes places) (NamedAt file bytes nodes places) (ValueBeginsAt file bytes nodes places)) ds
