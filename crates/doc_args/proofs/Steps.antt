@@ -1,38 +1,33 @@
 -- Steps of loops over lists, and parts of the rules.
-use Rattle.std.proofs.Common.{◌≡◌, ℕ, suc, ◌+◌, ◌<◌, ◌≤◌, Bool, true, false, not, cond, ◌&&◌, ◌||◌, List, [], ◌∷◌, ◌++◌, map, drop, length, get_or, add-one, Option, Some, option_map, unwrap_or, bytes_eq, refl, ap, sym, ◌∙◌, append_assoc}
+use Rattle.std.proofs.Common.{◌≡◌, ℕ, suc, ◌+◌, ◌<◌, Bool, true, false, not, cond, ◌&&◌, ◌||◌, List, [], ◌∷◌, ◌++◌, map, drop, length, get_or, add-one, Option, Some, option_map, bytes_eq, refl, ap, sym, ◌∙◌}
 use Rattle.std.proofs.Math.Seq.{drop-cons}
-use Rattle.std.proofs.lemmas.List.{append-nil, drop_all, length-map, map-append}
+use Rattle.std.proofs.lemmas.List.{append-nil, length-map, map-append}
 use Rattle.std.specs.Prelude.{codes}
 use Rattle.std.specs.List.{list_any}
 use Rattle.gql_plain.specs.Order.{has_text}
-use Rattle.schema_types.specs.ArgumentRules.{Use, free, unknown, not_taken, argument_unfit, argument_names, input_def_named, is_allowed, is_given, is_null, leaves_out, local_names, locals_in, names_once, stands_once, use_wrong, uses_of, uses_wrong_in, variable_named}
+use Rattle.schema_types.specs.ArgumentRules.{Use, free, unknown, not_taken, argument_unfit, argument_names, input_def_named, is_allowed, is_given, is_null, local_names, locals_in, names_once, stands_once, use_wrong, uses_of, uses_wrong_in, variable_named}
 use Rattle.schema_tables.specs.BuiltIn as known
-use Rattle.schema_tables.specs.Given.{must_be_given}
-use Rattle.gql_graph.specs.Graphs.{first_next, next_in}
-use Rattle.gql_graph.specs.Leasts.{noted}
+use Rattle.gql_graph.specs.Leasts.{least_from}
 use Rattle.schema_trees.specs.Located.{Located}
-use Rattle.schema_types.specs.NameRules.{spread_by, spreads_of_fragment, spreads_in, names_of_all, fragment_named, fragments, operations}
-use Rattle.gql_graph.specs.Reached.{reached}
+use Rattle.schema_types.specs.NameRules.{spread_by, spreads_in, names_of_all, fragments}
+use Rattle.gql_graph.specs.Reached.{any_leads}
 use Rattle.schema_rules.specs.Rules.{each, wrong, names_of}
-use Rattle.schema_types.specs.Sites.{ArgumentAt, DirectiveAt, FragmentAt, OperationAt, VariableAt, Site, field, spread, inline, DefinitionAt, operation, fragment}
+use Rattle.schema_types.specs.Sites.{ArgumentAt, DirectiveAt, FragmentAt, OperationAt, VariableAt, DefinitionAt, operation, fragment}
 use Rattle.schema_tables.specs.Types.{Text, Defs}
 use Rattle.schema_tables.specs.declared.definitions.InputDef.{InputDef}
 use Rattle.gql_graph.proofs.LeastSteps.{noted-append, each-append}
-use Rattle.doc_sites.specs.SitesView.{definition_of}
-use Rattle.doc_sites.specs.declared.site.DefinitionAt as code
 use Rattle.doc_args.specs.Directives.{once_name}
 use Rattle.doc_args.specs.UsesByName.{named_in, named_uses, uses_named}
 use Rattle.doc_args.specs.GivenNames.{given_names}
 use Rattle.doc_args.specs.Locals.{located_locals}
-use Rattle.doc_args.specs.Parts.{fragment_name, free_use, free_uses, on_operation, part_for, part_wrong}
-use Rattle.doc_args.specs.Spreads.{spread_name, spreading}
+use Rattle.doc_args.specs.Parts.{fragment_name, free_use, free_uses, part_for, part_wrong}
 
 -- what is noted for one that is wrong in the same case
-pub noted_if : (o p : Option ℕ) (a b : Bool) (at : ℕ) → p ≡ noted o (wrong a at) → a ≡ b → p ≡ noted o (wrong b at)
-noted_if o p a b at e h = e ∙ ap (λ (x : Bool). noted o (wrong x at)) h
+pub noted_if : (o p : Option ℕ) (a b : Bool) (at : ℕ) → p ≡ least_from o (wrong a at) → a ≡ b → p ≡ least_from o (wrong b at)
+noted_if o p a b at e h = e ∙ ap (λ (x : Bool). least_from o (wrong x at)) h
 
-pub noted_if_not : (o p : Option ℕ) (a b : Bool) (at : ℕ) → p ≡ noted o (wrong (not a) at) → a ≡ b → p ≡ noted o (wrong (not b) at)
-noted_if_not o p a b at e h = e ∙ ap (λ (x : Bool). noted o (wrong (not x) at)) h
+pub noted_if_not : (o p : Option ℕ) (a b : Bool) (at : ℕ) → p ≡ least_from o (wrong (not a) at) → a ≡ b → p ≡ least_from o (wrong (not b) at)
+noted_if_not o p a b at e h = e ∙ ap (λ (x : Bool). least_from o (wrong (not x) at)) h
 
 pub each_none : {A B : Type 0} (f : A → List B) → ((a : A) → f a ≡ []) → (xs : List A) → each f xs ≡ []
 each_none f h [] = refl
@@ -40,43 +35,21 @@ each_none f h (x ∷ xs) = ap (λ (ys : List _). ys ++ each f xs) (h x) ∙ each
 
 -- one more element of a list that is seen in two steps
 pub each_next_mapped : {X A B : Type 0} (view : X → A) (form : A → B) (f : B → List ℕ) (xs : List X) (i : ℕ) (x : X) (o p whole : Option ℕ) → i < length xs → x ≡ get_or xs i x
-    → p ≡ noted o (f (form (view x))) → noted o (each f (map form (map view (drop i xs)))) ≡ whole → noted p (each f (map form (map view (drop (i + 1) xs)))) ≡ whole
+    → p ≡ least_from o (f (form (view x))) → least_from o (each f (map form (map view (drop i xs)))) ≡ whole → least_from p (each f (map form (map view (drop (i + 1) xs)))) ≡ whole
 each_next_mapped {X = X} view form f xs i x o p whole h is e w =
     let rest : List _ = map form (map view (drop (i + 1) xs)) in
     let same : drop i xs ≡ get_or xs i x ∷ drop (i + 1) xs = rw add-one (drop-cons xs i x h) in
-    ap (λ (q : Option ℕ). noted q (each f rest)) e ∙ sym (noted-append o (f (form (view x))) (each f rest))
-    ∙ ap (λ (y : X). noted o (f (form (view y)) ++ each f rest)) is ∙ sym (ap (λ (ys : List X). noted o (each f (map form (map view ys)))) same) ∙ w
+    ap (λ (q : Option ℕ). least_from q (each f rest)) e ∙ sym (noted-append o (f (form (view x))) (each f rest))
+    ∙ ap (λ (y : X). least_from o (f (form (view y)) ++ each f rest)) is ∙ sym (ap (λ (ys : List X). least_from o (each f (map form (map view ys)))) same) ∙ w
 
--- one more element of a list whose parts are put one behind the other, and all of them
-pub collect_next : {X A B : Type 0} (view : X → A) (f : A → List B) (xs : List X) (i : ℕ) (x : X) (old new whole : List B) → i < length xs → x ≡ get_or xs i x
-    → new ≡ old ++ f (view x) → old ++ each f (map view (drop i xs)) ≡ whole → new ++ each f (map view (drop (i + 1) xs)) ≡ whole
-collect_next {X = X} view f xs i x old new whole h is e w =
-    let rest : List _ = each f (map view (drop (i + 1) xs)) in
-    let same : drop i xs ≡ get_or xs i x ∷ drop (i + 1) xs = rw add-one (drop-cons xs i x h) in
-    ap (λ (ys : List _). ys ++ rest) e ∙ append_assoc old (f (view x)) rest
-    ∙ ap (λ (y : X). old ++ (f (view y) ++ rest)) is ∙ sym (ap (λ (ys : List X). old ++ each f (map view ys)) same) ∙ w
-
-pub collect_end : {X A B : Type 0} (view : X → A) (f : A → List B) (xs : List X) (i : ℕ) (old whole : List B) → length xs ≤ i
-    → old ++ each f (map view (drop i xs)) ≡ whole → old ≡ whole
-collect_end {X = X} view f xs i old whole h w = sym (append-nil old) ∙ sym (ap (λ (ys : List X). old ++ each f (map view ys)) (drop_all i xs h)) ∙ w
-
--- all elements are noted
-pub each_end : {X A : Type 0} (view : X → A) (f : A → List ℕ) (xs : List X) (i : ℕ) (o whole : Option ℕ) → length xs ≤ i
-    → noted o (each f (map view (drop i xs))) ≡ whole → o ≡ whole
-each_end {X = X} view f xs i o whole h w = sym (ap (λ (ys : List X). noted o (each f (map view ys))) (drop_all i xs h)) ∙ w
-
-pub each-map : {X A B : Type 0} (view : X → A) (f : A → List B) (xs : List X) → each (λ x. f (view x)) xs ≡ each f (map view xs)
-each-map view f [] = refl
-each-map view f (x ∷ xs) = ap (λ (ys : List _). f (view x) ++ ys) (each-map view f xs)
-
-pub noted_same : (o p : Option ℕ) (a b : List ℕ) → p ≡ noted o a → a ≡ b → p ≡ noted o b
-noted_same o p a b e h = e ∙ ap (noted o) h
+pub noted_same : (o p : Option ℕ) (a b : List ℕ) → p ≡ least_from o a → a ≡ b → p ≡ least_from o b
+noted_same o p a b e h = e ∙ ap (least_from o) h
 
 -- four parts that are noted in turn
-pub noted_four : (o p q r s : Option ℕ) (a b c d : List ℕ) → p ≡ noted o a → q ≡ noted p b → r ≡ noted q c → s ≡ noted r d → s ≡ noted o (a ++ b ++ c ++ d)
+pub noted_four : (o p q r s : Option ℕ) (a b c d : List ℕ) → p ≡ least_from o a → q ≡ least_from p b → r ≡ least_from q c → s ≡ least_from r d → s ≡ least_from o (a ++ b ++ c ++ d)
 noted_four o p q r s a b c d e f g h =
-    h ∙ ap (λ (x : Option ℕ). noted x d) (g ∙ ap (λ (x : Option ℕ). noted x c) (f ∙ ap (λ (x : Option ℕ). noted x b) e))
-    ∙ sym (noted-append o (a ++ b ++ c) d ∙ ap (λ (x : Option ℕ). noted x d) (noted-append o (a ++ b) c ∙ ap (λ (x : Option ℕ). noted x c) (noted-append o a b)))
+    h ∙ ap (λ (x : Option ℕ). least_from x d) (g ∙ ap (λ (x : Option ℕ). least_from x c) (f ∙ ap (λ (x : Option ℕ). least_from x b) e))
+    ∙ sym (noted-append o (a ++ b ++ c) d ∙ ap (λ (x : Option ℕ). least_from x d) (noted-append o (a ++ b) c ∙ ap (λ (x : Option ℕ). least_from x c) (noted-append o a b)))
 
 -- nothing is wrong with the arguments of what takes any, and with names of what is not known
 pub free_taken : (ns : List Located) → each (not_taken free) ns ≡ []
@@ -112,13 +85,9 @@ given_if true m gs n = drop_and (bytes_eq m.name n) (has_text (names_of gs) n)
 given_if false m gs n = keep_and (bytes_eq m.name n) (has_text (names_of gs) n)
 
 -- a name that is given, and not as `null`
-given_is : (xs : List ArgumentAt) (n : Text) → has_text (names_of (given_names xs)) n ≡ is_given xs n
+pub given_is : (xs : List ArgumentAt) (n : Text) → has_text (names_of (given_names xs)) n ≡ is_given xs n
 given_is [] n = refl
 given_is (a ∷ xs) n = given_if (is_null a.value.of) a.name (given_names xs) n ∙ ap (λ (r : Bool). (bytes_eq a.name.name n && not (is_null a.value.of)) || r) (given_is xs n)
-
--- an argument that has to be given and is none of these
-pub left_out : (xs : List ArgumentAt) (names : List Located) (i : InputDef) → names ≡ given_names xs → (must_be_given i && not (has_text (names_of names) i.name)) ≡ leaves_out xs i
-left_out xs names i e = ap (λ (ns : List Located). must_be_given i && not (has_text (names_of ns) i.name)) e ∙ ap (λ (b : Bool). must_be_given i && not b) (given_is xs i.name)
 
 once_if : (b : Bool) (n : Located) (ms ns : List Located) → ms ≡ ns → cond b (n ∷ []) [] ++ ms ≡ cond b (n ∷ ns) ns
 once_if true n ms ns e = ap (λ (l : List Located). n ∷ l) e
@@ -131,40 +100,11 @@ once_names defs (d ∷ ds) = once_if (stands_once (known.directive defs d.name.n
 
 pub ruleset directing = (noted-append, once_names)
 
--- the names of the fragments that are spread
-pub spread_names : (ss : List Site) → each spread_name ss ≡ names_of_all (spreads_in ss)
-spread_names [] = refl
-spread_names (field around a n xs ds has_set ∷ ss) = spread_names ss
-spread_names (spread around n ds ∷ ss) = ap (λ (ns : List Text). n.name ∷ ns) (spread_names ss)
-spread_names (inline around first on ds ∷ ss) = spread_names ss
-
-pub ruleset spread_naming = (spread_names)
-
-spread_or : (b : Bool) (f : FragmentAt) (rest : Option (List Text)) (more : Option FragmentAt) → unwrap_or rest [] ≡ spreads_of_fragment more
-    → unwrap_or (cond b (Some (names_of_all (spreads_in f.sites))) rest) [] ≡ spreads_of_fragment (cond b (Some f) more)
-spread_or true f rest more e = refl
-spread_or false f rest more e = e
-
--- of several fragments of one name the first tells what it spreads
-next_spreading : (ds : List DefinitionAt) (n : Text) → next_in (each spreading ds) n ≡ spread_by (fragments ds) n
-next_spreading [] n = refl
-next_spreading (operation o ∷ ds) n = next_spreading ds n
-next_spreading (fragment f ∷ ds) n = spread_or (bytes_eq f.name.name n) f (first_next (each spreading ds) n) (fragment_named (fragments ds) n) (next_spreading ds n)
-
-pub next_seen : (ds : List code.DefinitionAt) (n : Text) → next_in (each (λ d. spreading (definition_of d)) ds) n ≡ spread_by (fragments (map definition_of ds)) n
-next_seen ds n = ap (λ (ps : List (Text × List Text)). next_in ps n) (each-map definition_of spreading ds) ∙ next_spreading (map definition_of ds) n
-
 -- the uses in all fragments of a name
 pub gathered_all : (defs : Defs) (ds : List DefinitionAt) (n : Text) → each (λ d. named_in defs d n) ds ≡ uses_named (map (part_for defs) (fragments ds)) n
 gathered_all defs [] n = refl
 gathered_all defs (operation o ∷ ds) n = gathered_all defs ds n
 gathered_all defs (fragment f ∷ ds) n = ap (λ (us : List Use). named_uses (part_for defs f) n ++ us) (gathered_all defs ds n)
-
--- what is wrong in the operations, definition by definition
-pub over_operations : (f : OperationAt → List ℕ) (ds : List DefinitionAt) → each f (operations ds) ≡ each (on_operation f) ds
-over_operations f [] = refl
-over_operations f (operation o ∷ ds) = ap (λ (ns : List ℕ). f o ++ ns) (over_operations f ds)
-over_operations f (fragment g ∷ ds) = over_operations f ds
 
 as_many : (ds : List DefinitionAt) → length (each fragment_name ds) ≡ length (fragments ds)
 as_many [] = refl
@@ -201,16 +141,16 @@ free_wrong vs locals (u ∷ us) =
     ∙ sym (each-append (use_wrong vs []) (free_use locals u) (free_uses locals us))
 
 part_is : (defs : Defs) (fs : List FragmentAt) (o : OperationAt) (is_one : Text → Bool)
-    → ((to : Text) → is_one to ≡ reached (spread_by fs) (length fs) (names_of_all (spreads_in o.sites)) to)
+    → ((to : Text) → is_one to ≡ any_leads (spread_by fs) (length fs) (names_of_all (spreads_in o.sites)) to)
     → (f : FragmentAt) → part_wrong o.variables is_one (part_for defs f) ≡ uses_wrong_in defs fs o f
 part_is defs fs o is_one h f =
     ap (λ (b : Bool). cond b (each (use_wrong o.variables []) (free_uses (local_names f) (uses_of defs f.directives f.sites))) []) (h f.name.name)
-    ∙ ap (λ (ps : List ℕ). cond (reached (spread_by fs) (length fs) (names_of_all (spreads_in o.sites)) f.name.name) ps [])
+    ∙ ap (λ (ps : List ℕ). cond (any_leads (spread_by fs) (length fs) (names_of_all (spreads_in o.sites)) f.name.name) ps [])
     (sym (free_wrong o.variables (local_names f) (uses_of defs f.directives f.sites)))
 
 -- what is wrong in the fragments that an operation reaches
 pub parts_wrong : (defs : Defs) (fs : List FragmentAt) (o : OperationAt) (is_one : Text → Bool)
-    → ((to : Text) → is_one to ≡ reached (spread_by fs) (length fs) (names_of_all (spreads_in o.sites)) to)
+    → ((to : Text) → is_one to ≡ any_leads (spread_by fs) (length fs) (names_of_all (spreads_in o.sites)) to)
     → (gs : List FragmentAt) → each (part_wrong o.variables is_one) (map (part_for defs) gs) ≡ each (uses_wrong_in defs fs o) gs
 parts_wrong defs fs o is_one h [] = refl
 parts_wrong defs fs o is_one h (g ∷ gs) = λ k. part_is defs fs o is_one h g k ++ parts_wrong defs fs o is_one h gs k

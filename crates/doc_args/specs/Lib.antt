@@ -5,7 +5,6 @@ pub mod Literals
 pub mod Directives
 pub mod UseView
 pub mod Locals
-pub mod Spreads
 pub mod Parts
 pub mod UsesByName
 pub mod Needs

@@ -1,19 +1,14 @@
--- Arguments and variables that are found by their names.
-use Rattle.std.specs.Prelude.{◌≡◌, List, option_copied, option_map}
+-- Variables that are found by their names.
+use Rattle.std.specs.Prelude.{◌≡◌, List, option_map}
 use Rattle.std.specs.BTreeMap.{get_by}
 use Rattle.std.specs.Cmp.Lexicographic.{slice_cmp}
 use Rattle.std.specs.Ordering.{nat_cmp}
-use Rattle.schema_types.specs.ArgumentRules.{input_def_named, variable_named}
+use Rattle.schema_types.specs.ArgumentRules.{variable_named}
 use Rattle.schema_types.specs.Sites as spec
 use Rattle.gql_graph.specs.Texts.{Text}
-use Rattle.schema_tables.specs.declared.definitions.InputDef.{InputDef}
 use Rattle.doc_sites.specs.SitesView.{variable_of}
-use Rattle.doc_args.specs.declared.index.Inputs.{Inputs}
 use Rattle.doc_args.specs.declared.index.Variables.{Variables}
 
 -- the table finds these
-abbrev pub NamesInputs : Inputs → List InputDef → Type 0
-NamesInputs table is = (n : Text) → option_copied (get_by (λ k. slice_cmp nat_cmp n k.now) table.by_name) ≡ input_def_named is n
-
 abbrev pub NamesVariables : Variables → List spec.VariableAt → Type 0
 NamesVariables table vs = (n : Text) → option_map (λ v. variable_of v.now) (get_by (λ k. slice_cmp nat_cmp n k.now) table.by_name) ≡ variable_named vs n

@@ -33,11 +33,6 @@ variable_names vs = map (λ (v : VariableAt). v.name) vs
 abbrev pub uses_in_operation : Defs → OperationAt → List Use
 uses_in_operation defs o = uses_of defs o.directives o.sites
 
--- what is wrong in a definition that is an operation
-abbrev pub on_operation : (OperationAt → List ℕ) → DefinitionAt → List ℕ
-on_operation f (operation o) = f o
-on_operation f (fragment g) = []
-
 abbrev pub fragment_name : DefinitionAt → List Text
 fragment_name (operation o) = []
 fragment_name (fragment f) = f.name.name ∷ []

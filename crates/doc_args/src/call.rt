@@ -1,6 +1,6 @@
 //! Arguments as they are given to a field or a directive, and what that takes (GraphQL, October
 //! 2021, sections 5.4 and 3.13).
-ghost use Rattle.std.specs.Prelude.{◌≡◌, map, Some, option_copied};
+ghost use Rattle.std.specs.Prelude.{◌≡◌, map, Some, is_some, option_copied};
 ghost use Rattle.schema_types.specs.ArgumentRules as rules;
 ghost use Rattle.schema_trees.specs.LocatedView.{name_of};
 ghost use Rattle.doc_sites.specs.SitesView.{argument_of, directive_of};
@@ -8,7 +8,7 @@ ghost use Rattle.doc_args.specs.CallView.{call_of, field_call, takes_of};
 
 use doc_sites::{ArgumentAt, DirectiveAt};
 use schema_trees::located::NameAt;
-use schema_types::{InputDefs, Schema};
+use schema_types::{InputDef, InputDefs, Schema};
 
 /// The arguments that a field or a directive takes.
 #[derive(Clone, Copy)]
@@ -29,6 +29,20 @@ pub(crate) struct Call<'d, 'a> {
     pub(crate) name: NameAt<'a>,
     pub(crate) takes: Takes<'a>,
     pub(crate) arguments: &'d [ArgumentAt<'a>],
+}
+
+/// The argument of a name among those that are taken; takes no memory.
+pub(crate) fn find_input<'a>(inputs: &'a InputDefs, name: &str) -> Option<&'a InputDef>
+    ensures { option_copied result ≡ rules.input_def_named inputs.now name.now }
+{
+    inputs.find(name)
+}
+
+/// Whether an argument of a name is among those that are taken.
+pub(crate) fn has_input(inputs: &InputDefs, name: &str) -> bool
+    ensures { result ≡ is_some (rules.input_def_named inputs.now name.now) }
+{
+    find_input(inputs, name).is_some()
 }
 
 /// What a field takes, where the type around it is known and has it.

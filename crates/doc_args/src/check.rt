@@ -1,8 +1,8 @@
 //! The first rule on arguments, directives and variables that documents do not meet.
 ghost use Rattle.std.specs.Prelude.{◌≡◌, map, IfOk, IfErr, OnOk};
-ghost use Rattle.schema_types.specs.DocumentRules.{argument_rules, trees_of, AreFaulty, Meet};
-ghost use Rattle.gql_graph.specs.Rules.{first_broken};
-ghost use Rattle.schema_types.specs.Sites.{all_definitions};
+ghost use Rattle.schema_types.specs.DocumentRules.{argument_rules, AreFaulty, Meet};
+ghost use Rattle.schema_rules.specs.Rules as rules;
+ghost use Rattle.doc_sites.specs.Definitions.{AreIn};
 ghost use Rattle.doc_sites.specs.SitesView.{definition_of};
 
 use crate::rules::arguments::arguments_wrong;
@@ -12,6 +12,7 @@ use crate::rules::required::arguments_missing;
 use crate::rules::variables::variables_wrong;
 use doc_sites::{DefinitionAt, definitions_at, fault_at};
 use gql_ast::Documents;
+use gql_graph::first::First;
 use gql_graph::least::Least;
 use gql_plain::NoMemory;
 use schema_types::{Rule, RuleFault, Schema};
@@ -34,52 +35,55 @@ pub fn check_args(alloc: Global, schema: &Schema, documents: &Documents) -> Resu
     ensures met { OnOk result (Meet argument_rules schema.now documents.now) }
     ensures fault { IfErr result (AreFaulty argument_rules schema.now documents.now) }
 {
-    match find_broken(alloc, schema, documents)? {
-        Some((rule, at)) => Err(RuleFault::Rule(fault_at(documents, at, rule))),
+    let definitions = definitions_at(alloc, schema, documents)?;
+    check_args_of(alloc, schema, documents, &definitions)
+}
+
+/// Checks what [`check_args`] checks, where the definitions of the documents are listed already.
+///
+/// # Errors
+///
+/// The first of these rules that the documents do not meet, at its least place; `NoMemory`.
+pub fn check_args_of<'a>(
+    alloc: Global,
+    schema: &'a Schema,
+    documents: &Documents,
+    definitions: &[DefinitionAt<'a>],
+) -> Result<(), RuleFault>
+    requires { AreIn schema.now documents.now definitions.now }
+    ensures met { OnOk result (Meet argument_rules schema.now documents.now) }
+    ensures fault { IfErr result (AreFaulty argument_rules schema.now documents.now) }
+{
+    let found = first_broken(alloc, schema, definitions)?;
+    match found {
+        Some((rule, node)) => Err(RuleFault::Rule(fault_at(documents, node, rule))),
         None => Ok(()),
     }
 }
 
-/// The first rule that the documents do not meet, and the number of the node where they do not.
-fn find_broken<'a>(
-    alloc: Global,
-    schema: &'a Schema,
-    documents: &'a Documents,
-) -> Result<Option<(Rule, usize)>, NoMemory>
-    ensures { IfOk result (λ found. found ≡ first_broken (argument_rules schema.now (all_definitions schema.now (trees_of documents.now)))) }
-{
-    let definitions = definitions_at(alloc, schema, documents)?;
-    first_of(alloc, schema, &definitions)
-}
-
-/// The first rule that does not hold, and the number of the node where it does not.
-fn first_of<'a>(
+/// The first rule that definitions do not meet, and the number of the node where they do not.
+fn first_broken<'a>(
     alloc: Global,
     schema: &'a Schema,
     definitions: &[DefinitionAt<'a>],
 ) -> Result<Option<(Rule, usize)>, NoMemory>
-    ensures { IfOk result (λ found. found ≡ first_broken (argument_rules schema.now (map definition_of definitions.now))) }
+    ensures { IfOk result (λ found. found ≡ rules.first_broken (argument_rules schema.now (map definition_of definitions.now))) }
 {
-    let mut least = Least::new();
-    arguments_wrong(alloc, schema, &mut least, definitions)?;
-    if let Some(at) = least.at {
-        return Ok(Some((Rule::V12, at)));
-    }
-    arguments_missing(alloc, schema, &mut least, definitions)?;
-    if let Some(at) = least.at {
-        return Ok(Some((Rule::V13, at)));
-    }
-    literals_unfit(alloc, schema, &mut least, definitions)?;
-    if let Some(at) = least.at {
-        return Ok(Some((Rule::V14, at)));
-    }
-    directives_wrong(alloc, schema, &mut least, definitions)?;
-    if let Some(at) = least.at {
-        return Ok(Some((Rule::V15, at)));
-    }
-    variables_wrong(alloc, schema, &mut least, definitions)?;
-    if let Some(at) = least.at {
-        return Ok(Some((Rule::V16, at)));
-    }
-    Ok(None)
+    let mut first = First::new();
+    let mut arguments = Least::new();
+    arguments_wrong(alloc, schema, &mut arguments, definitions)?;
+    first.settle(Rule::V12, arguments.at);
+    let mut missing = Least::new();
+    arguments_missing(alloc, schema, &mut missing, definitions)?;
+    first.settle(Rule::V13, missing.at);
+    let mut literals = Least::new();
+    literals_unfit(alloc, schema, &mut literals, definitions)?;
+    first.settle(Rule::V14, literals.at);
+    let mut directives = Least::new();
+    directives_wrong(alloc, schema, &mut directives, definitions)?;
+    first.settle(Rule::V15, directives.at);
+    let mut variables = Least::new();
+    variables_wrong(alloc, schema, &mut variables, definitions)?;
+    first.settle(Rule::V16, variables.at);
+    Ok(first.found)
 }

@@ -14,10 +14,9 @@ ghost use Rattle.doc_args.specs.UseView.{use_of};
 
 use crate::locals::locals_in;
 use crate::needs::Needs;
-use crate::spreads::spreads;
 use crate::uses::{Use, uses_of};
 use crate::uses_by_name::{Part, UsesByName};
-use doc_sites::{DefinitionAt, FragmentAt};
+use doc_sites::{DefinitionAt, FragmentAt, spread_graph};
 use gql_graph::graph::Graph;
 use gql_graph::seen::Seen;
 use gql_plain::NoMemory;
@@ -47,7 +46,7 @@ impl<'a> Fragments<'a> {
         ensures { IfOk result (λ known. Describes known schema.now (fragments (map definition_of definitions.now))) }
     {
         let names = fragment_names(alloc, definitions)?;
-        let graph = spreads(alloc, definitions)?;
+        let graph = spread_graph(alloc, definitions)?;
         let gathered = gather(alloc, schema, definitions)?;
         let needs = Needs::of(alloc, &graph, &gathered, &names)?;
         Ok(Fragments {

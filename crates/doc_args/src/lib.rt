@@ -11,8 +11,7 @@ mod locals;
 mod needs;
 mod order;
 mod rules;
-mod spreads;
 mod uses;
 mod uses_by_name;
 
-pub use check::check_args;
+pub use check::{check_args, check_args_of};

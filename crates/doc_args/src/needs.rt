@@ -8,7 +8,7 @@ ghost use Rattle.gql_graph.specs.Graphs.{Tells};
 ghost use Rattle.schema_rules.specs.Rules.{same_type};
 ghost use Rattle.gql_graph.specs.Texts.{Text};
 ghost use Rattle.doc_args.specs.UsesByName.{Gathers};
-ghost use Rattle.doc_args.specs.Needs.{Covers, CoversKnown, HasNeed, IsSameNeed, SumsUp, needed};
+ghost use Rattle.doc_args.specs.Needs.{Covers, CoversKnown, HasNeed, IsSameNeed, SumsUp, uses_needed};
 ghost use Rattle.doc_args.specs.UseView.{place_of, use_of};
 
 use crate::order::order_of;
@@ -51,7 +51,7 @@ impl<'a> Needs<'a> {
 
     /// What fragments of a name need, where that is known; takes no memory.
     pub(crate) fn find(&self, name: &str) -> Option<&[Use<'a>]>
-        ensures { option_map (λ us. map use_of us.now) result ≡ needed self.now name.now }
+        ensures { option_map (λ us. map use_of us.now) result ≡ uses_needed self.now name.now }
     {
         match self.by_name.get(name) {
             Some(uses) => Some(uses.as_slice()),
@@ -61,7 +61,7 @@ impl<'a> Needs<'a> {
 
     /// Nothing is known; takes no memory.
     fn new(alloc: Global) -> Needs<'a>
-        ensures { (n : Text) → needed result n ≡ None }
+        ensures { (n : Text) → uses_needed result n ≡ None }
     {
         Needs {
             by_name: BTreeMap::new(alloc),
@@ -99,7 +99,7 @@ impl<'a> Needs<'a> {
     /// kept.
     fn put_needs_of(&self, all: &mut Vec<Use<'a>>, names: &[&str]) -> Result<bool, NoMemory>
         ensures { IfOk result (λ is_known. is_known ≡ true → Covers (map use_of all.new.items) (map use_of all.old.items)
-            × ((m : Text) → has_text (map (λ n. n.now) names.now) m ≡ true → CoversKnown (map use_of all.new.items) (needed self.now m))) }
+            × ((m : Text) → has_text (map (λ n. n.now) names.now) m ≡ true → CoversKnown (map use_of all.new.items) (uses_needed self.now m))) }
     {
         'names: for name in names {
             let is_known = put_known(all, self.find(name))?;

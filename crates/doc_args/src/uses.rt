@@ -10,9 +10,8 @@ ghost use Rattle.doc_sites.specs.SitesView.{argument_of, directive_of, site_of};
 ghost use Rattle.doc_args.specs.CallView.{call_of};
 ghost use Rattle.doc_args.specs.UseView.{fields_of_name, name_of_place, place_of, use_of, uses_at, uses_unknown};
 
-use crate::call::{Call, Takes};
+use crate::call::{Call, Takes, find_input};
 use crate::calls::calls_in;
-use crate::index::Inputs;
 use doc_sites::{ArgumentAt, DirectiveAt, Site};
 use gql_ast::{Arguments, TypeTree, ValueTree, ValueTrees};
 use gql_plain::NoMemory;
@@ -181,7 +180,6 @@ fn put_unknown<'a>(
 
 /// Puts the variables in arguments for these.
 fn put_known<'a>(
-    alloc: Global,
     schema: &'a Schema,
     uses: &mut Vec<Use<'a>>,
     inputs: &'a InputDefs,
@@ -189,12 +187,8 @@ fn put_known<'a>(
 ) -> Result<(), NoMemory>
     ensures { OnOk result (map use_of uses.new.items ≡ map use_of uses.old.items ++ each (rules.uses_of_argument schema.now (rules.inputs inputs.now)) (map argument_of arguments.now)) }
 {
-    if arguments.is_empty() {
-        return Ok(());
-    }
-    let table = Inputs::of(alloc, inputs)?;
     'arguments: for argument in arguments {
-        let place = place_of_found(table.find(argument.name.name));
+        let place = place_of_found(find_input(inputs, argument.name.name));
         put_argument(schema, uses, argument, place)?;
     }
     Ok(())
@@ -202,7 +196,6 @@ fn put_known<'a>(
 
 /// Puts the variables in the arguments of a field or a directive.
 fn put_call<'a>(
-    alloc: Global,
     schema: &'a Schema,
     uses: &mut Vec<Use<'a>>,
     call: &Call<'_, 'a>,
@@ -210,7 +203,7 @@ fn put_call<'a>(
     ensures { OnOk result (map use_of uses.new.items ≡ map use_of uses.old.items ++ rules.uses_of_call schema.now (call_of call.now)) }
 {
     match call.takes {
-        Takes::Inputs(inputs) => put_known(alloc, schema, uses, inputs, call.arguments),
+        Takes::Inputs(inputs) => put_known(schema, uses, inputs, call.arguments),
         Takes::Nothing => put_unknown(schema, uses, call.arguments),
         Takes::Free => put_unknown(schema, uses, call.arguments),
         Takes::Unknown => put_unknown(schema, uses, call.arguments),
@@ -229,7 +222,7 @@ pub(crate) fn uses_of<'a>(
     let calls = calls_in(alloc, schema, directives, sites)?;
     let mut uses = Vec::new(alloc);
     'calls: for call in &calls {
-        put_call(alloc, schema, &mut uses, call)?;
+        put_call(schema, &mut uses, call)?;
     }
     Ok(uses)
 }

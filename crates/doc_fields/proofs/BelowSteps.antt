@@ -4,18 +4,18 @@ use Rattle.std.proofs.lemmas.List.{append-nil}
 use Rattle.std.specs.List.{list_any}
 use Rattle.gql_plain.specs.Order.{has_text}
 use Rattle.schema_types.specs.NameRules.{fragment_named}
-use Rattle.gql_graph.specs.Reached.{leads, reached}
+use Rattle.gql_graph.specs.Reached.{leads, any_leads}
 use Rattle.gql_graph.specs.Rules.{each}
 use Rattle.schema_types.specs.Sites.{FragmentAt}
 use Rattle.schema_tables.specs.Types.{Text, Defs}
 use Rattle.gql_graph.proofs.LeastSteps.{each-append}
 use Rattle.gql_graph.proofs.TextSteps.{same_text}
-use Rattle.doc_sites.proofs.DefinitionSteps.{or_false}
+use Rattle.gql_plain.proofs.Booleans.{or_false}
 use Rattle.gql_graph.proofs.Listing.{has_either}
 use Rattle.schema_types.specs.FieldRules.{Key, spreads_below}
 use Rattle.doc_fields.specs.Fragments.{next_or_none, spreads_in, spreads_of}
 use Rattle.doc_fields.specs.Heads.{all_of, below, kept_below, IsKnown, AreKnown, AreBelow}
-use Rattle.doc_fields.specs.Keys.{Sum, joined, keys_view, next_at_root, sum_of}
+use Rattle.doc_fields.specs.Keys.{Sum, join_sums, keys_view, next_at_root, sum_of}
 use Rattle.doc_fields.specs.declared.below.KeysBelow.{KeysBelow}
 use Rattle.doc_fields.specs.declared.keys.RootKeys.{RootKeys}
 use Rattle.doc_fields.proofs.Sums.{sum-append}
@@ -34,7 +34,7 @@ names_lead : (next : Text → List Text) (k : ℕ) (n to : Text) → has_text (n
 names_lead next zero n to = or_false (bytes_eq n to)
 names_lead next (suc k) n to = ap (λ (b : Bool). bytes_eq n to || b) (each_has (names_below next k) (λ m. leads next k m to) to (λ m. names_lead next k m to) (next n))
 
-pub all_reached : (next : Text → List Text) (k : ℕ) (starts : List Text) (to : Text) → has_text (each (names_below next k) starts) to ≡ reached next k starts to
+pub all_reached : (next : Text → List Text) (k : ℕ) (starts : List Text) (to : Text) → has_text (each (names_below next k) starts) to ≡ any_leads next k starts to
 all_reached next k starts to = each_has (names_below next k) (λ m. leads next k m to) to (λ m. names_lead next k m to) starts
 
 -- ---- their keys
@@ -42,13 +42,13 @@ all_reached next k starts to = each_has (names_below next k) (λ m. leads next k
 each_below : (keys : Text → List Key) (f : Text → Sum) (g : Text → List Text) → ((n : Text) → f n ≡ sum_of (each keys (g n))) → (ns : List Text) → all_of f ns ≡ sum_of (each keys (each g ns))
 each_below keys f g h [] = refl
 each_below keys f g h (n ∷ ns) =
-    (λ i. joined (h n i) (each_below keys f g h ns i))
+    (λ i. join_sums (h n i) (each_below keys f g h ns i))
     ∙ sym (sum-append (each keys (g n)) (each keys (each g ns))) ∙ ap sum_of (sym (each-append keys (g n) (each g ns)))
 
 below_is : (next : Text → List Text) (keys : Text → List Key) (k : ℕ) (n : Text) → below next (λ m. sum_of (keys m)) k n ≡ sum_of (each keys (names_below next k n))
 below_is next keys zero n = ap sum_of (sym (append-nil (keys n)))
 below_is next keys (suc k) n =
-    ap (λ (s : Sum). joined (sum_of (keys n)) s) (each_below keys (below next (λ m. sum_of (keys m)) k) (names_below next k) (below_is next keys k) (next n))
+    ap (λ (s : Sum). join_sums (sum_of (keys n)) s) (each_below keys (below next (λ m. sum_of (keys m)) k) (names_below next k) (below_is next keys k) (next n))
     ∙ sym (sum-append (keys n) (each keys (each (names_below next k) (next n))))
 
 pub all_below : (next : Text → List Text) (keys : Text → List Key) (k : ℕ) (starts : List Text) → all_of (below next (λ m. sum_of (keys m)) k) starts ≡ sum_of (each keys (each (names_below next k) starts))
@@ -78,12 +78,12 @@ below_more next own least more b l h = λ k m. h k (omega (arith, l, m))
 -- one more name, with those that it leads to
 pub below_put : (next : Text → List Text) (own : Text → Sum) (least : ℕ) (old new : KeysBelow) (name : Text) (keys all : Sum)
     → AreBelow next own least old → ((n : Text) → kept_below new n ≡ cond (bytes_eq name n) (Some keys) (kept_below old n))
-    → ((f : Text → Sum) → AreKnown old f → all ≡ all_of f (next name)) → keys ≡ joined (own name) all → AreBelow next own (suc least) new
+    → ((f : Text → Sum) → AreKnown old f → all ≡ all_of f (next name)) → keys ≡ join_sums (own name) all → AreBelow next own (suc least) new
 below_put next own least old new name keys all h put found e zero m = absurd (omega (arith, m))
 below_put next own least old new name keys all h put found e (suc k) m = λ n.
     known_kept (cond (bytes_eq name n) (Some keys) (kept_below old n)) (kept_below new n) (below next own (suc k) n) (put n)
     (known_put (bytes_eq name n) keys (below next own (suc k) n) (kept_below old n)
-    (λ g. e ∙ ap (λ (s : Sum). joined (own name) s) (found (below next own k) (h k (omega (arith, m)))) ∙ ap (below next own (suc k)) (same_text name n g))
+    (λ g. e ∙ ap (λ (s : Sum). join_sums (own name) s) (found (below next own k) (h k (omega (arith, m)))) ∙ ap (below next own (suc k)) (same_text name n g))
     (h (suc k) (omega (arith, m)) n))
 
 -- what fragments spread at the root

@@ -1,15 +1,11 @@
 -- Whether two types have a possible type in common: the possible types of either tell it.
 use Rattle.std.proofs.Common.{◌≡◌, Bool, true, false, true≢false, cond, ◌||◌, List, [], ◌∷◌, bytes_eq, refl, ap, sym, ◌∙◌}
 use Rattle.std.specs.List.{filter, filter_map, list_any}
+use Rattle.gql_plain.proofs.Booleans.{both_ways, or_true}
 use Rattle.gql_plain.specs.Order.{has_text, sorted_texts}
 use Rattle.gql_plain.proofs.SortedTexts.{has_text-sorted_texts}
 use Rattle.schema_tables.specs.Types.{Text, Defs, applies, object_name, possible}
-use Rattle.gql_graph.proofs.TextSteps.{same_text, either_of, or_true, some_of}
-
-pub both_ways : (a b : Bool) → (a ≡ true → b ≡ true) → (b ≡ true → a ≡ true) → a ≡ b
-both_ways true b f g = sym (f refl)
-both_ways false true f g = g refl
-both_ways false false f g = refl
+use Rattle.gql_graph.proofs.TextSteps.{same_text, either_of, some_of}
 
 -- some text passes
 has_some : (p : Text → Bool) (ns : List Text) (m : Text) → has_text ns m ≡ true → p m ≡ true → list_any p ns ≡ true
@@ -19,9 +15,9 @@ has_some p (n ∷ ns) m h e = either_of (bytes_eq n m) (has_text ns m) h
     (λ g. ap (λ b. p n || b) (has_some p ns m g e) ∙ or_true (p n))
 
 -- a text that is left is one of all, and passes
-filtered : {P : Type 0} (q : Text → Bool) (ns : List Text) (m : Text) → has_text (filter q ns) m ≡ true → (has_text ns m ≡ true → q m ≡ true → P) → P
-filtered q [] m h f = absurd (true≢false (sym h))
-filtered {P = P} q (n ∷ ns) m h f = on (q n) refl h (λ g. filtered {P = P} q ns m g (λ k e. f (ap (λ b. bytes_eq n m || b) k ∙ or_true (bytes_eq n m)) e))
+filter_has : {P : Type 0} (q : Text → Bool) (ns : List Text) (m : Text) → has_text (filter q ns) m ≡ true → (has_text ns m ≡ true → q m ≡ true → P) → P
+filter_has q [] m h f = absurd (true≢false (sym h))
+filter_has {P = P} q (n ∷ ns) m h f = on (q n) refl h (λ g. filter_has {P = P} q ns m g (λ k e. f (ap (λ b. bytes_eq n m || b) k ∙ or_true (bytes_eq n m)) e))
   where
     on : (b : Bool) → q n ≡ b → has_text (cond b (n ∷ filter q ns) (filter q ns)) m ≡ true → (has_text (filter q ns) m ≡ true → P) → P
     on true e k rest = either_of (bytes_eq n m) (has_text (filter q ns) m) k
@@ -41,7 +37,7 @@ left_by q (n ∷ ns) m h e = either_of (bytes_eq n m) (has_text ns m) h
     further false k = k
 
 one_way : (p q : Text → Bool) (ns : List Text) → list_any p (sorted_texts (filter q ns)) ≡ true → list_any q (sorted_texts (filter p ns)) ≡ true
-one_way p q ns h = some_of p (sorted_texts (filter q ns)) h (λ m k e. filtered q ns m (sym (has_text-sorted_texts (filter q ns) m) ∙ k)
+one_way p q ns h = some_of p (sorted_texts (filter q ns)) h (λ m k e. filter_has q ns m (sym (has_text-sorted_texts (filter q ns) m) ∙ k)
     (λ i g. has_some q (sorted_texts (filter p ns)) m (has_text-sorted_texts (filter p ns) m ∙ left_by p ns m i e) g))
 
 either_list : (p q : Text → Bool) (ns : List Text) → list_any p (sorted_texts (filter q ns)) ≡ list_any q (sorted_texts (filter p ns))

@@ -7,8 +7,7 @@ use Rattle.schema_types.specs.FieldRules.{Key, is_good_key, is_one_key}
 use Rattle.gql_graph.specs.Rules.{each}
 use Rattle.gql_graph.specs.Texts.{Text}
 use Rattle.gql_graph.proofs.TextSteps.{same_text, same_self}
-use Rattle.doc_sites.proofs.DefinitionSteps.{or_false}
-use Rattle.doc_fields.proofs.CommonTypes.{both_ways}
+use Rattle.gql_plain.proofs.Booleans.{or_false, both_ways}
 
 -- two lists have the same keys
 abbrev pub HaveSame : List Key → List Key → Type 0
@@ -51,11 +50,11 @@ or_self : (a : Bool) → (a || a) ≡ a
 or_self true = refl
 or_self false = refl
 
-moved : (a b c d : Bool) → ((a || b) || (c || d)) ≡ ((a || c) || (b || d))
-moved true b c d = refl
-moved false true true d = refl
-moved false true false d = refl
-moved false false c d = refl
+regroup : (a b c d : Bool) → ((a || b) || (c || d)) ≡ ((a || c) || (b || d))
+regroup true b c d = refl
+regroup false true true d = refl
+regroup false true false d = refl
+regroup false false c d = refl
 
 pub swapped_text : (m n : Text) → bytes_eq m n ≡ bytes_eq n m
 swapped_text m n = both_ways (bytes_eq m n) (bytes_eq n m) (λ h. ap (λ (t : Text). bytes_eq n t) (same_text m n h) ∙ same_self n) (λ h. ap (λ (t : Text). bytes_eq m t) (same_text n m h) ∙ same_self m)
@@ -66,7 +65,7 @@ each_two p f g [] = refl
 each_two p f g (x ∷ xs) =
     list_any-append p (f x ++ g x) (each (λ y. f y ++ g y) xs)
     ∙ (λ i. list_any-append p (f x) (g x) i || each_two p f g xs i)
-    ∙ moved (list_any p (f x)) (list_any p (g x)) (list_any p (each f xs)) (list_any p (each g xs))
+    ∙ regroup (list_any p (f x)) (list_any p (g x)) (list_any p (each f xs)) (list_any p (each g xs))
     ∙ sym (λ i. list_any-append p (f x) (each f xs) i || list_any-append p (g x) (each g xs) i)
 
 none_of_each : {A B : Type 0} (xs : List A) → each {B = B} (λ x. []) xs ≡ []

@@ -8,30 +8,22 @@ use Rattle.gql_ast.specs.Sels.{Sels}
 use Rattle.gql_ast.specs.declared.selection.Selection.{Selection}
 use Rattle.schema_types.specs.FieldRules.{condition_of_fragment}
 use Rattle.gql_graph.specs.Graphs.{Holds, first_next, next_in}
-use Rattle.gql_graph.specs.Leasts.{noted}
 use Rattle.schema_types.specs.NameRules.{fragments, fragment_named}
 use Rattle.gql_graph.specs.Rules.{each}
 use Rattle.schema_types.specs.Sites.{FragmentAt, DefinitionAt}
 use Rattle.gql_graph.specs.Texts.{Text}
 use Rattle.gql_graph.specs.declared.graph.Graph.{Graph}
 use Rattle.doc_sites.proofs.DefinitionSteps.{over_fragments}
+use Rattle.doc_sites.proofs.ListSteps.{collect_next}
 use Rattle.doc_sites.specs.Definitions.{on_fragment}
 use Rattle.doc_fields.specs.Fragments.{next_or_none, next_by_name, leading, condition_in}
 use denote.Ref.{Bor}
-
--- one more element, of which something is collected
-pub collected : {X Y A : Type 0} (view : X → Y) (f : Y → List A) (xs : List X) (i : ℕ) (x : X) (old new whole : List A) → i < length xs → x ≡ get_or xs i x
-    → new ≡ old ++ f (view x) → old ++ each f (map view (drop i xs)) ≡ whole → new ++ each f (map view (drop (i + 1) xs)) ≡ whole
-collected {X = X} {A = A} view f xs i x old new whole h is e w =
-    let rest : List A = each f (map view (drop (i + 1) xs)) in
-    let same : drop i xs ≡ get_or xs i x ∷ drop (i + 1) xs = rw add-one (drop-cons xs i x h) in
-    ap (λ (l : List A). l ++ rest) e ∙ append_assoc old (f (view x)) rest ∙ ap (λ (y : X). old ++ (f (view y) ++ rest)) is ∙ sym (ap (λ (ys : List X). old ++ each f (map view ys)) same) ∙ w
 
 -- one more fragment is put with what it leads to
 pub pairs_step : {X Y : Type 0} (view : X → Y) (of : Y → List (Text × List Text)) (new : Graph) (pairs whole : List (Text × List Text)) (xs : List X) (i : ℕ) (x : X) → i < length xs → x ≡ get_or xs i x
     → Holds new (pairs ++ of (view x)) → pairs ++ each of (map view (drop i xs)) ≡ whole
     → (then : List (Text × List Text)) × Holds new then × (then ++ each of (map view (drop (i + 1) xs)) ≡ whole)
-pairs_step view of new pairs whole xs i x h is k w = (pairs ++ of (view x), k, collected view of xs i x pairs (pairs ++ of (view x)) whole h is refl w)
+pairs_step view of new pairs whole xs i x h is k w = (pairs ++ of (view x), k, collect_next view of xs i x pairs (pairs ++ of (view x)) whole h is refl w)
 
 -- all are put
 pub pairs_all : {X Y : Type 0} (view : X → Y) (of : Y → List (Text × List Text)) (graph : Graph) (pairs whole : List (Text × List Text)) (xs : List X) (i : ℕ) → length xs ≤ i
@@ -59,15 +51,10 @@ first_condition (x ∷ xs) None o e h = cc
 first_condition (x ∷ xs) (Some f) o e h = ap (λ (r : Option (Bor Text)). option_copied r) e ∙ ap (λ (l : List Text). Some (get_or l 0 [])) h
 
 -- one more selection of a set, of which something is collected
-pub walked : {A : Type 0} (f : Sels → List A) (g : Selection → List A) → ((x : Selection) (t : Sels) → f (sel_before x t) ≡ g x ++ f t) → (xs : List Selection) (i : ℕ) (x : Selection) (old new whole : List A)
+pub walks : {A : Type 0} (f : Sels → List A) (g : Selection → List A) → ((x : Selection) (t : Sels) → f (sel_before x t) ≡ g x ++ f t) → (xs : List Selection) (i : ℕ) (x : Selection) (old new whole : List A)
     → i < length xs → x ≡ get_or xs i x → new ≡ old ++ g x → old ++ f (sels_of (drop i xs)) ≡ whole → new ++ f (sels_of (drop (i + 1) xs)) ≡ whole
-walked {A = A} f g law xs i x old new whole h is e w =
+walks {A = A} f g law xs i x old new whole h is e w =
     let rest : Sels = sels_of (drop (i + 1) xs) in
     let same : drop i xs ≡ get_or xs i x ∷ drop (i + 1) xs = rw add-one (drop-cons xs i x h) in
     ap (λ (l : List A). l ++ f rest) e ∙ append_assoc old (g x) (f rest) ∙ ap (λ (l : List A). old ++ l) (sym (law x rest))
     ∙ ap (λ (y : Selection). old ++ f (sel_before y rest)) is ∙ sym (ap (λ (ys : List Selection). old ++ f (sels_of ys)) same) ∙ w
-
--- all elements of a list are noted
-pub noted_all : {X A : Type 0} (view : X → A) (f : A → List ℕ) (xs : List X) (i : ℕ) (o whole : Option ℕ) → length xs ≤ i
-    → noted o (each f (map view (drop i xs))) ≡ whole → o ≡ whole
-noted_all {X = X} view f xs i o whole h w = sym (ap (λ (ys : List X). noted o (each f (map view ys))) (drop_all i xs h)) ∙ w

@@ -9,7 +9,7 @@ use Rattle.gql_graph.specs.Graphs.{Tells}
 use Rattle.gql_graph.specs.Rules.{each}
 use Rattle.schema_types.specs.Sites.{FragmentAt}
 use Rattle.schema_tables.specs.Types.{Text, Defs, applies}
-use Rattle.doc_fields.specs.Keys.{Sum, no_key, joined, keys_view, next_at_root, sum_of}
+use Rattle.doc_fields.specs.Keys.{Sum, no_key, join_sums, keys_view, next_at_root, sum_of}
 use Rattle.doc_fields.specs.declared.below.KeysBelow.{KeysBelow}
 use Rattle.doc_fields.specs.declared.heads.Heads.{Heads}
 use Rattle.doc_fields.specs.declared.spreads.RootFragments.{RootFragments}
@@ -33,13 +33,13 @@ keys_found heads n = unwrap_or (keys_kept heads n) no_key
 -- those of all elements
 abbrev pub all_of : {A : Type 0} → (A → Sum) → List A → Sum
 all_of f [] = no_key
-all_of f (x ∷ xs) = joined (f x) (all_of f xs)
+all_of f (x ∷ xs) = join_sums (f x) (all_of f xs)
 
 -- ---- the keys of a name, and of those that it leads to
 
 abbrev pub below : (next : Text → List Text) → (own : Text → Sum) → (steps : ℕ) → Text → Sum
 below next own zero n = own n
-below next own (suc k) n = joined (own n) (all_of (below next own k) (next n))
+below next own (suc k) n = join_sums (own n) (all_of (below next own k) (next n))
 
 abbrev pub kept_below : KeysBelow → Text → Option Sum
 kept_below b n = option_map keys_view (get_by (λ k. slice_cmp nat_cmp n k.now) b.by_name)

@@ -6,7 +6,7 @@ use Rattle.gql_ast.specs.declared.selection.Selection.TheVariants as S
 use Rattle.schema_types.specs.FieldRules as rules
 use Rattle.schema_types.specs.FieldRules.{takes_root, keys_in, spreads_at_root, spreads_below}
 use Rattle.schema_types.specs.NameRules.{fragment_named}
-use Rattle.gql_graph.specs.Reached.{reached}
+use Rattle.gql_graph.specs.Reached.{any_leads}
 use Rattle.schema_types.specs.Sites.{FragmentAt, typename}
 use Rattle.schema_tables.specs.Types.{Text, Defs}
 use Rattle.doc_fields.specs.declared.keys.RootKeys.{RootKeys}
@@ -30,7 +30,7 @@ next_at_root defs root fs n = spreads_below defs root (fragment_named fs n)
 
 -- whether the fragment of a name is reached from those of others
 abbrev pub reaches : Defs → List FragmentAt → (root : Text) → (starts : List Text) → Text → Bool
-reaches defs fs root starts n = reached (next_at_root defs root fs) (length fs) starts n
+reaches defs fs root starts n = any_leads (next_at_root defs root fs) (length fs) starts n
 
 -- these names are all that are reached from others
 abbrev pub AreReached : Defs → List FragmentAt → (root : Text) → (starts ns : List Text) → Type 0
@@ -48,17 +48,17 @@ and_one k no_key = one_key k
 and_one k (one_key l) = cond (bytes_eq k l) (one_key k) bad_keys
 and_one k bad_keys = bad_keys
 
-abbrev pub joined : Sum → Sum → Sum
-joined no_key s = s
-joined (one_key k) s = and_one k s
-joined bad_keys s = bad_keys
+abbrev pub join_sums : Sum → Sum → Sum
+join_sums no_key s = s
+join_sums (one_key k) s = and_one k s
+join_sums bad_keys s = bad_keys
 
 abbrev pub key_sum : rules.Key → Sum
 key_sum k = cond (bytes_eq k.0 typename || bytes_eq k.1 typename) bad_keys (one_key k.0)
 
 abbrev pub sum_of : List rules.Key → Sum
 sum_of [] = no_key
-sum_of (k ∷ ks) = joined (key_sum k) (sum_of ks)
+sum_of (k ∷ ks) = join_sums (key_sum k) (sum_of ks)
 
 abbrev pub is_one : Sum → Bool
 is_one no_key = false

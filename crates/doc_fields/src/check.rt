@@ -12,6 +12,7 @@ use crate::rules::subscriptions::subscriptions_wrong;
 use crate::rules::undefined::fields_undefined;
 use doc_sites::{DefinitionAt, definitions_at, fault_at};
 use gql_ast::Documents;
+use gql_graph::first::First;
 use gql_graph::least::Least;
 use gql_plain::NoMemory;
 use schema_types::{Rule, RuleFault, Schema};
@@ -74,26 +75,21 @@ fn first_broken(
 ) -> Result<Option<(Rule, usize)>, NoMemory>
     ensures { IfOk result (λ found. found ≡ rules.first_broken (field_rules schema.now (map definition_of definitions.now))) }
 {
-    let mut least = Least::new();
-    fields_undefined(schema, &mut least, definitions);
-    if let Some(at) = least.at {
-        return Ok(Some((Rule::V7, at)));
-    }
-    sets_wrong(schema, &mut least, definitions);
-    if let Some(at) = least.at {
-        return Ok(Some((Rule::V8, at)));
-    }
-    floats_selected(schema, &mut least, definitions);
-    if let Some(at) = least.at {
-        return Ok(Some((Rule::V9, at)));
-    }
-    conditions_never_apply(alloc, schema, &mut least, definitions)?;
-    if let Some(at) = least.at {
-        return Ok(Some((Rule::V10, at)));
-    }
-    subscriptions_wrong(alloc, schema, &mut least, definitions)?;
-    if let Some(at) = least.at {
-        return Ok(Some((Rule::V11, at)));
-    }
-    Ok(None)
+    let mut first = First::new();
+    let mut undefined = Least::new();
+    fields_undefined(schema, &mut undefined, definitions);
+    first.settle(Rule::V7, undefined.at);
+    let mut sets = Least::new();
+    sets_wrong(schema, &mut sets, definitions);
+    first.settle(Rule::V8, sets.at);
+    let mut floats = Least::new();
+    floats_selected(schema, &mut floats, definitions);
+    first.settle(Rule::V9, floats.at);
+    let mut conditions = Least::new();
+    conditions_never_apply(alloc, schema, &mut conditions, definitions)?;
+    first.settle(Rule::V10, conditions.at);
+    let mut subscriptions = Least::new();
+    subscriptions_wrong(alloc, schema, &mut subscriptions, definitions)?;
+    first.settle(Rule::V11, subscriptions.at);
+    Ok(first.found)
 }

@@ -6,7 +6,7 @@ ghost use Rattle.gql_graph.specs.Texts.{Text};
 ghost use Rattle.doc_sites.specs.SitesView.{definition_of, fragment_of};
 ghost use Rattle.doc_sites.specs.Definitions.{on_fragment};
 ghost use Rattle.doc_fields.specs.Heads.{all_of, keys_found, keys_kept, keys_named, keys_of_name};
-ghost use Rattle.doc_fields.specs.Keys.{joined, keys_view, no_key, sum_of};
+ghost use Rattle.doc_fields.specs.Keys.{join_sums, keys_view, no_key, sum_of};
 
 use crate::keys::{RootKeys, keys_in};
 use doc_sites::{DefinitionAt, FragmentAt};
@@ -85,7 +85,7 @@ fn put_head_at<'a>(
     heads: &mut Heads<'a>,
     definition: &DefinitionAt<'a>,
 ) -> Result<(), NoMemory>
-    ensures { OnOk result ((n : Text) → keys_found heads.new n ≡ joined (keys_found heads.old n) (sum_of (on_fragment (keys_named schema.now root.now n) (definition_of definition.now)))) }
+    ensures { OnOk result ((n : Text) → keys_found heads.new n ≡ join_sums (keys_found heads.old n) (sum_of (on_fragment (keys_named schema.now root.now n) (definition_of definition.now)))) }
 {
     match definition {
         DefinitionAt::Operation(_) => Ok(()),
@@ -100,7 +100,7 @@ fn put_head<'a>(
     heads: &mut Heads<'a>,
     fragment: &FragmentAt<'a>,
 ) -> Result<(), NoMemory>
-    ensures { OnOk result ((n : Text) → keys_found heads.new n ≡ joined (keys_found heads.old n) (sum_of (keys_named schema.now root.now n (fragment_of fragment.now)))) }
+    ensures { OnOk result ((n : Text) → keys_found heads.new n ≡ join_sums (keys_found heads.old n) (sum_of (keys_named schema.now root.now n (fragment_of fragment.now)))) }
 {
     if !schema.applies(root, fragment.on.name) {
         return Ok(());

@@ -1,7 +1,7 @@
 //! Response keys at the root of an operation (GraphQL, October 2021, sections 2.7 and 5.2.3.1).
 ghost use Rattle.std.specs.Prelude.{◌≡◌};
 ghost use Rattle.schema_types.specs.FieldRules as rules;
-ghost use Rattle.doc_fields.specs.Keys.{and_one, is_one, joined, key_sum, keys_at, keys_view, one_key, sum_of};
+ghost use Rattle.doc_fields.specs.Keys.{and_one, is_one, join_sums, key_sum, keys_at, keys_view, one_key, sum_of};
 
 use gql_ast::{Selection, Selections};
 use gql_plain::Name;
@@ -31,7 +31,7 @@ impl<'a> RootKeys<'a> {
 
     /// These keys and others.
     pub(crate) fn and(&self, others: &RootKeys<'a>) -> RootKeys<'a>
-        ensures { keys_view result ≡ joined (keys_view self.now) (keys_view others.now) }
+        ensures { keys_view result ≡ join_sums (keys_view self.now) (keys_view others.now) }
     {
         match self {
             RootKeys::Absent => *others,

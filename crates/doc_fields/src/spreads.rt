@@ -1,6 +1,6 @@
 //! The fragments that apply to a root type, with those that they spread there (GraphQL, October
 //! 2021, section 5.2.3.1).
-ghost use Rattle.std.specs.Prelude.{◌≡◌, map, length, ◌++◌, List, IfOk, OnOk};
+ghost use Rattle.std.specs.Prelude.{◌≡◌, map, ◌++◌, List, IfOk, OnOk};
 ghost use Rattle.schema_types.specs.FieldRules as rules;
 ghost use Rattle.gql_graph.specs.Graphs.{Holds, Tells};
 ghost use Rattle.schema_types.specs.NameRules as names;
@@ -14,7 +14,7 @@ ghost use Rattle.doc_fields.specs.Keys.{spreads_at};
 use crate::below::{KeysBelow, keys_below};
 use crate::heads::{Heads, heads_of_each};
 use crate::keys::takes_root;
-use doc_sites::{DefinitionAt, FragmentAt, fragments};
+use doc_sites::{DefinitionAt, FragmentAt, count_fragments};
 use gql_ast::{Selection, Selections};
 use gql_graph::graph::Graph;
 use gql_plain::NoMemory;
@@ -53,14 +53,6 @@ pub(crate) fn root_fragments<'a>(
         count,
         below,
     })
-}
-
-/// How many fragments there are.
-fn count_fragments(alloc: Global, definitions: &[DefinitionAt<'_>]) -> Result<usize, NoMemory>
-    ensures { IfOk result (λ count. count ≡ length (names.fragments (map definition_of definitions.now))) }
-{
-    let fragments = fragments(alloc, definitions)?;
-    Ok(fragments.len())
 }
 
 /// Puts the fragments that are spread in a set, and in its inline fragments that apply to the root

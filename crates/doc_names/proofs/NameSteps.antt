@@ -1,8 +1,7 @@
 -- Steps of noting names.
-use Rattle.std.proofs.Common.{◌≡◌, ℕ, ◌+◌, ◌<◌, ◌≤◌, List, [], ◌∷◌, Option, map, drop, length, get_or, add-one, sym, ap, ◌∙◌}
+use Rattle.std.proofs.Common.{◌≡◌, ℕ, ◌+◌, ◌<◌, List, [], ◌∷◌, Option, map, drop, length, get_or, add-one, sym, ap, ◌∙◌}
 use Rattle.std.proofs.Math.Seq.{drop-cons}
-use Rattle.std.proofs.lemmas.List.{drop_all}
-use Rattle.gql_graph.specs.Leasts.{noted}
+use Rattle.gql_graph.specs.Leasts.{least_from}
 use Rattle.schema_types.specs.NameRules.{not_there, names_of_all, fragment_names, spreads_in, sites_of, without_root}
 use Rattle.gql_graph.specs.Rules.{each}
 use Rattle.schema_types.specs.Sites.{DefinitionAt}
@@ -21,19 +20,14 @@ not_there_in all ds = each (λ d. each (not_there (names_of_all (fragment_names 
 abbrev pub no_root_in : Defs → DefinitionAt → List ℕ
 no_root_in defs d = on_operation (λ o. without_root defs o o.name) d
 
--- all of a list is noted
-pub noted_end : {X A : Type 0} (view : X → A) (f : A → List ℕ) (xs : List X) (i : ℕ) (o whole : Option ℕ) → length xs ≤ i
-    → noted o (each f (map view (drop i xs))) ≡ whole → o ≡ whole
-noted_end {X = X} view f xs i o whole h w = sym (ap (λ (ys : List X). noted o (each f (map view ys))) (drop_all i xs h)) ∙ w
-
 -- one more element of a list, told by its place, is noted
 pub noted_at : {X A : Type 0} (view : X → A) (f : A → List ℕ) (xs : List X) (i : ℕ) (d : X) (o p whole : Option ℕ) → i < length xs
-    → p ≡ noted o (f (view (get_or xs i d))) → noted o (each f (map view (drop i xs))) ≡ whole → noted p (each f (map view (drop (i + 1) xs))) ≡ whole
+    → p ≡ least_from o (f (view (get_or xs i d))) → least_from o (each f (map view (drop i xs))) ≡ whole → least_from p (each f (map view (drop (i + 1) xs))) ≡ whole
 noted_at {X = X} view f xs i d o p whole h e w =
     let rest : List _ = map view (drop (i + 1) xs) in
     let same : drop i xs ≡ get_or xs i d ∷ drop (i + 1) xs = rw add-one (drop-cons xs i d h) in
-    ap (λ (q : Option ℕ). noted q (each f rest)) e ∙ sym (noted-append o (f (view (get_or xs i d))) (each f rest))
-    ∙ sym (ap (λ (ys : List X). noted o (each f (map view ys))) same) ∙ w
+    ap (λ (q : Option ℕ). least_from q (each f rest)) e ∙ sym (noted-append o (f (view (get_or xs i d))) (each f rest))
+    ∙ sym (ap (λ (ys : List X). least_from o (each f (map view ys))) same) ∙ w
 
 -- a name that stands nowhere
 abbrev pub no_name : NameAt

@@ -13,6 +13,7 @@ use crate::rules::roots::roots_missing;
 use crate::rules::spreads::fragments_not_there;
 use doc_sites::{DefinitionAt, definitions_at, fault_at};
 use gql_ast::Documents;
+use gql_graph::first::First;
 use gql_graph::least::Least;
 use gql_plain::NoMemory;
 use schema_types::{Rule, RuleFault, Schema};
@@ -65,30 +66,24 @@ fn first_broken(
 ) -> Result<Option<(Rule, usize)>, NoMemory>
     ensures { IfOk result (λ found. found ≡ rules.first_broken (name_rules schema.now (map definition_of definitions.now))) }
 {
-    let mut least = Least::new();
-    operations_not_named(alloc, &mut least, definitions)?;
-    if let Some(at) = least.at {
-        return Ok(Some((Rule::V1, at)));
-    }
-    fragments_not_unique(alloc, &mut least, definitions)?;
-    if let Some(at) = least.at {
-        return Ok(Some((Rule::V2, at)));
-    }
-    conditions_wrong(alloc, schema, &mut least, definitions)?;
-    if let Some(at) = least.at {
-        return Ok(Some((Rule::V3, at)));
-    }
-    fragments_not_there(alloc, &mut least, definitions)?;
-    if let Some(at) = least.at {
-        return Ok(Some((Rule::V4, at)));
-    }
-    spreads_on_cycles(alloc, &mut least, definitions)?;
-    if let Some(at) = least.at {
-        return Ok(Some((Rule::V5, at)));
-    }
-    roots_missing(schema, &mut least, definitions);
-    if let Some(at) = least.at {
-        return Ok(Some((Rule::V6, at)));
-    }
-    Ok(None)
+    let mut first = First::new();
+    let mut operations = Least::new();
+    operations_not_named(alloc, &mut operations, definitions)?;
+    first.settle(Rule::V1, operations.at);
+    let mut fragments = Least::new();
+    fragments_not_unique(alloc, &mut fragments, definitions)?;
+    first.settle(Rule::V2, fragments.at);
+    let mut conditions = Least::new();
+    conditions_wrong(alloc, schema, &mut conditions, definitions)?;
+    first.settle(Rule::V3, conditions.at);
+    let mut spreads = Least::new();
+    fragments_not_there(alloc, &mut spreads, definitions)?;
+    first.settle(Rule::V4, spreads.at);
+    let mut cycles = Least::new();
+    spreads_on_cycles(alloc, &mut cycles, definitions)?;
+    first.settle(Rule::V5, cycles.at);
+    let mut roots = Least::new();
+    roots_missing(schema, &mut roots, definitions);
+    first.settle(Rule::V6, roots.at);
+    Ok(first.found)
 }

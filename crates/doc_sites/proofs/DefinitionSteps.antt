@@ -1,17 +1,14 @@
 -- What is said of each definition, by what it is.
-use Rattle.std.proofs.Common.{◌≡◌, Bool, true, false, cond, ◌||◌, List, [], ◌∷◌, ◌++◌, map, Option, Some, unwrap_or, bytes_eq, refl, ap, ◌∙◌}
+use Rattle.std.proofs.Common.{◌≡◌, Bool, true, false, cond, List, [], ◌∷◌, ◌++◌, map, Option, Some, unwrap_or, bytes_eq, refl, ap, ◌∙◌}
 use Rattle.doc_sites.specs.Definitions.{on_fragment, on_operation, spreading}
 use Rattle.doc_sites.specs.SitesView.{definition_of}
 use Rattle.doc_sites.specs.declared.site.DefinitionAt as code
+use Rattle.doc_sites.proofs.ListSteps.{each-map}
 use Rattle.gql_graph.specs.Graphs.{next_in}
 use Rattle.schema_types.specs.NameRules.{fragments, names_of_all, operations, spread_by, spreads_in, spreads_of_fragment}
 use Rattle.gql_graph.specs.Rules.{each}
 use Rattle.schema_types.specs.Sites.{FragmentAt, OperationAt, DefinitionAt, operation, fragment}
 use Rattle.gql_graph.specs.Texts.{Text}
-
-pub or_false : (a : Bool) → (a || false) ≡ a
-or_false true = refl
-or_false false = refl
 
 -- what is said of each operation, and of each fragment, over all definitions
 pub over_operations : {A : Type 0} (says : OperationAt → List A) (ds : List DefinitionAt) → each says (operations ds) ≡ each (on_operation says) ds
@@ -38,9 +35,5 @@ next_spreading (operation o ∷ ds) n = next_spreading ds n
 next_spreading (fragment f ∷ ds) n = first_or (bytes_eq f.name.name n) f _ _ (next_spreading ds n)
 
 -- the same over the definitions of the code
-each_seen : (ds : List code.DefinitionAt) → each (λ d. spreading (definition_of d)) ds ≡ each spreading (map definition_of ds)
-each_seen [] = refl
-each_seen (d ∷ ds) = ap (λ (ps : List (Text × List Text)). spreading (definition_of d) ++ ps) (each_seen ds)
-
 pub next_seen : (ds : List code.DefinitionAt) (n : Text) → next_in (each (λ d. spreading (definition_of d)) ds) n ≡ spread_by (fragments (map definition_of ds)) n
-next_seen ds n = ap (λ (ps : List (Text × List Text)). next_in ps n) (each_seen ds) ∙ next_spreading (map definition_of ds) n
+next_seen ds n = ap (λ (ps : List (Text × List Text)). next_in ps n) (each-map definition_of spreading ds) ∙ next_spreading (map definition_of ds) n

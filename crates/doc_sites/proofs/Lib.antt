@@ -1,3 +1,4 @@
 pub mod SiteSteps
+pub mod ListSteps
 pub mod PlaceSteps
 pub mod DefinitionSteps

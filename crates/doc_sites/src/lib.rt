@@ -12,6 +12,7 @@ mod parts;
 mod places;
 mod selecting;
 pub mod site;
+mod spreads;
 
 pub use among::{fragments, operations};
 pub use defining::definitions_at;
@@ -19,3 +20,4 @@ pub use places::fault_at;
 pub use site::{
     ArgumentAt, DefinitionAt, DirectiveAt, FragmentAt, OperationAt, Site, ValueAt, VariableAt,
 };
+pub use spreads::{count_fragments, spread_graph, spread_names, spreads_at};

@@ -3,9 +3,10 @@ ghost use Rattle.std.specs.Prelude.{OnOk, IfErr};
 ghost use Rattle.plan_project.specs.Projects.{document_rules};
 ghost use Rattle.schema_types.specs.DocumentRules.{Meet, AreFaulty};
 
-use doc_args::check_args;
-use doc_fields::check_fields;
-use doc_names::check_names;
+use doc_args::check_args_of;
+use doc_fields::check_fields_of;
+use doc_names::check_names_of;
+use doc_sites::definitions_at;
 use gql_ast::Documents;
 use schema_types::{RuleFault, Schema};
 use std::alloc::Global;
@@ -23,7 +24,8 @@ pub(crate) fn check_documents(
     ensures met { OnOk result (Meet document_rules schema.now documents.now) }
     ensures fault { IfErr result (AreFaulty document_rules schema.now documents.now) }
 {
-    check_names(alloc, schema, documents)?;
-    check_fields(alloc, schema, documents)?;
-    check_args(alloc, schema, documents)
+    let definitions = definitions_at(alloc, schema, documents)?;
+    check_names_of(alloc, schema, documents, &definitions)?;
+    check_fields_of(alloc, schema, documents, &definitions)?;
+    check_args_of(alloc, schema, documents, &definitions)
 }

@@ -2,15 +2,14 @@
 //! and directives are defined, and differ. `{ team(sise: 2) { name } }` breaks it at `sise`.
 ghost use Rattle.std.specs.Prelude.{◌≡◌, [], map, IfOk, OnOk};
 ghost use Rattle.schema_types.specs.ArgumentRules as rules;
-ghost use Rattle.gql_graph.specs.Leasts.{noted};
+ghost use Rattle.gql_graph.specs.Leasts.{least_from};
 ghost use Rattle.schema_trees.specs.LocatedView.{name_of};
 ghost use Rattle.gql_graph.specs.Rules.{each};
 ghost use Rattle.doc_sites.specs.SitesView.{argument_of, definition_of};
 ghost use Rattle.doc_args.specs.CallView.{call_of, takes_of};
 
-use crate::call::{Call, Takes};
+use crate::call::{Call, Takes, has_input};
 use crate::calls::calls_of;
-use crate::index::Inputs;
 use doc_sites::{ArgumentAt, DefinitionAt};
 use gql_graph::least::Least;
 use gql_plain::NoMemory;
@@ -28,7 +27,7 @@ pub(crate) fn arguments_wrong(
     least: &mut Least,
     definitions: &[DefinitionAt<'_>],
 ) -> Result<(), NoMemory>
-    ensures { OnOk result (least.new.at ≡ noted least.old.at (rules.arguments_wrong schema.now (map definition_of definitions.now))) }
+    ensures { OnOk result (least.new.at ≡ least_from least.old.at (rules.arguments_wrong schema.now (map definition_of definitions.now))) }
 {
     'definitions: for definition in definitions {
         note_wrong_in(alloc, schema, least, definition)?;
@@ -43,7 +42,7 @@ fn note_wrong_in(
     least: &mut Least,
     definition: &DefinitionAt<'_>,
 ) -> Result<(), NoMemory>
-    ensures { OnOk result (least.new.at ≡ noted least.old.at (each rules.arguments_of_call_wrong (rules.calls_of schema.now (definition_of definition.now)))) }
+    ensures { OnOk result (least.new.at ≡ least_from least.old.at (each rules.arguments_of_call_wrong (rules.calls_of schema.now (definition_of definition.now)))) }
 {
     let calls = calls_of(alloc, schema, definition)?;
     note_wrong_among(alloc, least, &calls)
@@ -55,7 +54,7 @@ fn note_wrong_among(
     least: &mut Least,
     calls: &[Call<'_, '_>],
 ) -> Result<(), NoMemory>
-    ensures { OnOk result (least.new.at ≡ noted least.old.at (each rules.arguments_of_call_wrong (map call_of calls.now))) }
+    ensures { OnOk result (least.new.at ≡ least_from least.old.at (each rules.arguments_of_call_wrong (map call_of calls.now))) }
 {
     'calls: for call in calls {
         note_wrong(alloc, least, call)?;
@@ -66,10 +65,10 @@ fn note_wrong_among(
 /// Arguments of a field or a directive that are not defined or stand twice.
 #[tactic(auto, using(gql_graph::proofs::LeastSteps::noting))]
 fn note_wrong(alloc: Global, least: &mut Least, call: &Call<'_, '_>) -> Result<(), NoMemory>
-    ensures { OnOk result (least.new.at ≡ noted least.old.at (rules.arguments_of_call_wrong (call_of call.now))) }
+    ensures { OnOk result (least.new.at ≡ least_from least.old.at (rules.arguments_of_call_wrong (call_of call.now))) }
 {
     let names = argument_names(alloc, call.arguments)?;
-    note_not_taken(alloc, least, &call.takes, &names)?;
+    note_not_taken(least, &call.takes, &names);
     note_repeated(alloc, least, &names)
 }
 
@@ -88,29 +87,21 @@ fn argument_names<'a>(
 }
 
 /// Names of arguments that are not defined.
-fn note_not_taken(
-    alloc: Global,
-    least: &mut Least,
-    takes: &Takes<'_>,
-    names: &[NameAt<'_>],
-) -> Result<(), NoMemory>
-    ensures { OnOk result (least.new.at ≡ noted least.old.at (each (rules.not_taken (takes_of takes.now)) (map name_of names.now))) }
+fn note_not_taken(least: &mut Least, takes: &Takes<'_>, names: &[NameAt<'_>])
+    ensures { least.new.at ≡ least_from least.old.at (each (rules.not_taken (takes_of takes.now)) (map name_of names.now)) }
 {
     match takes {
-        Takes::Inputs(inputs) => note_not_among(alloc, least, inputs, names),
-        Takes::Nothing => {
-            note_all(least, names);
-            Ok(())
-        }
-        Takes::Free => Ok(()),
-        Takes::Unknown => Ok(()),
+        Takes::Inputs(inputs) => note_not_among(least, inputs, names),
+        Takes::Nothing => note_all(least, names),
+        Takes::Free => {}
+        Takes::Unknown => {}
     }
 }
 
 /// All names.
 #[tactic(auto, using(gql_graph::proofs::LeastSteps::noting))]
 fn note_all(least: &mut Least, names: &[NameAt<'_>])
-    ensures { least.new.at ≡ noted least.old.at (each (rules.not_taken (rules.inputs [])) (map name_of names.now)) }
+    ensures { least.new.at ≡ least_from least.old.at (each (rules.not_taken (rules.inputs [])) (map name_of names.now)) }
 {
     'names: for name in names {
         least.note(name.at);
@@ -118,20 +109,10 @@ fn note_all(least: &mut Least, names: &[NameAt<'_>])
 }
 
 /// Names of arguments that are none of these.
-fn note_not_among(
-    alloc: Global,
-    least: &mut Least,
-    inputs: &InputDefs,
-    names: &[NameAt<'_>],
-) -> Result<(), NoMemory>
-    ensures { OnOk result (least.new.at ≡ noted least.old.at (each (rules.not_taken (rules.inputs inputs.now)) (map name_of names.now))) }
+fn note_not_among(least: &mut Least, inputs: &InputDefs, names: &[NameAt<'_>])
+    ensures { least.new.at ≡ least_from least.old.at (each (rules.not_taken (rules.inputs inputs.now)) (map name_of names.now)) }
 {
-    if names.is_empty() {
-        return Ok(());
-    }
-    let table = Inputs::of(alloc, inputs)?;
     'names: for name in names {
-        least.note_if(!table.has(name.name), name.at);
+        least.note_if(!has_input(inputs, name.name), name.at);
     }
-    Ok(())
 }

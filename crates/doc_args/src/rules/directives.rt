@@ -5,7 +5,7 @@ ghost use Rattle.std.specs.Prelude.{◌≡◌, ◌++◌, map, IfOk, OnOk};
 ghost use Rattle.std.specs.List.{list_any};
 ghost use Rattle.schema_types.specs.ArgumentRules as rules;
 ghost use Rattle.schema_tables.specs.BuiltIn as known;
-ghost use Rattle.gql_graph.specs.Leasts.{noted};
+ghost use Rattle.gql_graph.specs.Leasts.{least_from};
 ghost use Rattle.schema_trees.specs.LocatedView.{name_of};
 ghost use Rattle.gql_graph.specs.Rules.{each};
 ghost use Rattle.doc_sites.specs.SitesView.{definition_of, directive_of, site_of, variable_of};
@@ -29,7 +29,7 @@ pub(crate) fn directives_wrong(
     least: &mut Least,
     definitions: &[DefinitionAt<'_>],
 ) -> Result<(), NoMemory>
-    ensures { OnOk result (least.new.at ≡ noted least.old.at (rules.directives_wrong schema.now (map definition_of definitions.now))) }
+    ensures { OnOk result (least.new.at ≡ least_from least.old.at (rules.directives_wrong schema.now (map definition_of definitions.now))) }
 {
     'definitions: for definition in definitions {
         note_in(alloc, schema, least, definition)?;
@@ -45,7 +45,7 @@ fn note_in(
     least: &mut Least,
     definition: &DefinitionAt<'_>,
 ) -> Result<(), NoMemory>
-    ensures { OnOk result (least.new.at ≡ noted least.old.at (each (rules.directed_wrong schema.now) (rules.directed_in (definition_of definition.now)))) }
+    ensures { OnOk result (least.new.at ≡ least_from least.old.at (each (rules.directed_wrong schema.now) (rules.directed_in (definition_of definition.now)))) }
 {
     match definition {
         DefinitionAt::Operation(operation) => {
@@ -69,7 +69,7 @@ fn note_variables(
     least: &mut Least,
     variables: &[VariableAt<'_>],
 ) -> Result<(), NoMemory>
-    ensures { OnOk result (least.new.at ≡ noted least.old.at (each (rules.directed_wrong schema.now) (map rules.directed_variable (map variable_of variables.now)))) }
+    ensures { OnOk result (least.new.at ≡ least_from least.old.at (each (rules.directed_wrong schema.now) (map rules.directed_variable (map variable_of variables.now)))) }
 {
     'variables: for variable in variables {
         let location = Location::VariableDefinition;
@@ -85,7 +85,7 @@ fn note_sites(
     least: &mut Least,
     sites: &[Site<'_>],
 ) -> Result<(), NoMemory>
-    ensures { OnOk result (least.new.at ≡ noted least.old.at (each (rules.directed_wrong schema.now) (map rules.directed_at (map site_of sites.now)))) }
+    ensures { OnOk result (least.new.at ≡ least_from least.old.at (each (rules.directed_wrong schema.now) (map rules.directed_at (map site_of sites.now)))) }
 {
     'sites: for site in sites {
         note_site(alloc, schema, least, site)?;
@@ -100,7 +100,7 @@ fn note_site(
     least: &mut Least,
     site: &Site<'_>,
 ) -> Result<(), NoMemory>
-    ensures { OnOk result (least.new.at ≡ noted least.old.at (rules.directed_wrong schema.now (rules.directed_at (site_of site.now)))) }
+    ensures { OnOk result (least.new.at ≡ least_from least.old.at (rules.directed_wrong schema.now (rules.directed_at (site_of site.now)))) }
 {
     match site {
         Site::Field { directives, .. } => {
@@ -135,7 +135,7 @@ fn note_directed(
     location: Location,
     directives: &[DirectiveAt<'_>],
 ) -> Result<(), NoMemory>
-    ensures { OnOk result (least.new.at ≡ noted least.old.at (rules.directed_wrong schema.now (directives_at location (map directive_of directives.now)))) }
+    ensures { OnOk result (least.new.at ≡ least_from least.old.at (rules.directed_wrong schema.now (directives_at location (map directive_of directives.now)))) }
 {
     note_standing(schema, least, location, directives);
     let names = names_once(alloc, schema, directives)?;
@@ -150,7 +150,7 @@ fn note_standing(
     location: Location,
     directives: &[DirectiveAt<'_>],
 )
-    ensures { least.new.at ≡ noted least.old.at (each (rules.stands_wrong schema.now location) (map directive_of directives.now)) }
+    ensures { least.new.at ≡ least_from least.old.at (each (rules.stands_wrong schema.now location) (map directive_of directives.now)) }
 {
     'directives: for directive in directives {
         let is_good = may_stand(schema, location, directive.name.name);

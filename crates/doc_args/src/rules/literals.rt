@@ -6,16 +6,15 @@ ghost use Rattle.gql_ast.specs.TypeView.{ty_of};
 ghost use Rattle.gql_ast.specs.Value.{members_of, vals_of};
 ghost use Rattle.gql_ast.specs.ValueView as tree;
 ghost use Rattle.schema_types.specs.ArgumentRules as rules;
-ghost use Rattle.gql_graph.specs.Leasts.{noted};
+ghost use Rattle.gql_graph.specs.Leasts.{least_from};
 ghost use Rattle.gql_graph.specs.Rules.{each};
 ghost use Rattle.schema_tables.specs.Types as types;
 ghost use Rattle.doc_sites.specs.SitesView.{argument_of, definition_of, variable_of};
 ghost use Rattle.doc_args.specs.CallView.{call_of, takes_of};
 ghost use Rattle.doc_args.specs.Literals.{default_of_unfit, repeating, unfit_in};
 
-use crate::call::{Call, Takes};
+use crate::call::{Call, Takes, find_input};
 use crate::calls::calls_of;
-use crate::index::Inputs;
 use doc_sites::{ArgumentAt, DefinitionAt, VariableAt};
 use gql_ast::{Arguments, TypeTree, ValueTree, ValueTrees};
 use gql_graph::least::Least;
@@ -33,7 +32,7 @@ pub(crate) fn literals_unfit(
     least: &mut Least,
     definitions: &[DefinitionAt<'_>],
 ) -> Result<(), NoMemory>
-    ensures { OnOk result (least.new.at ≡ noted least.old.at (rules.literals_unfit schema.now (map definition_of definitions.now))) }
+    ensures { OnOk result (least.new.at ≡ least_from least.old.at (rules.literals_unfit schema.now (map definition_of definitions.now))) }
 {
     'definitions: for definition in definitions {
         note_unfit_in(alloc, schema, least, definition)?;
@@ -49,7 +48,7 @@ fn note_unfit_in(
     least: &mut Least,
     definition: &DefinitionAt<'_>,
 ) -> Result<(), NoMemory>
-    ensures { OnOk result (least.new.at ≡ noted least.old.at (unfit_in schema.now (definition_of definition.now))) }
+    ensures { OnOk result (least.new.at ≡ least_from least.old.at (unfit_in schema.now (definition_of definition.now))) }
 {
     note_defaults_in(alloc, schema, least, definition)?;
     let calls = calls_of(alloc, schema, definition)?;
@@ -63,7 +62,7 @@ fn note_defaults_in(
     least: &mut Least,
     definition: &DefinitionAt<'_>,
 ) -> Result<(), NoMemory>
-    ensures { OnOk result (least.new.at ≡ noted least.old.at (rules.defaults_unfit schema.now (definition_of definition.now))) }
+    ensures { OnOk result (least.new.at ≡ least_from least.old.at (rules.defaults_unfit schema.now (definition_of definition.now))) }
 {
     match definition {
         DefinitionAt::Operation(operation) => {
@@ -80,7 +79,7 @@ fn note_defaults(
     least: &mut Least,
     variables: &[VariableAt<'_>],
 ) -> Result<(), NoMemory>
-    ensures { OnOk result (least.new.at ≡ noted least.old.at (each (default_of_unfit schema.now) (map variable_of variables.now))) }
+    ensures { OnOk result (least.new.at ≡ least_from least.old.at (each (default_of_unfit schema.now) (map variable_of variables.now))) }
 {
     'variables: for variable in variables {
         note_default(alloc, schema, least, variable)?;
@@ -95,7 +94,7 @@ fn note_default(
     least: &mut Least,
     variable: &VariableAt<'_>,
 ) -> Result<(), NoMemory>
-    ensures { OnOk result (least.new.at ≡ noted least.old.at (default_of_unfit schema.now (variable_of variable.now))) }
+    ensures { OnOk result (least.new.at ≡ least_from least.old.at (default_of_unfit schema.now (variable_of variable.now))) }
 {
     match variable.default {
         Some(value) => {
@@ -140,7 +139,7 @@ fn note_unfit_among(
     least: &mut Least,
     calls: &[Call<'_, '_>],
 ) -> Result<(), NoMemory>
-    ensures { OnOk result (least.new.at ≡ noted least.old.at (each (rules.arguments_unfit schema.now) (map call_of calls.now))) }
+    ensures { OnOk result (least.new.at ≡ least_from least.old.at (each (rules.arguments_unfit schema.now) (map call_of calls.now))) }
 {
     'calls: for call in calls {
         note_unfit(alloc, schema, least, &call.takes, call.arguments)?;
@@ -156,7 +155,7 @@ fn note_unfit(
     takes: &Takes<'_>,
     arguments: &[ArgumentAt<'_>],
 ) -> Result<(), NoMemory>
-    ensures { OnOk result (least.new.at ≡ noted least.old.at (each (rules.argument_unfit schema.now (takes_of takes.now)) (map argument_of arguments.now))) }
+    ensures { OnOk result (least.new.at ≡ least_from least.old.at (each (rules.argument_unfit schema.now (takes_of takes.now)) (map argument_of arguments.now))) }
 {
     match takes {
         Takes::Inputs(inputs) => note_unfit_for(alloc, schema, least, inputs, arguments),
@@ -174,14 +173,10 @@ fn note_unfit_for(
     inputs: &InputDefs,
     arguments: &[ArgumentAt<'_>],
 ) -> Result<(), NoMemory>
-    ensures { OnOk result (least.new.at ≡ noted least.old.at (each (rules.argument_unfit schema.now (rules.inputs inputs.now)) (map argument_of arguments.now))) }
+    ensures { OnOk result (least.new.at ≡ least_from least.old.at (each (rules.argument_unfit schema.now (rules.inputs inputs.now)) (map argument_of arguments.now))) }
 {
-    if arguments.is_empty() {
-        return Ok(());
-    }
-    let table = Inputs::of(alloc, inputs)?;
     'arguments: for argument in arguments {
-        let input = table.find(argument.name.name);
+        let input = find_input(inputs, argument.name.name);
         let is_good = is_good_for(alloc, schema, input, argument.value.of)?;
         least.note_if(!is_good, argument.value.at);
     }
@@ -194,7 +189,7 @@ fn note_repeating(
     least: &mut Least,
     arguments: &[ArgumentAt<'_>],
 ) -> Result<(), NoMemory>
-    ensures { OnOk result (least.new.at ≡ noted least.old.at (each repeating (map argument_of arguments.now))) }
+    ensures { OnOk result (least.new.at ≡ least_from least.old.at (each repeating (map argument_of arguments.now))) }
 {
     'arguments: for argument in arguments {
         let is_good = names_differ(alloc, argument.value.of)?;
@@ -228,7 +223,8 @@ fn is_good_value(
     ensures { IfOk result (λ b. b ≡ rules.is_good_value schema.now (ty_of of.now) (tree.value_of value.now)) }
 {
     let differ = names_differ(alloc, value)?;
-    Ok(schema.literal_fits(value, of) && differ)
+    let fits = schema.literal_fits(alloc, value, of)?;
+    Ok(fits && differ)
 }
 
 /// Whether the names of each object in a value differ.

@@ -1,31 +1,28 @@
 //! V13, required arguments (GraphQL, October 2021, section 5.4.2.1): an argument of a non-null type
 //! without default is given, and not as `null`. `{ node { id } }` breaks it at `node`, where
 //! `node(id: ID!)` is wanted.
-ghost use Rattle.std.specs.Prelude.{◌≡◌, ◌++◌, ◌&&◌, List, map, not, IfOk, OnOk};
+ghost use Rattle.std.specs.Prelude.{◌≡◌, [], ◌++◌, ◌&&◌, map, IfOk, OnOk};
 ghost use Rattle.std.specs.List.{list_any};
 ghost use Rattle.gql_ast.specs.ValueView.{value_of};
 ghost use Rattle.gql_plain.specs.Order.{has_text};
 ghost use Rattle.schema_types.specs.ArgumentRules as rules;
-ghost use Rattle.schema_tables.specs.Given.{must_be_given};
-ghost use Rattle.gql_graph.specs.Leasts.{noted};
+ghost use Rattle.schema_tables.specs.Required.{required_names};
+ghost use Rattle.gql_graph.specs.Leasts.{least_from};
 ghost use Rattle.schema_trees.specs.LocatedView.{name_of};
 ghost use Rattle.schema_rules.specs.Rules.{each, names_of};
-ghost use Rattle.gql_graph.specs.Seen.{Knows};
-ghost use Rattle.gql_graph.specs.Texts.{Text};
 ghost use Rattle.doc_sites.specs.SitesView.{argument_of, definition_of};
 ghost use Rattle.doc_args.specs.CallView.{call_of, takes_of};
-ghost use Rattle.doc_args.specs.GivenNames.{given_name, given_names};
+ghost use Rattle.doc_args.specs.GivenNames.{count_new, given_name, given_names};
 
 use crate::call::{Call, Takes};
 use crate::calls::calls_of;
 use doc_sites::{ArgumentAt, DefinitionAt};
-use gql_ast::{TypeTree, ValueTree};
+use gql_ast::ValueTree;
 use gql_graph::least::Least;
 use gql_graph::seen::Seen;
 use gql_plain::NoMemory;
 use schema_trees::located::NameAt;
-use schema_trees::repeats::seen_names;
-use schema_types::{InputDef, InputDefs, Schema};
+use schema_types::{InputDefs, Schema};
 use std::alloc::Global;
 
 /// V13: an argument of a non-null type without a default is given, and not as `null` (GraphQL,
@@ -36,7 +33,7 @@ pub(crate) fn arguments_missing(
     least: &mut Least,
     definitions: &[DefinitionAt<'_>],
 ) -> Result<(), NoMemory>
-    ensures { OnOk result (least.new.at ≡ noted least.old.at (rules.arguments_missing schema.now (map definition_of definitions.now))) }
+    ensures { OnOk result (least.new.at ≡ least_from least.old.at (rules.arguments_missing schema.now (map definition_of definitions.now))) }
 {
     'definitions: for definition in definitions {
         note_incomplete_in(alloc, schema, least, definition)?;
@@ -51,7 +48,7 @@ fn note_incomplete_in(
     least: &mut Least,
     definition: &DefinitionAt<'_>,
 ) -> Result<(), NoMemory>
-    ensures { OnOk result (least.new.at ≡ noted least.old.at (each rules.argument_missing (rules.calls_of schema.now (definition_of definition.now)))) }
+    ensures { OnOk result (least.new.at ≡ least_from least.old.at (each rules.argument_missing (rules.calls_of schema.now (definition_of definition.now)))) }
 {
     let calls = calls_of(alloc, schema, definition)?;
     note_incomplete(alloc, least, &calls)
@@ -59,7 +56,7 @@ fn note_incomplete_in(
 
 /// Fields and directives that lack an argument.
 fn note_incomplete(alloc: Global, least: &mut Least, calls: &[Call<'_, '_>]) -> Result<(), NoMemory>
-    ensures { OnOk result (least.new.at ≡ noted least.old.at (each rules.argument_missing (map call_of calls.now))) }
+    ensures { OnOk result (least.new.at ≡ least_from least.old.at (each rules.argument_missing (map call_of calls.now))) }
 {
     'calls: for call in calls {
         let is_wrong = is_incomplete(alloc, &call.takes, call.arguments)?;
@@ -84,7 +81,7 @@ fn is_incomplete(
     }
 }
 
-/// Whether one of these is left out.
+/// Whether one of these is left out: fewer names are those of required ones than have to be given.
 fn leaves_out_any(
     alloc: Global,
     inputs: &InputDefs,
@@ -92,36 +89,37 @@ fn leaves_out_any(
 ) -> Result<bool, NoMemory>
     ensures { IfOk result (λ b. b ≡ list_any (rules.leaves_out (map argument_of arguments.now)) inputs.now) }
 {
-    let given = given_set(alloc, arguments)?;
-    'inputs: for input in &inputs.items {
-        if is_left_out(&given, input) {
-            return Ok(true);
+    let names = given_names(alloc, arguments)?;
+    let count = count_required(alloc, inputs, &names)?;
+    let is_whole = count == inputs.required_count();
+    Ok(!is_whole)
+}
+
+/// How many names are those of arguments that have to be given; a name that stands twice counts
+/// once.
+fn count_required(
+    alloc: Global,
+    inputs: &InputDefs,
+    names: &[NameAt<'_>],
+) -> Result<usize, NoMemory>
+    ensures { IfOk result (λ count. count ≡ count_new (required_names inputs.now) [] (names_of (map name_of names.now))) }
+{
+    let mut seen = Seen::new(alloc);
+    let mut count = 0;
+    'names: for name in names {
+        let is_new = seen.insert(name.name)?;
+        if is_counted(inputs, is_new, name.name) {
+            count += 1;
         }
     }
-    Ok(false)
+    Ok(count)
 }
 
-/// Whether an argument has to be given and is none of these.
-fn is_left_out(given: &Seen<'_>, input: &InputDef) -> bool
-    ensures { (ns : List Text) → Knows given.now.names ns → result ≡ (must_be_given input.now && not (has_text ns input.now.name)) }
+/// Whether a name is new, and that of an argument that has to be given.
+fn is_counted(inputs: &InputDefs, is_new: bool, name: &str) -> bool
+    ensures { result ≡ (is_new && has_text (required_names inputs.now) name.now) }
 {
-    must_be_given(input) && !given.contains(input.name.as_str())
-}
-
-/// Whether an argument has to be given.
-fn must_be_given(input: &InputDef) -> bool
-    ensures { result ≡ must_be_given input.now }
-{
-    matches!(input.of, TypeTree::NonNull(_)) && input.default.is_none()
-}
-
-/// The set of the names of arguments that are given, and not as `null`.
-fn given_set<'a>(alloc: Global, arguments: &[ArgumentAt<'a>]) -> Result<Seen<'a>, NoMemory>
-    ensures { IfOk result (λ seen. Knows seen.names (names_of (given_names (map argument_of arguments.now)))) }
-{
-    let names = given_names(alloc, arguments)?;
-    let seen = seen_names(alloc, &names)?;
-    Ok(seen)
+    is_new && inputs.needs(name)
 }
 
 /// The names of arguments that are given, and not as `null`.

@@ -4,27 +4,27 @@
 ghost use Rattle.std.specs.Prelude.{◌≡◌, [], true, List, map, option_map, IfOk, IsTrue, OnOk};
 ghost use Rattle.gql_plain.specs.Order.{has_text};
 ghost use Rattle.schema_types.specs.ArgumentRules as rules;
-ghost use Rattle.gql_graph.specs.Leasts.{noted};
+ghost use Rattle.gql_graph.specs.Leasts.{least_from};
 ghost use Rattle.schema_trees.specs.LocatedView.{name_of};
-ghost use Rattle.schema_rules.specs.Rules.{each, repeated};
+ghost use Rattle.schema_rules.specs.Rules.{each, repeated_names};
 ghost use Rattle.schema_types.specs.Sites as spec;
 ghost use Rattle.gql_graph.specs.Texts.{Text};
+ghost use Rattle.doc_sites.specs.Definitions.{on_operation};
 ghost use Rattle.doc_sites.specs.SitesView.{definition_of, operation_of, variable_of};
 ghost use Rattle.doc_args.specs.Fragments.{Describes};
 ghost use Rattle.doc_args.specs.UsesByName.{Gathers};
 ghost use Rattle.doc_args.specs.Named.{NamesVariables};
-ghost use Rattle.doc_args.specs.Needs.{AreHarmless, IsKnownHarmless, needed};
-ghost use Rattle.doc_args.specs.Parts.{on_operation, uses_in_operation, variable_names};
+ghost use Rattle.doc_args.specs.Needs.{AreHarmless, IsKnownHarmless, uses_needed};
+ghost use Rattle.doc_args.specs.Parts.{uses_in_operation, variable_names};
 ghost use Rattle.doc_args.specs.UseView.{place_of, use_of};
 
 use crate::fragments::Fragments;
 use crate::index::Variables;
 use crate::needs::Needs;
 use crate::rules::literals::is_input_type;
-use crate::spreads::spreads_in;
 use crate::uses::{Place, Use, uses_of};
 use crate::uses_by_name::UsesByName;
-use doc_sites::{DefinitionAt, OperationAt, VariableAt};
+use doc_sites::{DefinitionAt, OperationAt, VariableAt, spread_names};
 use gql_graph::least::Least;
 use gql_plain::NoMemory;
 use schema_trees::located::NameAt;
@@ -45,7 +45,7 @@ pub(crate) fn variables_wrong<'a>(
     least: &mut Least,
     definitions: &[DefinitionAt<'a>],
 ) -> Result<(), NoMemory>
-    ensures { OnOk result (least.new.at ≡ noted least.old.at (rules.variables_wrong schema.now (map definition_of definitions.now))) }
+    ensures { OnOk result (least.new.at ≡ least_from least.old.at (rules.variables_wrong schema.now (map definition_of definitions.now))) }
 {
     let known = Fragments::of(alloc, schema, definitions)?;
     'definitions: for definition in definitions {
@@ -63,7 +63,7 @@ fn note_definition<'a>(
     definition: &DefinitionAt<'a>,
 ) -> Result<(), NoMemory>
     ensures { (fs : List spec.FragmentAt) → Describes known.now schema.now fs
-        → OnOk result (least.new.at ≡ noted least.old.at (on_operation (rules.variables_of_wrong schema.now fs) (definition_of definition.now))) }
+        → OnOk result (least.new.at ≡ least_from least.old.at (on_operation (rules.variables_of_wrong schema.now fs) (definition_of definition.now))) }
 {
     match definition {
         DefinitionAt::Operation(operation) => {
@@ -82,7 +82,7 @@ fn note_operation<'a>(
     operation: &OperationAt<'a>,
 ) -> Result<(), NoMemory>
     ensures { (fs : List spec.FragmentAt) → Describes known.now schema.now fs
-        → OnOk result (least.new.at ≡ noted least.old.at (rules.variables_of_wrong schema.now fs (operation_of operation.now))) }
+        → OnOk result (least.new.at ≡ least_from least.old.at (rules.variables_of_wrong schema.now fs (operation_of operation.now))) }
 {
     note_repeated_variables(alloc, least, operation)?;
     note_not_input(schema, least, operation);
@@ -98,7 +98,7 @@ fn note_repeated_variables(
     least: &mut Least,
     operation: &OperationAt<'_>,
 ) -> Result<(), NoMemory>
-    ensures { OnOk result (least.new.at ≡ noted least.old.at (repeated (variable_names (operation_of operation.now).variables))) }
+    ensures { OnOk result (least.new.at ≡ least_from least.old.at (repeated_names (variable_names (operation_of operation.now).variables))) }
 {
     let names = variable_names(alloc, &operation.variables)?;
     note_repeated(alloc, least, &names)
@@ -120,7 +120,7 @@ fn variable_names<'a>(
 
 /// Variables whose types are none of inputs.
 fn note_not_input(schema: &Schema, least: &mut Least, operation: &OperationAt<'_>)
-    ensures { least.new.at ≡ noted least.old.at (each (rules.not_input schema.now) (operation_of operation.now).variables) }
+    ensures { least.new.at ≡ least_from least.old.at (each (rules.not_input schema.now) (operation_of operation.now).variables) }
 {
     'variables: for variable in &operation.variables {
         least.note_if(
@@ -139,7 +139,7 @@ fn note_own<'a>(
     operation: &OperationAt<'a>,
 ) -> Result<(), NoMemory>
     ensures { (vs : List spec.VariableAt) → NamesVariables table.now vs
-        → OnOk result (least.new.at ≡ noted least.old.at (each (rules.use_wrong vs []) (uses_in_operation schema.now (operation_of operation.now)))) }
+        → OnOk result (least.new.at ≡ least_from least.old.at (each (rules.use_wrong vs []) (uses_in_operation schema.now (operation_of operation.now)))) }
 {
     let uses = uses_of(alloc, schema, &operation.directives, &operation.sites)?;
     note_uses(schema, least, table, &uses);
@@ -148,7 +148,7 @@ fn note_own<'a>(
 
 /// Variables that are used and not defined, or whose uses are not allowed.
 fn note_uses(schema: &Schema, least: &mut Least, table: &Variables<'_, '_>, uses: &[Use<'_>])
-    ensures { (vs : List spec.VariableAt) → NamesVariables table.now vs → least.new.at ≡ noted least.old.at (each (rules.use_wrong vs []) (map use_of uses.now)) }
+    ensures { (vs : List spec.VariableAt) → NamesVariables table.now vs → least.new.at ≡ least_from least.old.at (each (rules.use_wrong vs []) (map use_of uses.now)) }
 {
     'uses: for one in uses {
         let variable = table.find(one.name.name);
@@ -188,9 +188,9 @@ fn note_beyond<'a>(
     operation: &OperationAt<'a>,
 ) -> Result<(), NoMemory>
     ensures { (fs : List spec.FragmentAt) → Describes known.now schema.now fs → NamesVariables table.now (operation_of operation.now).variables
-        → OnOk result (least.new.at ≡ noted least.old.at (each (rules.uses_wrong_in schema.now fs (operation_of operation.now)) fs)) }
+        → OnOk result (least.new.at ≡ least_from least.old.at (each (rules.uses_wrong_in schema.now fs (operation_of operation.now)) fs)) }
 {
-    let starts = spreads_in(alloc, &operation.sites)?;
+    let starts = spread_names(alloc, &operation.sites)?;
     if are_met(schema, least, table, &known.needs, &starts) {
         return Ok(());
     }
@@ -210,7 +210,7 @@ fn are_met(
     names: &[&str],
 ) -> bool
     ensures { (vs : List spec.VariableAt) → NamesVariables table.now vs → IsTrue result
-        → (m : Text) → has_text (map (λ n. n.now) names.now) m ≡ true → IsKnownHarmless vs least.now.at (needed needs.now m) }
+        → (m : Text) → has_text (map (λ n. n.now) names.now) m ≡ true → IsKnownHarmless vs least.now.at (uses_needed needs.now m) }
 {
     'names: for name in names {
         if !is_met(schema, least, table, needs.find(name)) {
@@ -251,7 +251,7 @@ fn are_harmless(schema: &Schema, least: &Least, table: &Variables<'_, '_>, uses:
 /// Whether a use is allowed, or stands at the place that is noted or after it.
 fn is_harmless(schema: &Schema, least: &Least, table: &Variables<'_, '_>, one: &Use<'_>) -> bool
     ensures { (vs : List spec.VariableAt) → NamesVariables table.now vs → IsTrue result
-        → noted least.now.at (rules.use_wrong vs [] (use_of one.now)) ≡ least.now.at }
+        → least_from least.now.at (rules.use_wrong vs [] (use_of one.now)) ≡ least.now.at }
 {
     if least.is_at_most(one.name.at) {
         return true;
@@ -269,7 +269,7 @@ fn note_reached(
     names: &[&str],
 )
     ensures { (vs : List spec.VariableAt) → NamesVariables table.now vs → (tells : Text → List rules.Use) → Gathers gathered.now tells
-        → least.new.at ≡ noted least.old.at (each (λ n. each (rules.use_wrong vs []) (tells n)) (map (λ n. n.now) names.now)) }
+        → least.new.at ≡ least_from least.old.at (each (λ n. each (rules.use_wrong vs []) (tells n)) (map (λ n. n.now) names.now)) }
 {
     'names: for name in names {
         note_uses(schema, least, table, gathered.uses(name));

@@ -4,7 +4,7 @@
 ghost use Rattle.std.specs.Prelude.{◌≡◌, Some, map, option_copied, option_map, ◌++◌, List, IfOk, OnOk};
 ghost use Rattle.schema_types.specs.FieldRules as rules;
 ghost use Rattle.gql_graph.specs.Graphs.{Holds, Tells};
-ghost use Rattle.gql_graph.specs.Leasts.{noted};
+ghost use Rattle.gql_graph.specs.Leasts.{least_from};
 ghost use Rattle.schema_trees.specs.LocatedView.{name_of};
 ghost use Rattle.schema_types.specs.NameRules.{fragment_named};
 ghost use Rattle.schema_types.specs.NameRules as names;
@@ -35,7 +35,7 @@ pub(crate) fn conditions_never_apply(
     least: &mut Least,
     definitions: &[DefinitionAt<'_>],
 ) -> Result<(), NoMemory>
-    ensures { OnOk result (least.new.at ≡ noted least.old.at (rules.conditions_never_apply schema.now (map definition_of definitions.now))) }
+    ensures { OnOk result (least.new.at ≡ least_from least.old.at (rules.conditions_never_apply schema.now (map definition_of definitions.now))) }
 {
     let conditions = conditions(alloc, definitions)?;
     let mut common = CommonTypes::new(alloc);
@@ -113,7 +113,7 @@ fn note_never_in<'a>(
     sites: &[Site<'a>],
 ) -> Result<(), NoMemory>
     ensures noted { (fs : List spec.FragmentAt) → Tells conditions.now (conditions_of fs) → AreCommon schema.now common.old
-        → OnOk result (least.new.at ≡ noted least.old.at (each (rules.never_applies_at schema.now fs) (map site_of sites.now))) }
+        → OnOk result (least.new.at ≡ least_from least.old.at (each (rules.never_applies_at schema.now fs) (map site_of sites.now))) }
     ensures common { AreCommon schema.now common.old → OnOk result (AreCommon schema.now common.new) }
 {
     'sites: for site in sites {
@@ -132,7 +132,7 @@ fn note_never<'a>(
     site: &Site<'a>,
 ) -> Result<(), NoMemory>
     ensures noted { (fs : List spec.FragmentAt) → Tells conditions.now (conditions_of fs) → AreCommon schema.now common.old
-        → OnOk result (least.new.at ≡ noted least.old.at (rules.never_applies_at schema.now fs (site_of site.now))) }
+        → OnOk result (least.new.at ≡ least_from least.old.at (rules.never_applies_at schema.now fs (site_of site.now))) }
     ensures common { AreCommon schema.now common.old → OnOk result (AreCommon schema.now common.new) }
 {
     match site {
@@ -165,7 +165,7 @@ fn note_if_never<'a>(
     at: usize,
 ) -> Result<(), NoMemory>
     ensures noted { AreCommon schema.now common.old
-        → OnOk result (least.new.at ≡ noted least.old.at (wrong (rules.cannot_apply schema.now (option_copied around.entry) (option_copied on.entry)) at)) }
+        → OnOk result (least.new.at ≡ least_from least.old.at (wrong (rules.cannot_apply schema.now (option_copied around.entry) (option_copied on.entry)) at)) }
     ensures common { AreCommon schema.now common.old → OnOk result (AreCommon schema.now common.new) }
 {
     if least.is_at_most(at) {

@@ -2,7 +2,7 @@
 //! `{ me { height } }` breaks it at `height`, where that is a Float.
 ghost use Rattle.std.specs.Prelude.{◌≡◌, Some, map, option_copied};
 ghost use Rattle.schema_types.specs.FieldRules as rules;
-ghost use Rattle.gql_graph.specs.Leasts.{noted};
+ghost use Rattle.gql_graph.specs.Leasts.{least_from};
 ghost use Rattle.gql_graph.specs.Rules.{each};
 ghost use Rattle.schema_types.specs.Sites.{field_type};
 ghost use Rattle.doc_sites.specs.SitesView.{definition_of, site_of};
@@ -16,7 +16,7 @@ use schema_types::Schema;
 /// V9: no field that is selected is of Float. This project's own; the type is of section 3.5.2 of
 /// GraphQL, October 2021.
 pub(crate) fn floats_selected(schema: &Schema, least: &mut Least, definitions: &[DefinitionAt<'_>])
-    ensures { least.new.at ≡ noted least.old.at (rules.floats_selected schema.now (map definition_of definitions.now)) }
+    ensures { least.new.at ≡ least_from least.old.at (rules.floats_selected schema.now (map definition_of definitions.now)) }
 {
     'definitions: for definition in definitions {
         note_floats_in(schema, least, definition.sites());
@@ -25,7 +25,7 @@ pub(crate) fn floats_selected(schema: &Schema, least: &mut Least, definitions: &
 
 /// The fields of these selections that are of Float.
 fn note_floats_in(schema: &Schema, least: &mut Least, sites: &[Site<'_>])
-    ensures { least.new.at ≡ noted least.old.at (each (rules.float_at schema.now) (map site_of sites.now)) }
+    ensures { least.new.at ≡ least_from least.old.at (each (rules.float_at schema.now) (map site_of sites.now)) }
 {
     'sites: for site in sites {
         note_float(schema, least, site);
@@ -34,7 +34,7 @@ fn note_floats_in(schema: &Schema, least: &mut Least, sites: &[Site<'_>])
 
 /// A field of Float.
 fn note_float(schema: &Schema, least: &mut Least, site: &Site<'_>)
-    ensures { least.new.at ≡ noted least.old.at (rules.float_at schema.now (site_of site.now)) }
+    ensures { least.new.at ≡ least_from least.old.at (rules.float_at schema.now (site_of site.now)) }
 {
     match site {
         Site::Field { around, name, .. } => {

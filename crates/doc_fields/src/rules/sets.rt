@@ -2,7 +2,7 @@
 //! and a composite field has one. `{ me }` breaks it at `me`, where `me` is a User.
 ghost use Rattle.std.specs.Prelude.{◌≡◌, map, option_copied, Some};
 ghost use Rattle.schema_types.specs.FieldRules as rules;
-ghost use Rattle.gql_graph.specs.Leasts.{noted};
+ghost use Rattle.gql_graph.specs.Leasts.{least_from};
 ghost use Rattle.gql_graph.specs.Rules.{each};
 ghost use Rattle.schema_types.specs.Sites.{field_type};
 ghost use Rattle.doc_sites.specs.SitesView.{definition_of, site_of};
@@ -16,7 +16,7 @@ use schema_types::Schema;
 /// V8: a field of a scalar or an enum has no selection set, and one of an object, an interface or a
 /// union has one (GraphQL, October 2021, section 5.3.3).
 pub(crate) fn sets_wrong(schema: &Schema, least: &mut Least, definitions: &[DefinitionAt<'_>])
-    ensures { least.new.at ≡ noted least.old.at (rules.sets_wrong schema.now (map definition_of definitions.now)) }
+    ensures { least.new.at ≡ least_from least.old.at (rules.sets_wrong schema.now (map definition_of definitions.now)) }
 {
     'definitions: for definition in definitions {
         note_sets_in(schema, least, definition.sites());
@@ -25,7 +25,7 @@ pub(crate) fn sets_wrong(schema: &Schema, least: &mut Least, definitions: &[Defi
 
 /// The fields of these selections with a set too many, or one too few.
 fn note_sets_in(schema: &Schema, least: &mut Least, sites: &[Site<'_>])
-    ensures { least.new.at ≡ noted least.old.at (each (rules.set_wrong_at schema.now) (map site_of sites.now)) }
+    ensures { least.new.at ≡ least_from least.old.at (each (rules.set_wrong_at schema.now) (map site_of sites.now)) }
 {
     'sites: for site in sites {
         note_set(schema, least, site);
@@ -34,7 +34,7 @@ fn note_sets_in(schema: &Schema, least: &mut Least, sites: &[Site<'_>])
 
 /// A field with a set too many, or one too few.
 fn note_set(schema: &Schema, least: &mut Least, site: &Site<'_>)
-    ensures { least.new.at ≡ noted least.old.at (rules.set_wrong_at schema.now (site_of site.now)) }
+    ensures { least.new.at ≡ least_from least.old.at (rules.set_wrong_at schema.now (site_of site.now)) }
 {
     match site {
         Site::Field {

@@ -4,7 +4,7 @@
 ghost use Rattle.std.specs.Prelude.{◌≡◌, map, option_map, ◌++◌, List, Some, IfOk, OnOk};
 ghost use Rattle.gql_ast.specs.declared.document.Kind.TheVariants.{Subscription};
 ghost use Rattle.schema_types.specs.FieldRules as rules;
-ghost use Rattle.gql_graph.specs.Leasts.{noted};
+ghost use Rattle.gql_graph.specs.Leasts.{least_from};
 ghost use Rattle.schema_trees.specs.LocatedView.{name_of};
 ghost use Rattle.gql_graph.specs.Rules.{each};
 ghost use Rattle.schema_types.specs.Sites as sites;
@@ -34,7 +34,7 @@ pub(crate) fn subscriptions_wrong(
     least: &mut Least,
     definitions: &[DefinitionAt<'_>],
 ) -> Result<(), NoMemory>
-    ensures { OnOk result (least.new.at ≡ noted least.old.at (rules.subscriptions_wrong schema.now (map definition_of definitions.now))) }
+    ensures { OnOk result (least.new.at ≡ least_from least.old.at (rules.subscriptions_wrong schema.now (map definition_of definitions.now))) }
 {
     match schema.root(Kind::Subscription) {
         Some(root) => note_subscriptions(alloc, schema, root.as_str(), least, definitions),
@@ -51,7 +51,7 @@ fn note_subscriptions(
     definitions: &[DefinitionAt<'_>],
 ) -> Result<(), NoMemory>
     requires { types.root schema.now Subscription ≡ Some root.now }
-    ensures { OnOk result (least.new.at ≡ noted least.old.at (rules.subscriptions_wrong schema.now (map definition_of definitions.now))) }
+    ensures { OnOk result (least.new.at ≡ least_from least.old.at (rules.subscriptions_wrong schema.now (map definition_of definitions.now))) }
 {
     let found = root_fragments(alloc, schema, root, definitions)?;
     'definitions: for definition in definitions {
@@ -71,7 +71,7 @@ fn note_subscription_at<'a>(
 ) -> Result<(), NoMemory>
     requires { types.root schema.now Subscription ≡ Some root.now }
     ensures { (fs : List sites.FragmentAt) → IsOf schema.now root.now fs found.now
-        → OnOk result (least.new.at ≡ noted least.old.at (on_operation (rules.subscription_wrong schema.now fs) (definition_of definition.now))) }
+        → OnOk result (least.new.at ≡ least_from least.old.at (on_operation (rules.subscription_wrong schema.now fs) (definition_of definition.now))) }
 {
     match definition {
         DefinitionAt::Operation(operation) => {
@@ -92,7 +92,7 @@ fn note_subscription<'a>(
 ) -> Result<(), NoMemory>
     requires { types.root schema.now Subscription ≡ Some root.now }
     ensures { (fs : List sites.FragmentAt) → IsOf schema.now root.now fs found.now
-        → OnOk result (least.new.at ≡ noted least.old.at (rules.subscription_wrong schema.now fs (operation_of operation.now))) }
+        → OnOk result (least.new.at ≡ least_from least.old.at (rules.subscription_wrong schema.now fs (operation_of operation.now))) }
 {
     match operation.kind {
         Kind::Query => Ok(()),
@@ -121,7 +121,7 @@ fn note_keys<'a>(
     selections: &'a Selections,
 ) -> Result<(), NoMemory>
     ensures { (fs : List sites.FragmentAt) → IsOf schema.now root.now fs found.now
-        → OnOk result (least.new.at ≡ noted least.old.at (rules.many_keys schema.now fs selections.now (Some root.now) (option_map name_of name.now))) }
+        → OnOk result (least.new.at ≡ least_from least.old.at (rules.many_keys schema.now fs selections.now (Some root.now) (option_map name_of name.now))) }
 {
     match name {
         Some(name) => {

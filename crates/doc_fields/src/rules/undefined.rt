@@ -3,7 +3,7 @@
 //! selection `{ me { nam } }` breaks it at `nam`.
 ghost use Rattle.std.specs.Prelude.{◌≡◌, Some, map, option_copied};
 ghost use Rattle.schema_types.specs.FieldRules as rules;
-ghost use Rattle.gql_graph.specs.Leasts.{noted};
+ghost use Rattle.gql_graph.specs.Leasts.{least_from};
 ghost use Rattle.gql_graph.specs.Rules.{each};
 ghost use Rattle.schema_types.specs.Sites.{field_type};
 ghost use Rattle.doc_sites.specs.SitesView.{definition_of, site_of};
@@ -16,7 +16,7 @@ use schema_types::Schema;
 /// V7: a field is defined on its type (GraphQL, October 2021, section 5.3.1); `__typename` is defined
 /// on each object, interface and union (section 4.1).
 pub(crate) fn fields_undefined(schema: &Schema, least: &mut Least, definitions: &[DefinitionAt<'_>])
-    ensures { least.new.at ≡ noted least.old.at (rules.fields_undefined schema.now (map definition_of definitions.now)) }
+    ensures { least.new.at ≡ least_from least.old.at (rules.fields_undefined schema.now (map definition_of definitions.now)) }
 {
     'definitions: for definition in definitions {
         note_undefined_in(schema, least, definition.sites());
@@ -25,7 +25,7 @@ pub(crate) fn fields_undefined(schema: &Schema, least: &mut Least, definitions: 
 
 /// The fields of these selections that are not defined.
 fn note_undefined_in(schema: &Schema, least: &mut Least, sites: &[Site<'_>])
-    ensures { least.new.at ≡ noted least.old.at (each (rules.undefined_at schema.now) (map site_of sites.now)) }
+    ensures { least.new.at ≡ least_from least.old.at (each (rules.undefined_at schema.now) (map site_of sites.now)) }
 {
     'sites: for site in sites {
         note_undefined(schema, least, site);
@@ -34,7 +34,7 @@ fn note_undefined_in(schema: &Schema, least: &mut Least, sites: &[Site<'_>])
 
 /// A field that is not defined.
 fn note_undefined(schema: &Schema, least: &mut Least, site: &Site<'_>)
-    ensures { least.new.at ≡ noted least.old.at (rules.undefined_at schema.now (site_of site.now)) }
+    ensures { least.new.at ≡ least_from least.old.at (rules.undefined_at schema.now (site_of site.now)) }
 {
     match site {
         Site::Field { around, name, .. } => {

@@ -3,7 +3,7 @@
 ghost use Rattle.std.specs.Prelude.{◌≡◌, map, OnOk};
 ghost use Rattle.std.specs.List.{filter_map};
 ghost use Rattle.doc_sites.specs.SitesView.{definition_of, site_of};
-ghost use Rattle.gql_graph.specs.Leasts.{noted};
+ghost use Rattle.gql_graph.specs.Leasts.{least_from};
 ghost use Rattle.schema_trees.specs.LocatedView.{name_of};
 ghost use Rattle.schema_types.specs.NameRules as names;
 ghost use Rattle.schema_rules.specs.Rules as rules;
@@ -23,7 +23,7 @@ pub(crate) fn conditions_wrong(
     least: &mut Least,
     definitions: &[DefinitionAt<'_>],
 ) -> Result<(), NoMemory>
-    ensures { OnOk result (least.new.at ≡ noted least.old.at (names.conditions_wrong schema.now (map definition_of definitions.now))) }
+    ensures { OnOk result (least.new.at ≡ least_from least.old.at (names.conditions_wrong schema.now (map definition_of definitions.now))) }
 {
     'definitions: for definition in definitions {
         note_conditions_in(alloc, schema, least, definition)?;
@@ -39,7 +39,7 @@ fn note_conditions_in(
     least: &mut Least,
     definition: &DefinitionAt<'_>,
 ) -> Result<(), NoMemory>
-    ensures { OnOk result (least.new.at ≡ noted least.old.at (rules.each (names.not_composite schema.now) (names.conditions_in (definition_of definition.now)))) }
+    ensures { OnOk result (least.new.at ≡ least_from least.old.at (rules.each (names.not_composite schema.now) (names.conditions_in (definition_of definition.now)))) }
 {
     match definition {
         DefinitionAt::Operation(operation) => {
@@ -59,7 +59,7 @@ fn note_conditions_at(
     least: &mut Least,
     sites: &[Site<'_>],
 ) -> Result<(), NoMemory>
-    ensures { OnOk result (least.new.at ≡ noted least.old.at (rules.each (names.not_composite schema.now) (filter_map names.condition_at (map site_of sites.now)))) }
+    ensures { OnOk result (least.new.at ≡ least_from least.old.at (rules.each (names.not_composite schema.now) (filter_map names.condition_at (map site_of sites.now)))) }
 {
     let conditions = conditions_at(alloc, sites)?;
     note_each_not_composite(schema, least, &conditions);
@@ -68,7 +68,7 @@ fn note_conditions_at(
 
 /// Names of no such type.
 fn note_each_not_composite(schema: &Schema, least: &mut Least, conditions: &[NameAt<'_>])
-    ensures { least.new.at ≡ noted least.old.at (rules.each (names.not_composite schema.now) (map name_of conditions.now)) }
+    ensures { least.new.at ≡ least_from least.old.at (rules.each (names.not_composite schema.now) (map name_of conditions.now)) }
 {
     'conditions: for name in conditions {
         note_not_composite(schema, least, name);
@@ -77,7 +77,7 @@ fn note_each_not_composite(schema: &Schema, least: &mut Least, conditions: &[Nam
 
 /// A name, where it is that of no such type.
 fn note_not_composite(schema: &Schema, least: &mut Least, name: &NameAt<'_>)
-    ensures { least.new.at ≡ noted least.old.at (names.not_composite schema.now (name_of name.now)) }
+    ensures { least.new.at ≡ least_from least.old.at (names.not_composite schema.now (name_of name.now)) }
 {
     least.note_if(!schema.is_composite(name.name), name.at);
 }

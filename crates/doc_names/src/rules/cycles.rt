@@ -4,10 +4,10 @@
 //! A spread whose fragment has a lower rank than the one in which it stands does not lead back. The
 //! others are searched from in text order, until one leads back: where the ranks are those of the
 //! components, that is the first.
-ghost use Rattle.std.specs.Prelude.{◌≡◌, ◌++◌, length, map, List, IfOk, OnOk};
+ghost use Rattle.std.specs.Prelude.{◌≡◌, length, map, List, OnOk};
 ghost use Rattle.doc_sites.specs.SitesView.{definition_of, fragment_of};
-ghost use Rattle.gql_graph.specs.Graphs.{Holds, Tells};
-ghost use Rattle.gql_graph.specs.Leasts.{noted};
+ghost use Rattle.gql_graph.specs.Graphs.{Tells};
+ghost use Rattle.gql_graph.specs.Leasts.{least_from};
 ghost use Rattle.schema_trees.specs.LocatedView.{name_of};
 ghost use Rattle.schema_types.specs.NameRules as names;
 ghost use Rattle.gql_graph.specs.Reached.{leads};
@@ -15,11 +15,10 @@ ghost use Rattle.schema_rules.specs.Rules as rules;
 ghost use Rattle.schema_types.specs.Sites as sites;
 ghost use Rattle.gql_graph.specs.Texts.{Text};
 ghost use Rattle.doc_names.specs.Cycles.{leading_back, leads_back_in};
-ghost use Rattle.doc_sites.specs.Definitions.{on_fragment, spreading};
+ghost use Rattle.doc_sites.specs.Definitions.{on_fragment};
 ghost use Rattle.gql_graph.specs.Ranks.{rank_in, NeverRises};
 
-use crate::named::{fragment_names, spread_names, spreads_at};
-use doc_sites::{DefinitionAt, FragmentAt};
+use doc_sites::{DefinitionAt, FragmentAt, count_fragments, spread_graph, spreads_at};
 use gql_graph::graph::Graph;
 use gql_graph::least::Least;
 use gql_graph::ranks::Ranks;
@@ -33,7 +32,7 @@ pub(crate) fn spreads_on_cycles(
     least: &mut Least,
     definitions: &[DefinitionAt<'_>],
 ) -> Result<(), NoMemory>
-    ensures { OnOk result (least.new.at ≡ noted least.old.at (names.spreads_on_cycles (map definition_of definitions.now))) }
+    ensures { OnOk result (least.new.at ≡ least_from least.old.at (names.spreads_on_cycles (map definition_of definitions.now))) }
 {
     let graph = spread_graph(alloc, definitions)?;
     let ranks = Ranks::of(alloc, &graph)?;
@@ -42,43 +41,6 @@ pub(crate) fn spreads_on_cycles(
         note_cycles_in(alloc, &graph, steps, &ranks, least, definition)?;
     }
     Ok(())
-}
-
-/// How many fragments there are.
-fn count_fragments(alloc: Global, definitions: &[DefinitionAt<'_>]) -> Result<usize, NoMemory>
-    ensures { IfOk result (λ count. count ≡ length (names.fragments (map definition_of definitions.now))) }
-{
-    let names = fragment_names(alloc, definitions)?;
-    Ok(names.len())
-}
-
-/// The fragments, each with those that it spreads.
-fn spread_graph<'t>(alloc: Global, definitions: &[DefinitionAt<'t>]) -> Result<Graph<'t>, NoMemory>
-    ensures { IfOk result (λ graph. Tells graph (names.spread_by (names.fragments (map definition_of definitions.now)))) }
-{
-    let mut graph = Graph::new(alloc);
-    'definitions: for definition in definitions {
-        put_spreads(alloc, &mut graph, definition)?;
-    }
-    Ok(graph)
-}
-
-/// Puts a fragment with those that it spreads.
-fn put_spreads<'t>(
-    alloc: Global,
-    graph: &mut Graph<'t>,
-    definition: &DefinitionAt<'t>,
-) -> Result<(), NoMemory>
-    ensures { (pairs : List (Text × List Text)) → Holds graph.old pairs
-        → OnOk result (Holds graph.new (pairs ++ spreading (definition_of definition.now))) }
-{
-    match definition {
-        DefinitionAt::Operation(_) => Ok(()),
-        DefinitionAt::Fragment(fragment) => {
-            let next = spread_names(alloc, &fragment.sites)?;
-            graph.put(fragment.name.name, next)
-        }
-    }
 }
 
 /// Spreads in a definition that lead back to it.
@@ -91,7 +53,7 @@ fn note_cycles_in<'t>(
     definition: &DefinitionAt<'t>,
 ) -> Result<(), NoMemory>
     ensures { (fs : List sites.FragmentAt) → Tells graph.now (names.spread_by fs) → steps ≡ length fs → NeverRises (rank_in ranks.now) (names.spread_by fs)
-        → OnOk result (least.new.at ≡ noted least.old.at (on_fragment (leads_back_in fs) (definition_of definition.now))) }
+        → OnOk result (least.new.at ≡ least_from least.old.at (on_fragment (leads_back_in fs) (definition_of definition.now))) }
 {
     match definition {
         DefinitionAt::Operation(_) => Ok(()),
@@ -111,7 +73,7 @@ fn note_cycles_of<'t>(
     fragment: &FragmentAt<'t>,
 ) -> Result<(), NoMemory>
     ensures { (next : Text → List Text) → Tells graph.now next → NeverRises (rank_in ranks.now) next
-        → OnOk result (least.new.at ≡ noted least.old.at (leading_back next steps (fragment_of fragment.now).name.name (names.spreads_in (fragment_of fragment.now).sites))) }
+        → OnOk result (least.new.at ≡ least_from least.old.at (leading_back next steps (fragment_of fragment.now).name.name (names.spreads_in (fragment_of fragment.now).sites))) }
 {
     let spreads = spreads_at(alloc, &fragment.sites)?;
     note_leading_back(
@@ -136,7 +98,7 @@ fn note_leading_back<'t>(
     spreads: &[NameAt<'t>],
 ) -> Result<(), NoMemory>
     ensures { (next : Text → List Text) → Tells graph.now next → NeverRises (rank_in ranks.now) next
-        → OnOk result (least.new.at ≡ noted least.old.at (leading_back next steps to.now (map name_of spreads.now))) }
+        → OnOk result (least.new.at ≡ least_from least.old.at (leading_back next steps to.now (map name_of spreads.now))) }
 {
     'spreads: for spread in spreads {
         note_if_leads(alloc, graph, steps, ranks, least, to, spread)?;
@@ -156,7 +118,7 @@ fn note_if_leads<'t>(
     spread: &NameAt<'t>,
 ) -> Result<(), NoMemory>
     ensures { (next : Text → List Text) → Tells graph.now next → NeverRises (rank_in ranks.now) next
-        → OnOk result (least.new.at ≡ noted least.old.at (rules.wrong (leads next steps spread.now.name.now to.now) spread.now.at)) }
+        → OnOk result (least.new.at ≡ least_from least.old.at (rules.wrong (leads next steps spread.now.name.now to.now) spread.now.at)) }
 {
     if least.is_at_most(spread.at) {
         return Ok(());

@@ -2,7 +2,7 @@
 //! `fragment F on User { name } fragment F on User { id }` breaks it at the second `F`.
 ghost use Rattle.std.specs.Prelude.{◌≡◌, map, OnOk};
 ghost use Rattle.doc_sites.specs.SitesView.{definition_of};
-ghost use Rattle.gql_graph.specs.Leasts.{noted};
+ghost use Rattle.gql_graph.specs.Leasts.{least_from};
 ghost use Rattle.schema_types.specs.NameRules as names;
 
 use crate::named::fragment_names;
@@ -18,7 +18,7 @@ pub(crate) fn fragments_not_unique(
     least: &mut Least,
     definitions: &[DefinitionAt<'_>],
 ) -> Result<(), NoMemory>
-    ensures { OnOk result (least.new.at ≡ noted least.old.at (names.fragments_not_unique (map definition_of definitions.now))) }
+    ensures { OnOk result (least.new.at ≡ least_from least.old.at (names.fragments_not_unique (map definition_of definitions.now))) }
 {
     let names = fragment_names(alloc, definitions)?;
     note_repeated(alloc, least, &names)

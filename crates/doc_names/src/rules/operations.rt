@@ -4,7 +4,7 @@
 //! at its first token.
 ghost use Rattle.std.specs.Prelude.{◌≡◌, map, OnOk};
 ghost use Rattle.doc_sites.specs.SitesView.{definition_of, operation_of};
-ghost use Rattle.gql_graph.specs.Leasts.{noted};
+ghost use Rattle.gql_graph.specs.Leasts.{least_from};
 ghost use Rattle.schema_types.specs.NameRules as names;
 ghost use Rattle.schema_rules.specs.Rules as rules;
 ghost use Rattle.doc_sites.specs.Definitions.{on_operation};
@@ -23,7 +23,7 @@ pub(crate) fn operations_not_named(
     least: &mut Least,
     definitions: &[DefinitionAt<'_>],
 ) -> Result<(), NoMemory>
-    ensures { OnOk result (least.new.at ≡ noted least.old.at (names.operations_not_named (map definition_of definitions.now))) }
+    ensures { OnOk result (least.new.at ≡ least_from least.old.at (names.operations_not_named (map definition_of definitions.now))) }
 {
     note_without_names(least, definitions);
     let names = operation_names(alloc, definitions)?;
@@ -32,7 +32,7 @@ pub(crate) fn operations_not_named(
 
 /// Operations without a name.
 fn note_without_names(least: &mut Least, definitions: &[DefinitionAt<'_>])
-    ensures { least.new.at ≡ noted least.old.at (rules.each names.without_name (names.operations (map definition_of definitions.now))) }
+    ensures { least.new.at ≡ least_from least.old.at (rules.each names.without_name (names.operations (map definition_of definitions.now))) }
 {
     'definitions: for definition in definitions {
         note_without_name_in(least, definition);
@@ -41,7 +41,7 @@ fn note_without_names(least: &mut Least, definitions: &[DefinitionAt<'_>])
 
 /// A definition, where it is an operation without a name.
 fn note_without_name_in(least: &mut Least, definition: &DefinitionAt<'_>)
-    ensures { least.new.at ≡ noted least.old.at (on_operation names.without_name (definition_of definition.now)) }
+    ensures { least.new.at ≡ least_from least.old.at (on_operation names.without_name (definition_of definition.now)) }
 {
     match definition {
         DefinitionAt::Operation(operation) => note_without_name(least, operation),
@@ -51,7 +51,7 @@ fn note_without_name_in(least: &mut Least, definition: &DefinitionAt<'_>)
 
 /// An operation, where it has no name.
 fn note_without_name(least: &mut Least, operation: &OperationAt<'_>)
-    ensures { least.new.at ≡ noted least.old.at (names.without_name (operation_of operation.now)) }
+    ensures { least.new.at ≡ least_from least.old.at (names.without_name (operation_of operation.now)) }
 {
     match operation.name {
         Some(_) => {}

@@ -2,7 +2,7 @@
 //! exists. `mutation M { rename }` breaks it at `M` where the schema has no mutation type.
 ghost use Rattle.std.specs.Prelude.{◌≡◌, map, is_some};
 ghost use Rattle.doc_sites.specs.SitesView.{definition_of, operation_of};
-ghost use Rattle.gql_graph.specs.Leasts.{noted};
+ghost use Rattle.gql_graph.specs.Leasts.{least_from};
 ghost use Rattle.schema_types.specs.NameRules as names;
 ghost use Rattle.schema_tables.specs.Types as types;
 ghost use Rattle.doc_sites.specs.Definitions.{on_operation};
@@ -14,7 +14,7 @@ use schema_types::Schema;
 
 /// Operations of kinds that the schema has no root for, by their names.
 pub(crate) fn roots_missing(schema: &Schema, least: &mut Least, definitions: &[DefinitionAt<'_>])
-    ensures { least.new.at ≡ noted least.old.at (names.roots_missing schema.now (map definition_of definitions.now)) }
+    ensures { least.new.at ≡ least_from least.old.at (names.roots_missing schema.now (map definition_of definitions.now)) }
 {
     'definitions: for definition in definitions {
         note_without_root_in(schema, least, definition);
@@ -23,7 +23,7 @@ pub(crate) fn roots_missing(schema: &Schema, least: &mut Least, definitions: &[D
 
 /// A definition, where it is an operation that has a name and no root.
 fn note_without_root_in(schema: &Schema, least: &mut Least, definition: &DefinitionAt<'_>)
-    ensures { least.new.at ≡ noted least.old.at (on_operation (λ o. names.without_root schema.now o o.name) (definition_of definition.now)) }
+    ensures { least.new.at ≡ least_from least.old.at (on_operation (λ o. names.without_root schema.now o o.name) (definition_of definition.now)) }
 {
     match definition {
         DefinitionAt::Operation(operation) => note_without_root(schema, least, operation),
@@ -33,7 +33,7 @@ fn note_without_root_in(schema: &Schema, least: &mut Least, definition: &Definit
 
 /// An operation, where it has a name and no root.
 fn note_without_root(schema: &Schema, least: &mut Least, operation: &OperationAt<'_>)
-    ensures { least.new.at ≡ noted least.old.at (names.without_root schema.now (operation_of operation.now) (operation_of operation.now).name) }
+    ensures { least.new.at ≡ least_from least.old.at (names.without_root schema.now (operation_of operation.now) (operation_of operation.now).name) }
 {
     match &operation.name {
         Some(name) => least.note_if(!has_root(schema, operation.kind), name.at),

@@ -2,15 +2,15 @@
 //! defined. `{ me { ...F } }` without a fragment F breaks it at `F`.
 ghost use Rattle.std.specs.Prelude.{◌≡◌, map, List, IfOk, OnOk};
 ghost use Rattle.doc_sites.specs.SitesView.{definition_of};
-ghost use Rattle.gql_graph.specs.Leasts.{noted};
+ghost use Rattle.gql_graph.specs.Leasts.{least_from};
 ghost use Rattle.schema_trees.specs.LocatedView.{name_of};
 ghost use Rattle.schema_types.specs.NameRules as names;
 ghost use Rattle.schema_rules.specs.Rules as rules;
 ghost use Rattle.gql_graph.specs.Seen.{Knows};
 ghost use Rattle.gql_graph.specs.Texts.{Text};
 
-use crate::named::{fragment_names, spreads_at};
-use doc_sites::DefinitionAt;
+use crate::named::fragment_names;
+use doc_sites::{DefinitionAt, spreads_at};
 use gql_graph::least::Least;
 use gql_graph::seen::Seen;
 use gql_plain::NoMemory;
@@ -24,7 +24,7 @@ pub(crate) fn fragments_not_there(
     least: &mut Least,
     definitions: &[DefinitionAt<'_>],
 ) -> Result<(), NoMemory>
-    ensures { OnOk result (least.new.at ≡ noted least.old.at (names.fragments_not_there (map definition_of definitions.now))) }
+    ensures { OnOk result (least.new.at ≡ least_from least.old.at (names.fragments_not_there (map definition_of definitions.now))) }
 {
     let there = names_there(alloc, definitions)?;
     'definitions: for definition in definitions {
@@ -49,7 +49,7 @@ fn note_not_there_in(
     definition: &DefinitionAt<'_>,
 ) -> Result<(), NoMemory>
     ensures { (ns : List Text) → Knows there.now.names ns
-        → OnOk result (least.new.at ≡ noted least.old.at (rules.each (names.not_there ns) (names.spreads_in (names.sites_of (definition_of definition.now))))) }
+        → OnOk result (least.new.at ≡ least_from least.old.at (rules.each (names.not_there ns) (names.spreads_in (names.sites_of (definition_of definition.now))))) }
 {
     let spreads = spreads_at(alloc, definition.sites())?;
     note_not_there(there, least, &spreads);
@@ -59,7 +59,7 @@ fn note_not_there_in(
 /// Names of no fragment.
 fn note_not_there(there: &Seen<'_>, least: &mut Least, spreads: &[NameAt<'_>])
     ensures { (ns : List Text) → Knows there.now.names ns
-        → least.new.at ≡ noted least.old.at (rules.each (names.not_there ns) (map name_of spreads.now)) }
+        → least.new.at ≡ least_from least.old.at (rules.each (names.not_there ns) (map name_of spreads.now)) }
 {
     'spreads: for spread in spreads {
         least.note_if(!there.contains(spread.name), spread.at);

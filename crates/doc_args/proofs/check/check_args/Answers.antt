@@ -1,14 +1,7 @@
--- The first rule that is not met, or none.
-use Rattle.std.proofs.Common.{sym, ◌∙◌}
+-- The definitions are those of the documents.
+use Rattle.std.proofs.Common.{map, ap, ◌∙◌}
+use Rattle.doc_sites.specs.SitesView.{definition_of}
 use Rattle.doc_args.proofs.check.check_args.Goals as goal
 
-pub returns-in-Some-clause-fault : goal.returns-in-Some-clause-fault
-returns-in-Some-clause-fault c = record {
-  rule = c.in-Some.rule;
-  node = c.in-Some.at;
-  first = sym c.in_ok-rule.ensures ∙ c.in-Some.is;
-  fault = c.fault_at.ensures;
-}
-
-pub returns-in-None-clause-met : goal.returns-in-None-clause-met
-returns-in-None-clause-met c = sym c.in_ok-rule.ensures ∙ c.in-None.is
+pub check_args_of-requires : goal.check_args_of-requires
+check_args_of-requires c = ap (map definition_of) c.deref.ensures.value ∙ c.in_ok-definitions.ensures

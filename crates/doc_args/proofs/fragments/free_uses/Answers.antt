@@ -2,7 +2,7 @@
 use Rattle.std.proofs.Common.{arith}
 use Rattle.doc_args.specs.Parts.{free_use}
 use Rattle.doc_args.specs.UseView.{use_of}
-use Rattle.doc_args.proofs.Steps.{collect_next, collect_end}
+use Rattle.doc_sites.proofs.ListSteps.{collect_next, collect_end}
 use Rattle.doc_args.proofs.fragments.free_uses.Goals as goal
 
 pub uses-preserved : goal.uses-preserved

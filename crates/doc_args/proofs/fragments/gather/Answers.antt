@@ -2,7 +2,8 @@
 use Rattle.std.proofs.Common.{[], ◌++◌, map, refl, ◌∙◌, arith}
 use Rattle.doc_sites.specs.SitesView.{definition_of}
 use Rattle.doc_args.specs.UsesByName.{named_in}
-use Rattle.doc_args.proofs.Steps.{collect_next, collect_end, gathered_all}
+use Rattle.doc_sites.proofs.ListSteps.{collect_next, collect_end}
+use Rattle.doc_args.proofs.Steps.{gathered_all}
 use Rattle.doc_args.proofs.fragments.gather.Goals as goal
 
 pub definitions-init : goal.definitions-init

@@ -3,7 +3,7 @@ use Rattle.std.proofs.Common.{◌<◌, ap, ◌∙◌, arith}
 use Rattle.gql_ast.specs.Sels.{depth}
 use Rattle.doc_sites.specs.Firsts.{inside}
 use Rattle.doc_sites.proofs.SiteSteps.{inside_below}
-use Rattle.doc_fields.specs.Keys.{Sum, joined, keys_view}
+use Rattle.doc_fields.specs.Keys.{Sum, join_sums, keys_view}
 use Rattle.doc_fields.proofs.Sums.{keys_next, keys_end}
 use Rattle.doc_fields.proofs.keys.+keys.Goals as goal
 
@@ -17,7 +17,7 @@ pub keys_in-selections-preserved : goal.keys_in-selections-preserved
 keys_in-selections-preserved t c = (
   c.selections.invariant.0,
   keys_next c.args.schema.now c.args.root.now _ c.selections.selection-index c.selection-item.result _ _ _
-      (omega arith) c.selection-item.is (c.and-keys.ensures ∙ ap (λ (s : Sum). joined (keys_view c.selections.keys) s) c.keys_at-more.ensures) c.selections.invariant.1,
+      (omega arith) c.selection-item.is (c.and-keys.ensures ∙ ap (λ (s : Sum). join_sums (keys_view c.selections.keys) s) c.keys_at-more.ensures) c.selections.invariant.1,
 )
 
 pub keys_in-returns : goal.keys_in-returns

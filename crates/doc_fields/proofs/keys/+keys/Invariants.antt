@@ -4,7 +4,7 @@ use Rattle.gql_ast.specs.SelectionView.{sels_of}
 use Rattle.gql_ast.specs.Sels.{depth}
 use Rattle.schema_types.specs.FieldRules as rules
 use Rattle.doc_sites.specs.Firsts.{inside}
-use Rattle.doc_fields.specs.Keys.{joined, keys_view, sum_of}
+use Rattle.doc_fields.specs.Keys.{join_sums, keys_view, sum_of}
 use Rattle.doc_fields.proofs.keys.+keys.Given as goal
 
 abbrev pub decreases-keys_in : goal.decreases-keys_in
@@ -16,4 +16,4 @@ decreases-keys_at l = 2 * depth (inside l.selection.now) + 2
 abbrev pub invariant-keys_in-selections : goal.invariant-keys_in-selections
 invariant-keys_in-selections l =
     (sels_of l.selection-items ≡ l.selections)
-    × (joined (keys_view l.keys) (sum_of (rules.keys_in l.schema l.root (sels_of (drop l.selection-index l.selection-items)))) ≡ sum_of (rules.keys_in l.schema l.root l.selections))
+    × (join_sums (keys_view l.keys) (sum_of (rules.keys_in l.schema l.root (sels_of (drop l.selection-index l.selection-items)))) ≡ sum_of (rules.keys_in l.schema l.root l.selections))

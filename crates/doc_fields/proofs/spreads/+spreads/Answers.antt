@@ -6,7 +6,7 @@ use Rattle.doc_sites.specs.Firsts.{inside}
 use Rattle.doc_sites.proofs.SiteSteps.{inside_below}
 use Rattle.doc_fields.specs.Keys.{spreads_at}
 use Rattle.doc_fields.proofs.RootKeys.{spreads_law}
-use Rattle.doc_fields.proofs.Steps.{walked}
+use Rattle.doc_fields.proofs.Steps.{walks}
 use Rattle.doc_fields.proofs.spreads.+spreads.Goals as goal
 
 pub put_spreads-put_spreads_of-requires : goal.put_spreads-put_spreads_of-requires
@@ -18,6 +18,6 @@ put_spreads-put_spreads_of-requires t c =
 pub put_spreads-selections-preserved : goal.put_spreads-selections-preserved
 put_spreads-selections-preserved t c = (
   c.selections.invariant.0,
-  walked (spreads_at_root c.args.schema.now c.args.root.now) (spreads_at c.args.schema.now c.args.root.now) (spreads_law c.args.schema.now c.args.root.now) _ c.selections.selection-index c.selection-item.result _ _ _
+  walks (spreads_at_root c.args.schema.now c.args.root.now) (spreads_at c.args.schema.now c.args.root.now) (spreads_law c.args.schema.now c.args.root.now) _ c.selections.selection-index c.selection-item.result _ _ _
       (omega arith) c.selection-item.is c.in_ok-put_spreads_of.ensures c.selections.invariant.1,
 )

@@ -8,7 +8,7 @@ use Rattle.gql_graph.proofs.Graphs.{is_some-map, map_cond}
 use Rattle.doc_args.specs.Needs.{Covers}
 use Rattle.doc_args.specs.UseView.{use_of}
 use Rattle.doc_args.specs.declared.uses.Use.{Use}
-use Rattle.doc_args.proofs.NeedSteps.{summed}
+use Rattle.doc_args.proofs.NeedSteps.{sums}
 use Rattle.doc_args.proofs.needs.Needs.sum_up.Goals as goal
 
 pub returns-then-contains_key : goal.returns-then-contains_key
@@ -31,6 +31,6 @@ returns c = λ next t uses g s.
     let sent : map use_of c.new-all.result.items ++ map use_of c.uses.result.now ≡ uses name =
     ap (λ (us : List Use). map use_of us ++ map use_of c.uses.result.now) c.new-all.ensures.items ∙ c.uses.ensures uses g in
     let own : Covers all (uses name) = subst (λ (us : List rules.Use). Covers all us) sent (λ vs o e. put vs o (below.0 vs o e)) in
-    summed c.args.self.now (record { by_name = c.insert.new.self }) name all next uses s (is_some-map _ _ ∙ sym c.contains_key.ensures ∙ c.if-contains_key.false)
+    sums c.args.self.now (record { by_name = c.insert.new.self }) name all next uses s (is_some-map _ _ ∙ sym c.contains_key.ensures ∙ c.if-contains_key.false)
     (λ n. ap (option_map (λ (us : Vec Use Global). map use_of us.items)) (btree_map_updates_str name c.args.self.now.by_name c.insert.new.self _ c.in_ok-insert.ensures.updates n) ∙ map_cond _ _ _ _)
     own (λ m h. below.1 m (ap (λ (l : List Text). has_text l m) (c.next.ensures next t) ∙ h))

@@ -16,4 +16,4 @@ unfolding none
 names-preserved c =
     each_next name_of (rules.not_taken (rules.inputs c.args.inputs.now)) c.args.names.now c.names.name-index (get_or c.args.names.now c.names.name-index none) _ _ _ (omega arith)
     (get_or_own c.args.names.now c.names.name-index none (omega arith))
-    (noted_if_not _ _ c.has.result _ _ c.note_if.ensures (c.has.ensures c.args.inputs.now c.in_ok-table.ensures)) c.names.invariant
+    (noted_if_not _ _ c.has_input.result _ _ c.note_if.ensures c.has_input.ensures) c.names.invariant

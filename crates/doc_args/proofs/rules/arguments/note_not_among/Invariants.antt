@@ -2,10 +2,10 @@
 use Rattle.std.proofs.Common.{◌≡◌, map, drop}
 use Rattle.schema_types.specs.ArgumentRules as rules
 use Rattle.gql_graph.specs.Rules.{each}
-use Rattle.gql_graph.specs.Leasts.{noted}
+use Rattle.gql_graph.specs.Leasts.{least_from}
 use Rattle.schema_trees.specs.LocatedView.{name_of}
 use Rattle.doc_args.proofs.rules.arguments.note_not_among.Given as goal
 
 abbrev pub invariant-names : goal.invariant-names
 invariant-names l =
-    noted l.least.at (each (rules.not_taken (rules.inputs l.inputs)) (map name_of (drop l.name-index l.names))) ≡ noted l.initial.least.at (each (rules.not_taken (rules.inputs l.inputs)) (map name_of l.names))
+    least_from l.least.at (each (rules.not_taken (rules.inputs l.inputs)) (map name_of (drop l.name-index l.names))) ≡ least_from l.initial.least.at (each (rules.not_taken (rules.inputs l.inputs)) (map name_of l.names))

@@ -2,10 +2,10 @@
 use Rattle.std.proofs.Common.{◌≡◌, map, drop}
 use Rattle.schema_types.specs.ArgumentRules as rules
 use Rattle.gql_graph.specs.Rules.{each}
-use Rattle.gql_graph.specs.Leasts.{noted}
+use Rattle.gql_graph.specs.Leasts.{least_from}
 use Rattle.doc_sites.specs.SitesView.{site_of}
 use Rattle.doc_args.proofs.rules.directives.note_sites.Given as goal
 
 abbrev pub invariant-sites : goal.invariant-sites
 invariant-sites l =
-    noted l.least.at (each (rules.directed_wrong l.schema) (map rules.directed_at (map site_of (drop l.site-index l.sites)))) ≡ noted l.initial.least.at (each (rules.directed_wrong l.schema) (map rules.directed_at (map site_of l.sites)))
+    least_from l.least.at (each (rules.directed_wrong l.schema) (map rules.directed_at (map site_of (drop l.site-index l.sites)))) ≡ least_from l.initial.least.at (each (rules.directed_wrong l.schema) (map rules.directed_at (map site_of l.sites)))

@@ -2,10 +2,10 @@
 use Rattle.std.proofs.Common.{◌≡◌, map, drop}
 use Rattle.schema_types.specs.ArgumentRules as rules
 use Rattle.gql_graph.specs.Rules.{each}
-use Rattle.gql_graph.specs.Leasts.{noted}
+use Rattle.gql_graph.specs.Leasts.{least_from}
 use Rattle.doc_sites.specs.SitesView.{variable_of}
 use Rattle.doc_args.proofs.rules.directives.note_variables.Given as goal
 
 abbrev pub invariant-variables : goal.invariant-variables
 invariant-variables l =
-    noted l.least.at (each (rules.directed_wrong l.schema) (map rules.directed_variable (map variable_of (drop l.variable-index l.variables)))) ≡ noted l.initial.least.at (each (rules.directed_wrong l.schema) (map rules.directed_variable (map variable_of l.variables)))
+    least_from l.least.at (each (rules.directed_wrong l.schema) (map rules.directed_variable (map variable_of (drop l.variable-index l.variables)))) ≡ least_from l.initial.least.at (each (rules.directed_wrong l.schema) (map rules.directed_variable (map variable_of l.variables)))

@@ -1,11 +1,11 @@
 -- What is noted and what is left are the whole.
 use Rattle.std.proofs.Common.{◌≡◌, map, drop}
 use Rattle.gql_graph.specs.Rules.{each}
-use Rattle.gql_graph.specs.Leasts.{noted}
+use Rattle.gql_graph.specs.Leasts.{least_from}
 use Rattle.doc_sites.specs.SitesView.{variable_of}
 use Rattle.doc_args.specs.Literals.{default_of_unfit}
 use Rattle.doc_args.proofs.rules.literals.note_defaults.Given as goal
 
 abbrev pub invariant-variables : goal.invariant-variables
 invariant-variables l =
-    noted l.least.at (each (default_of_unfit l.schema) (map variable_of (drop l.variable-index l.variables))) ≡ noted l.initial.least.at (each (default_of_unfit l.schema) (map variable_of l.variables))
+    least_from l.least.at (each (default_of_unfit l.schema) (map variable_of (drop l.variable-index l.variables))) ≡ least_from l.initial.least.at (each (default_of_unfit l.schema) (map variable_of l.variables))

@@ -2,10 +2,10 @@
 use Rattle.std.proofs.Common.{◌≡◌, map, drop}
 use Rattle.schema_types.specs.ArgumentRules as rules
 use Rattle.gql_graph.specs.Rules.{each}
-use Rattle.gql_graph.specs.Leasts.{noted}
+use Rattle.gql_graph.specs.Leasts.{least_from}
 use Rattle.doc_args.specs.CallView.{call_of}
 use Rattle.doc_args.proofs.rules.literals.note_unfit_among.Given as goal
 
 abbrev pub invariant-calls : goal.invariant-calls
 invariant-calls l =
-    noted l.least.at (each (rules.arguments_unfit l.schema) (map call_of (drop l.call-index l.calls))) ≡ noted l.initial.least.at (each (rules.arguments_unfit l.schema) (map call_of l.calls))
+    least_from l.least.at (each (rules.arguments_unfit l.schema) (map call_of (drop l.call-index l.calls))) ≡ least_from l.initial.least.at (each (rules.arguments_unfit l.schema) (map call_of l.calls))

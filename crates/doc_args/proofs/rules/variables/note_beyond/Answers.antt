@@ -2,9 +2,9 @@
 use Rattle.std.proofs.Common.{◌≡◌, [], List, length, map, ap, sym, ◌∙◌}
 use Rattle.gql_plain.specs.Order.{has_text}
 use Rattle.schema_types.specs.ArgumentRules as rules
-use Rattle.gql_graph.specs.Leasts.{noted}
+use Rattle.gql_graph.specs.Leasts.{least_from}
 use Rattle.schema_types.specs.NameRules.{spread_by, spreads_in, names_of_all}
-use Rattle.gql_graph.specs.Reached.{reached}
+use Rattle.gql_graph.specs.Reached.{any_leads}
 use Rattle.schema_types.specs.Sites as spec
 use Rattle.gql_graph.specs.Texts.{Text}
 use Rattle.doc_sites.specs.SitesView.{operation_of, site_of}
@@ -32,11 +32,11 @@ returns c = λ fs d t.
     let names : List Text = map (λ (n : Bor Text). n.now) c.as_slice-names.result.now in
     let starts : map (λ (n : Bor Text). n.now) c.deref-3.result.now ≡ names_of_all (spreads_in o.sites) =
     ap (λ (l : List (Bor Text)). map (λ (n : Bor Text). n.now) l) c.deref-3.ensures.value ∙ c.in_ok-starts.ensures ∙ ap (λ (ss : List Site). names_of_all (spreads_in (map site_of ss))) c.deref.ensures.value in
-    let told : (to : Text) → has_text names to ≡ reached (spread_by fs) (length fs) (names_of_all (spreads_in o.sites)) to =
+    let told : (to : Text) → has_text names to ≡ any_leads (spread_by fs) (length fs) (names_of_all (spreads_in o.sites)) to =
     λ to.
     ap (λ (l : List (Bor Text)). has_text (map (λ (n : Bor Text). n.now) l) to) c.as_slice-names.ensures.value ∙ c.in_ok-names.ensures.reached (spread_by fs) d.graph to
-    ∙ ap (λ (ss : List Text). reached (spread_by fs) c.args.known.now.count ss to) starts
-    ∙ ap (λ k. reached (spread_by fs) k (names_of_all (spreads_in o.sites)) to) d.count in
+    ∙ ap (λ (ss : List Text). any_leads (spread_by fs) c.args.known.now.count ss to) starts
+    ∙ ap (λ k. any_leads (spread_by fs) k (names_of_all (spreads_in o.sites)) to) d.count in
     c.note_reached.ensures o.variables t (uses_among c.args.schema.now fs) d.uses
     ∙ by_name (rules.use_wrong o.variables []) c.args.least.now.at names ps
-    ∙ ap (noted c.args.least.now.at) (parts_wrong c.args.schema.now fs o (has_text names) told fs)
+    ∙ ap (least_from c.args.least.now.at) (parts_wrong c.args.schema.now fs o (has_text names) told fs)

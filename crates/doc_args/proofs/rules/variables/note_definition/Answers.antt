@@ -1,13 +1,13 @@
 -- An operation.
 use Rattle.std.proofs.Common.{◌≡◌, OnOk, sym, subst}
 use Rattle.schema_types.specs.ArgumentRules as rules
-use Rattle.gql_graph.specs.Leasts.{noted}
+use Rattle.gql_graph.specs.Leasts.{least_from}
 use Rattle.doc_sites.specs.SitesView.{definition_of}
 use Rattle.doc_sites.specs.declared.site.DefinitionAt.{DefinitionAt}
-use Rattle.doc_args.specs.Parts.{on_operation}
+use Rattle.doc_sites.specs.Definitions.{on_operation}
 use Rattle.doc_args.proofs.rules.variables.note_definition.Goals as goal
 
 pub returns-in-Operation : goal.returns-in-Operation
 returns-in-Operation c = λ fs d.
-    subst (λ (x : DefinitionAt). OnOk c.note_operation.result (c.note_operation.new.least.at ≡ noted c.args.least.now.at (on_operation (rules.variables_of_wrong c.args.schema.now fs) (definition_of x))))
+    subst (λ (x : DefinitionAt). OnOk c.note_operation.result (c.note_operation.new.least.at ≡ least_from c.args.least.now.at (on_operation (rules.variables_of_wrong c.args.schema.now fs) (definition_of x))))
     (sym c.in-Operation.is) (c.note_operation.ensures fs d)

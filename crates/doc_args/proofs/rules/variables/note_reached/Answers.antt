@@ -5,7 +5,8 @@ use Rattle.gql_graph.specs.Rules.{each}
 use Rattle.gql_graph.specs.Texts.{Text}
 use Rattle.schema_rules.proofs.FoundAt.{get_or_own}
 use Rattle.gql_graph.proofs.LeastSteps.{each_next}
-use Rattle.doc_args.proofs.Steps.{each_end, noted_same}
+use Rattle.doc_sites.proofs.ListSteps.{noted_end}
+use Rattle.doc_args.proofs.Steps.{noted_same}
 use Rattle.doc_args.proofs.rules.variables.note_reached.Goals as goal
 use denote.Ref.{Bor}
 
@@ -21,4 +22,4 @@ names-preserved c = λ vs h tells g.
 
 pub returns : goal.returns
 returns c = λ vs h tells g.
-    each_end (λ (n : Bor Text). n.now) (λ n. each (rules.use_wrong vs []) (tells n)) c.args.names.now c.names.name-index _ _ (omega arith) (c.names.invariant vs h tells g)
+    noted_end (λ (n : Bor Text). n.now) (λ n. each (rules.use_wrong vs []) (tells n)) c.args.names.now c.names.name-index _ _ (omega arith) (c.names.invariant vs h tells g)

@@ -4,7 +4,8 @@ use Rattle.schema_types.specs.ArgumentRules as rules
 use Rattle.schema_types.specs.Sites.{VariableAt}
 use Rattle.gql_graph.proofs.LeastSteps.{each_next}
 use Rattle.doc_args.specs.UseView.{place_of, use_of}
-use Rattle.doc_args.proofs.Steps.{each_end, noted_if_not}
+use Rattle.doc_sites.proofs.ListSteps.{noted_end}
+use Rattle.doc_args.proofs.Steps.{noted_if_not}
 use Rattle.doc_args.proofs.rules.variables.note_uses.Goals as goal
 
 pub uses-preserved : goal.uses-preserved
@@ -14,4 +15,4 @@ uses-preserved c = λ vs h.
     (c.is_allowed-is_good.ensures ∙ ap (λ (v : Option VariableAt). rules.is_allowed v (option_map place_of c.one-item.result.place)) (c.find-variable.ensures vs h))) (c.uses.invariant vs h)
 
 pub returns : goal.returns
-returns c = λ vs h. each_end use_of (rules.use_wrong vs []) c.args.uses.now c.uses.one-index _ _ (omega arith) (c.uses.invariant vs h)
+returns c = λ vs h. noted_end use_of (rules.use_wrong vs []) c.args.uses.now c.uses.one-index _ _ (omega arith) (c.uses.invariant vs h)

@@ -1,13 +1,14 @@
 -- One more definition, and all of them.
 use Rattle.std.proofs.Common.{ℕ, List, map, ap, sym, ◌∙◌, arith}
 use Rattle.schema_types.specs.ArgumentRules as rules
-use Rattle.gql_graph.specs.Leasts.{noted}
+use Rattle.gql_graph.specs.Leasts.{least_from}
 use Rattle.schema_types.specs.NameRules.{fragments}
 use Rattle.schema_types.specs.Sites.{FragmentAt}
 use Rattle.gql_graph.proofs.LeastSteps.{each_next}
 use Rattle.doc_sites.specs.SitesView.{definition_of}
-use Rattle.doc_args.specs.Parts.{on_operation}
-use Rattle.doc_args.proofs.Steps.{each_end, over_operations}
+use Rattle.doc_sites.specs.Definitions.{on_operation}
+use Rattle.doc_sites.proofs.DefinitionSteps.{over_operations}
+use Rattle.doc_sites.proofs.ListSteps.{noted_end}
 use Rattle.doc_args.proofs.rules.variables.variables_wrong.Goals as goal
 
 pub definitions-preserved : goal.definitions-preserved
@@ -19,5 +20,5 @@ definitions-preserved c =
 pub returns : goal.returns
 returns c =
     let fs : List FragmentAt = fragments (map definition_of c.args.definitions.now) in
-    each_end definition_of (on_operation (rules.variables_of_wrong c.args.schema.now fs)) c.args.definitions.now c.definitions.definition-index _ _ (omega arith) c.definitions.invariant
-    ∙ sym (ap (λ (places : List ℕ). noted c.args.least.now.at places) (over_operations (rules.variables_of_wrong c.args.schema.now fs) (map definition_of c.args.definitions.now)))
+    noted_end definition_of (on_operation (rules.variables_of_wrong c.args.schema.now fs)) c.args.definitions.now c.definitions.definition-index _ _ (omega arith) c.definitions.invariant
+    ∙ sym (ap (λ (places : List ℕ). least_from c.args.least.now.at places) (over_operations (rules.variables_of_wrong c.args.schema.now fs) (map definition_of c.args.definitions.now)))

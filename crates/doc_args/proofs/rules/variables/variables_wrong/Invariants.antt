@@ -1,14 +1,14 @@
 -- What is noted and what is left are the whole.
 use Rattle.std.proofs.Common.{◌≡◌, map, drop}
 use Rattle.schema_types.specs.ArgumentRules as rules
-use Rattle.gql_graph.specs.Leasts.{noted}
+use Rattle.gql_graph.specs.Leasts.{least_from}
 use Rattle.schema_types.specs.NameRules.{fragments}
 use Rattle.gql_graph.specs.Rules.{each}
 use Rattle.doc_sites.specs.SitesView.{definition_of}
-use Rattle.doc_args.specs.Parts.{on_operation}
+use Rattle.doc_sites.specs.Definitions.{on_operation}
 use Rattle.doc_args.proofs.rules.variables.variables_wrong.Given as goal
 
 abbrev pub invariant-definitions : goal.invariant-definitions
 invariant-definitions l =
-    noted l.least.at (each (on_operation (rules.variables_of_wrong l.schema (fragments (map definition_of l.definitions)))) (map definition_of (drop l.definition-index l.definitions)))
-    ≡ noted l.initial.least.at (each (on_operation (rules.variables_of_wrong l.schema (fragments (map definition_of l.definitions)))) (map definition_of l.definitions))
+    least_from l.least.at (each (on_operation (rules.variables_of_wrong l.schema (fragments (map definition_of l.definitions)))) (map definition_of (drop l.definition-index l.definitions)))
+    ≡ least_from l.initial.least.at (each (on_operation (rules.variables_of_wrong l.schema (fragments (map definition_of l.definitions)))) (map definition_of l.definitions))

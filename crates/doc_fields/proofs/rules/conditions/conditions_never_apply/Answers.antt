@@ -1,13 +1,13 @@
 -- One more definition, and all of them.
 use Rattle.std.proofs.Common.{List, map, refl, ap, ◌∙◌, arith}
 use Rattle.schema_types.specs.FieldRules as rules
-use Rattle.gql_graph.specs.Leasts.{noted}
+use Rattle.gql_graph.specs.Leasts.{least_from}
 use Rattle.schema_types.specs.NameRules.{fragments, sites_of}
 use Rattle.gql_graph.specs.Rules.{each}
 use Rattle.schema_types.specs.Sites.{Site, FragmentAt}
 use Rattle.gql_graph.proofs.LeastSteps.{each_next}
 use Rattle.doc_sites.specs.SitesView.{definition_of}
-use Rattle.doc_fields.proofs.Steps.{noted_all}
+use Rattle.doc_sites.proofs.ListSteps.{noted_end}
 use Rattle.doc_fields.proofs.rules.conditions.conditions_never_apply.Goals as goal
 
 pub definitions-init : goal.definitions-init
@@ -20,10 +20,10 @@ definitions-preserved c =
       c.in_ok-note_never_in.ensures.common s.0,
       each_next definition_of (λ d. each (rules.never_applies_at c.args.schema.now fs) (sites_of d)) c.args.definitions.now c.definitions.definition-index c.definition-item.result
           c.definitions.least.at c.note_never_in.new.least.at _ (omega arith) c.definition-item.is
-          (c.in_ok-note_never_in.ensures.noted fs c.in_ok-conditions.ensures s.0 ∙ ap (λ (ss : List Site). noted c.definitions.least.at (each (rules.never_applies_at c.args.schema.now fs) ss)) c.sites.ensures) s.1,
+          (c.in_ok-note_never_in.ensures.noted fs c.in_ok-conditions.ensures s.0 ∙ ap (λ (ss : List Site). least_from c.definitions.least.at (each (rules.never_applies_at c.args.schema.now fs) ss)) c.sites.ensures) s.1,
     )
 
 pub returns : goal.returns
 returns c =
     let fs : List FragmentAt = fragments (map definition_of c.args.definitions.now) in
-    noted_all definition_of (λ d. each (rules.never_applies_at c.args.schema.now fs) (sites_of d)) c.args.definitions.now c.definitions.definition-index _ _ (omega arith) c.definitions.invariant.1
+    noted_end definition_of (λ d. each (rules.never_applies_at c.args.schema.now fs) (sites_of d)) c.args.definitions.now c.definitions.definition-index _ _ (omega arith) c.definitions.invariant.1

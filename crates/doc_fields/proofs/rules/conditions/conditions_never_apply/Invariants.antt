@@ -1,7 +1,7 @@
 -- What is noted and what is left are the whole.
 use Rattle.std.proofs.Common.{◌≡◌, map, drop}
 use Rattle.schema_types.specs.FieldRules as rules
-use Rattle.gql_graph.specs.Leasts.{noted}
+use Rattle.gql_graph.specs.Leasts.{least_from}
 use Rattle.schema_types.specs.NameRules.{fragments, sites_of}
 use Rattle.gql_graph.specs.Rules.{each}
 use Rattle.doc_sites.specs.SitesView.{definition_of}
@@ -11,5 +11,5 @@ use Rattle.doc_fields.proofs.rules.conditions.conditions_never_apply.Given as go
 abbrev pub invariant-definitions : goal.invariant-definitions
 invariant-definitions l =
     AreCommon l.schema l.common
-    × (noted l.least.at (each (λ d. each (rules.never_applies_at l.schema (fragments (map definition_of l.definitions))) (sites_of d)) (map definition_of (drop l.definition-index l.definitions)))
-    ≡ noted l.initial.least.at (each (λ d. each (rules.never_applies_at l.schema (fragments (map definition_of l.definitions))) (sites_of d)) (map definition_of l.definitions)))
+    × (least_from l.least.at (each (λ d. each (rules.never_applies_at l.schema (fragments (map definition_of l.definitions))) (sites_of d)) (map definition_of (drop l.definition-index l.definitions)))
+    ≡ least_from l.initial.least.at (each (λ d. each (rules.never_applies_at l.schema (fragments (map definition_of l.definitions))) (sites_of d)) (map definition_of l.definitions)))

@@ -3,7 +3,7 @@ use Rattle.std.proofs.Common.{refl, arith}
 use Rattle.schema_types.specs.FieldRules as rules
 use Rattle.gql_graph.proofs.LeastSteps.{each_next}
 use Rattle.doc_sites.specs.SitesView.{site_of}
-use Rattle.doc_fields.proofs.Steps.{noted_all}
+use Rattle.doc_sites.proofs.ListSteps.{noted_end}
 use Rattle.doc_fields.proofs.rules.conditions.note_never_in.Goals as goal
 
 pub sites-init : goal.sites-init
@@ -17,7 +17,7 @@ sites-preserved c = λ common.
     )
 
 pub returns-clause-noted : goal.returns-clause-noted
-returns-clause-noted c = λ fs t common. noted_all site_of (rules.never_applies_at c.args.schema.now fs) c.args.sites.now c.sites.site-index _ _ (omega arith) ((c.sites.invariant common).1 fs t)
+returns-clause-noted c = λ fs t common. noted_end site_of (rules.never_applies_at c.args.schema.now fs) c.args.sites.now c.sites.site-index _ _ (omega arith) ((c.sites.invariant common).1 fs t)
 
 pub returns-clause-common : goal.returns-clause-common
 returns-clause-common c = λ common. (c.sites.invariant common).0

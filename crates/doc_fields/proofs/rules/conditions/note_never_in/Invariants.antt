@@ -2,7 +2,7 @@
 use Rattle.std.proofs.Common.{◌≡◌, List, map, drop}
 use Rattle.schema_types.specs.FieldRules as rules
 use Rattle.gql_graph.specs.Graphs.{Tells}
-use Rattle.gql_graph.specs.Leasts.{noted}
+use Rattle.gql_graph.specs.Leasts.{least_from}
 use Rattle.gql_graph.specs.Rules.{each}
 use Rattle.schema_types.specs.Sites.{FragmentAt}
 use Rattle.doc_sites.specs.SitesView.{site_of}
@@ -14,4 +14,4 @@ abbrev pub invariant-sites : goal.invariant-sites
 invariant-sites l = AreCommon l.schema l.initial.common
     → AreCommon l.schema l.common
     × ((fs : List FragmentAt) → Tells l.conditions (conditions_of fs)
-    → noted l.least.at (each (rules.never_applies_at l.schema fs) (map site_of (drop l.site-index l.sites))) ≡ noted l.initial.least.at (each (rules.never_applies_at l.schema fs) (map site_of l.sites)))
+    → least_from l.least.at (each (rules.never_applies_at l.schema fs) (map site_of (drop l.site-index l.sites))) ≡ least_from l.initial.least.at (each (rules.never_applies_at l.schema fs) (map site_of l.sites)))

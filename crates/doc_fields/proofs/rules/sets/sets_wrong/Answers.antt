@@ -1,7 +1,7 @@
 -- One more definition.
 use Rattle.std.proofs.Common.{List, ap, ◌∙◌, arith}
 use Rattle.schema_types.specs.FieldRules as rules
-use Rattle.gql_graph.specs.Leasts.{noted}
+use Rattle.gql_graph.specs.Leasts.{least_from}
 use Rattle.schema_types.specs.NameRules.{sites_of}
 use Rattle.gql_graph.specs.Rules.{each}
 use Rattle.schema_types.specs.Sites.{Site}
@@ -13,4 +13,4 @@ pub definitions-preserved : goal.definitions-preserved
 definitions-preserved c =
     each_next definition_of (λ d. each (rules.set_wrong_at c.args.schema.now) (sites_of d)) c.args.definitions.now c.definitions.definition-index c.definition-item.result
     c.definitions.least.at c.note_sets_in.new.least.at _ (omega arith) c.definition-item.is
-    (c.note_sets_in.ensures ∙ ap (λ (ss : List Site). noted c.definitions.least.at (each (rules.set_wrong_at c.args.schema.now) ss)) c.sites.ensures) c.definitions.invariant
+    (c.note_sets_in.ensures ∙ ap (λ (ss : List Site). least_from c.definitions.least.at (each (rules.set_wrong_at c.args.schema.now) ss)) c.sites.ensures) c.definitions.invariant

@@ -1,9 +1,9 @@
 -- What is noted and what is left are the whole.
 use Rattle.std.proofs.Common.{◌≡◌, map, drop}
 use Rattle.schema_types.specs.FieldRules as rules
-use Rattle.gql_graph.specs.Leasts.{noted}
+use Rattle.gql_graph.specs.Leasts.{least_from}
 use Rattle.doc_sites.specs.SitesView.{definition_of}
 use Rattle.doc_fields.proofs.rules.sets.sets_wrong.Given as goal
 
 abbrev pub invariant-definitions : goal.invariant-definitions
-invariant-definitions l = noted l.least.at (rules.sets_wrong l.schema (map definition_of (drop l.definition-index l.definitions))) ≡ noted l.initial.least.at (rules.sets_wrong l.schema (map definition_of l.definitions))
+invariant-definitions l = least_from l.least.at (rules.sets_wrong l.schema (map definition_of (drop l.definition-index l.definitions))) ≡ least_from l.initial.least.at (rules.sets_wrong l.schema (map definition_of l.definitions))

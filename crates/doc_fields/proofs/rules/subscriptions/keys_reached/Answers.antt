@@ -1,7 +1,7 @@
 -- What is known of the fragments, and what a search finds.
 use Rattle.std.proofs.Common.{ℕ, List, length, map, ap, ◌∙◌, arith}
 use Rattle.schema_types.specs.FieldRules.{Key}
-use Rattle.gql_graph.specs.Reached.{reached}
+use Rattle.gql_graph.specs.Reached.{any_leads}
 use Rattle.gql_graph.specs.Rules.{each}
 use Rattle.gql_graph.specs.Texts.{Text}
 use Rattle.doc_fields.specs.Heads.{all_of, below, keys_found, keys_of_name}
@@ -28,7 +28,7 @@ returns-in_ok-names-in-None c = λ defs root fs i.
     let starts : List Text = map (λ (n : Bor Text). n.now) c.args.starts.now in
     let names : List Text = map (λ (n : Bor Text). n.now) c.in_ok-names-in-None.names.items in (
       names,
-      λ to. c.in_ok-names-in-None.ensures.reached next i.spreads to ∙ ap (λ (k : ℕ). reached next k starts to) i.count,
+      λ to. c.in_ok-names-in-None.ensures.reached next i.spreads to ∙ ap (λ (k : ℕ). any_leads next k starts to) i.count,
       c.keys_of_each.ensures ∙ ap (λ (ns : List (Bor Text)). all_of (keys_found c.args.found.now.heads) (map (λ (n : Bor Text). n.now) ns)) c.deref.ensures.value
           ∙ all_alike (keys_found c.args.found.now.heads) (λ n. sum_of (keys n)) i.heads names ∙ each_sum keys names,
     )

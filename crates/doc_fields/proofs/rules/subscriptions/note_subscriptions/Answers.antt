@@ -1,7 +1,7 @@
 -- One more definition.
 use Rattle.std.proofs.Common.{ℕ, List, map, ap, sym, arith}
 use Rattle.schema_types.specs.FieldRules as rules
-use Rattle.gql_graph.specs.Leasts.{noted}
+use Rattle.gql_graph.specs.Leasts.{least_from}
 use Rattle.schema_types.specs.NameRules.{fragments}
 use Rattle.schema_types.specs.Sites.{DefinitionAt}
 use Rattle.gql_graph.proofs.LeastSteps.{each_next}
@@ -13,7 +13,7 @@ use Rattle.doc_fields.proofs.rules.subscriptions.note_subscriptions.Goals as goa
 pub definitions-init : goal.definitions-init
 definitions-init c =
     let ds : List DefinitionAt = map definition_of c.args.definitions.now in
-    ap (λ (ns : List ℕ). noted c.args.least.now.at ns) (sym (over_operations (rules.subscription_wrong c.args.schema.now (fragments ds)) ds))
+    ap (λ (ns : List ℕ). least_from c.args.least.now.at ns) (sym (over_operations (rules.subscription_wrong c.args.schema.now (fragments ds)) ds))
 
 pub definitions-preserved : goal.definitions-preserved
 definitions-preserved c =

@@ -1,7 +1,7 @@
 -- What is noted and what is left are the whole.
 use Rattle.std.proofs.Common.{◌≡◌, map, drop}
 use Rattle.schema_types.specs.FieldRules as rules
-use Rattle.gql_graph.specs.Leasts.{noted}
+use Rattle.gql_graph.specs.Leasts.{least_from}
 use Rattle.schema_types.specs.NameRules.{fragments}
 use Rattle.gql_graph.specs.Rules.{each}
 use Rattle.doc_sites.specs.SitesView.{definition_of}
@@ -10,5 +10,5 @@ use Rattle.doc_fields.proofs.rules.subscriptions.note_subscriptions.Given as goa
 
 abbrev pub invariant-definitions : goal.invariant-definitions
 invariant-definitions l =
-    noted l.least.at (each (on_operation (rules.subscription_wrong l.schema (fragments (map definition_of l.definitions)))) (map definition_of (drop l.definition-index l.definitions)))
-    ≡ noted l.initial.least.at (rules.subscriptions_wrong l.schema (map definition_of l.definitions))
+    least_from l.least.at (each (on_operation (rules.subscription_wrong l.schema (fragments (map definition_of l.definitions)))) (map definition_of (drop l.definition-index l.definitions)))
+    ≡ least_from l.initial.least.at (rules.subscriptions_wrong l.schema (map definition_of l.definitions))

@@ -1,7 +1,7 @@
 -- Without a root type nothing is said.
 use Rattle.std.proofs.Common.{◌≡◌, ℕ, List, Option, None, option_copied, map, ap, sym, ◌∙◌}
 use Rattle.gql_ast.specs.declared.document.Kind.TheVariants.{Subscription}
-use Rattle.gql_graph.specs.Leasts.{noted}
+use Rattle.gql_graph.specs.Leasts.{least_from}
 use Rattle.schema_types.specs.NameRules.{fragments, operations}
 use Rattle.schema_types.specs.Sites.{DefinitionAt}
 use Rattle.schema_tables.specs.Types.{Text, root}
@@ -14,4 +14,4 @@ pub returns-in-None : goal.returns-in-None
 returns-in-None c =
     let ds : List DefinitionAt = map definition_of c.args.definitions.now in
     let none : root c.args.schema.now Subscription ≡ None = sym c.root.ensures ∙ ap (λ (o : Option (Bor Text)). option_copied o) c.in-None.is in
-    sym (ap (λ (ns : List ℕ). noted c.args.least.now.at ns) (no_root c.args.schema.now (fragments ds) (operations ds) none))
+    sym (ap (λ (ns : List ℕ). least_from c.args.least.now.at ns) (no_root c.args.schema.now (fragments ds) (operations ds) none))

@@ -1,10 +1,10 @@
 -- What is noted and what is left are the whole.
 use Rattle.std.proofs.Common.{◌≡◌, map, drop}
-use Rattle.gql_graph.specs.Leasts.{noted}
+use Rattle.gql_graph.specs.Leasts.{least_from}
 use Rattle.schema_trees.specs.LocatedView.{name_of}
 use Rattle.schema_types.specs.NameRules.{not_composite}
 use Rattle.gql_graph.specs.Rules.{each}
 use Rattle.doc_names.proofs.rules.conditions.note_each_not_composite.Given as goal
 
 abbrev pub invariant-conditions : goal.invariant-conditions
-invariant-conditions l = noted l.least.at (each (not_composite l.schema) (map name_of (drop l.name-index l.conditions))) ≡ noted l.initial.least.at (each (not_composite l.schema) (map name_of l.conditions))
+invariant-conditions l = least_from l.least.at (each (not_composite l.schema) (map name_of (drop l.name-index l.conditions))) ≡ least_from l.initial.least.at (each (not_composite l.schema) (map name_of l.conditions))

@@ -2,7 +2,7 @@
 use Rattle.std.proofs.Common.{◌≡◌, OnOk, List, map, ap, subst, ◌∙◌}
 use Rattle.doc_sites.specs.SitesView.{fragment_of, site_of}
 use Rattle.doc_sites.specs.declared.site.Site.{Site}
-use Rattle.gql_graph.specs.Leasts.{noted}
+use Rattle.gql_graph.specs.Leasts.{least_from}
 use Rattle.schema_trees.specs.LocatedView.{name_of}
 use Rattle.schema_trees.specs.Located.{Located}
 use Rattle.schema_types.specs.NameRules.{spreads_in}
@@ -16,4 +16,4 @@ returns c = λ next t s.
     let ss : List Located = spreads_in (fragment_of c.args.fragment.now).sites in
     let same : map name_of c.deref-2.result.now ≡ ss =
     ap (map name_of) c.deref-2.ensures.value ∙ c.in_ok-spreads.ensures ∙ ap (λ (sites : List Site). spreads_in (map site_of sites)) c.deref.ensures.value in
-    subst (λ (ms : List Located). OnOk c.note_leading_back.result (c.note_leading_back.new.least.at ≡ noted c.args.least.now.at (leading_back next c.args.steps n ms))) same (c.note_leading_back.ensures next t s)
+    subst (λ (ms : List Located). OnOk c.note_leading_back.result (c.note_leading_back.new.least.at ≡ least_from c.args.least.now.at (leading_back next c.args.steps n ms))) same (c.note_leading_back.ensures next t s)

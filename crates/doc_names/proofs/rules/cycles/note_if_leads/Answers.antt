@@ -1,6 +1,6 @@
 -- One after a place that is noted, one of a lower rank, and one that is searched from.
 use Rattle.std.proofs.Common.{◌≡◌, ◌<◌, Bool, true, ap, sym, ◌∙◌, arith}
-use Rattle.gql_graph.specs.Leasts.{noted}
+use Rattle.gql_graph.specs.Leasts.{least_from}
 use Rattle.gql_graph.specs.Reached.{leads}
 use Rattle.gql_graph.specs.Rules.{wrong}
 use Rattle.gql_graph.specs.Texts.{Text}
@@ -20,9 +20,9 @@ returns-then-rank c = λ next t s.
     let n : Text = c.args.spread.now.name.now in
     let m : Text = c.args.to.now in
     let is_lower : rank_in c.args.ranks.now n < rank_in c.args.ranks.now m = omega (arith, c.rank.ensures, c.rank-2.ensures, c.if-rank.true) in
-    ap (λ (b : Bool). noted c.args.least.now.at (wrong b c.args.spread.now.at)) (sym (not_leading (rank_in c.args.ranks.now) next s c.args.steps n m is_lower))
+    ap (λ (b : Bool). least_from c.args.least.now.at (wrong b c.args.spread.now.at)) (sym (not_leading (rank_in c.args.ranks.now) next s c.args.steps n m is_lower))
 
 pub returns : goal.returns
 returns c = λ next t s.
-    c.note_if.ensures ∙ ap (λ (b : Bool). noted c.args.least.now.at (wrong b c.args.spread.now.at))
+    c.note_if.ensures ∙ ap (λ (b : Bool). least_from c.args.least.now.at (wrong b c.args.spread.now.at))
     (c.in_ok-leads_back.ensures next t ∙ reached_alone next c.args.steps c.args.spread.now.name.now c.args.to.now)

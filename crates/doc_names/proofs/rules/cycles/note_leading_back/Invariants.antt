@@ -1,7 +1,7 @@
 -- What is noted and what is left are the whole.
 use Rattle.std.proofs.Common.{◌≡◌, List, map, drop}
 use Rattle.gql_graph.specs.Graphs.{Tells}
-use Rattle.gql_graph.specs.Leasts.{noted}
+use Rattle.gql_graph.specs.Leasts.{least_from}
 use Rattle.schema_trees.specs.LocatedView.{name_of}
 use Rattle.gql_graph.specs.Texts.{Text}
 use Rattle.doc_names.specs.Cycles.{leading_back}
@@ -10,4 +10,4 @@ use Rattle.doc_names.proofs.rules.cycles.note_leading_back.Given as goal
 
 abbrev pub invariant-spreads : goal.invariant-spreads
 invariant-spreads l = (next : Text → List Text) → Tells l.graph next → NeverRises (rank_in l.ranks) next
-    → noted l.least.at (leading_back next l.steps l.to (map name_of (drop l.spread-index l.spreads))) ≡ noted l.initial.least.at (leading_back next l.steps l.to (map name_of l.spreads))
+    → least_from l.least.at (leading_back next l.steps l.to (map name_of (drop l.spread-index l.spreads))) ≡ least_from l.initial.least.at (leading_back next l.steps l.to (map name_of l.spreads))

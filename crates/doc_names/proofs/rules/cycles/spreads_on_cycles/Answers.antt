@@ -1,13 +1,13 @@
 -- One more definition, and all of them.
 use Rattle.std.proofs.Common.{ℕ, List, map, ap, sym, ◌∙◌, arith}
 use Rattle.doc_sites.specs.SitesView.{definition_of}
-use Rattle.gql_graph.specs.Leasts.{noted}
+use Rattle.gql_graph.specs.Leasts.{least_from}
 use Rattle.schema_types.specs.NameRules.{fragments, spread_by}
 use Rattle.schema_types.specs.Sites.{FragmentAt}
 use Rattle.gql_graph.proofs.LeastSteps.{each_next}
 use Rattle.doc_names.specs.Cycles.{leads_back_in}
 use Rattle.doc_sites.specs.Definitions.{on_fragment}
-use Rattle.doc_names.proofs.NameSteps.{noted_end}
+use Rattle.doc_sites.proofs.ListSteps.{noted_end}
 use Rattle.doc_sites.proofs.DefinitionSteps.{over_fragments}
 use Rattle.doc_names.proofs.rules.cycles.spreads_on_cycles.Goals as goal
 
@@ -21,4 +21,4 @@ pub returns : goal.returns
 returns c =
     let fs : List FragmentAt = fragments (map definition_of c.args.definitions.now) in
     noted_end definition_of (on_fragment (leads_back_in fs)) c.args.definitions.now c.definitions.definition-index c.definitions.least.at _ (omega arith) c.definitions.invariant
-    ∙ sym (ap (λ (places : List ℕ). noted c.args.least.now.at places) (over_fragments (leads_back_in fs) (map definition_of c.args.definitions.now)))
+    ∙ sym (ap (λ (places : List ℕ). least_from c.args.least.now.at places) (over_fragments (leads_back_in fs) (map definition_of c.args.definitions.now)))

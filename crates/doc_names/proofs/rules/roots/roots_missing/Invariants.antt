@@ -1,11 +1,11 @@
 -- What is noted and what is left are the whole.
 use Rattle.std.proofs.Common.{◌≡◌, map, drop}
 use Rattle.doc_sites.specs.SitesView.{definition_of}
-use Rattle.gql_graph.specs.Leasts.{noted}
+use Rattle.gql_graph.specs.Leasts.{least_from}
 use Rattle.gql_graph.specs.Rules.{each}
 use Rattle.doc_names.proofs.NameSteps.{no_root_in}
 use Rattle.doc_names.proofs.rules.roots.roots_missing.Given as goal
 
 abbrev pub invariant-definitions : goal.invariant-definitions
-invariant-definitions l = noted l.least.at (each (no_root_in l.schema) (map definition_of (drop l.definition-index l.definitions)))
-    ≡ noted l.initial.least.at (each (no_root_in l.schema) (map definition_of l.definitions))
+invariant-definitions l = least_from l.least.at (each (no_root_in l.schema) (map definition_of (drop l.definition-index l.definitions)))
+    ≡ least_from l.initial.least.at (each (no_root_in l.schema) (map definition_of l.definitions))

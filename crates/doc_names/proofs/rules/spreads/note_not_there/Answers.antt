@@ -1,6 +1,6 @@
 -- One more of the list.
 use Rattle.std.proofs.Common.{Bool, not, get_or, ap, ◌∙◌, arith}
-use Rattle.gql_graph.specs.Leasts.{noted}
+use Rattle.gql_graph.specs.Leasts.{least_from}
 use Rattle.schema_trees.specs.LocatedView.{name_of}
 use Rattle.schema_types.specs.NameRules.{not_there}
 use Rattle.gql_graph.specs.Rules.{wrong}
@@ -10,4 +10,4 @@ use Rattle.doc_names.proofs.rules.spreads.note_not_there.Goals as goal
 pub spreads-preserved : goal.spreads-preserved
 spreads-preserved c = λ ns k.
     noted_at name_of (not_there ns) c.args.spreads.now c.spreads.spread-index no_name _ _ _ (omega arith)
-    (c.note_if.ensures ∙ ap (λ (b : Bool). noted c.spreads.least.at (wrong (not b) (get_or c.args.spreads.now c.spreads.spread-index no_name).at)) (c.contains.ensures ns k)) (c.spreads.invariant ns k)
+    (c.note_if.ensures ∙ ap (λ (b : Bool). least_from c.spreads.least.at (wrong (not b) (get_or c.args.spreads.now c.spreads.spread-index no_name).at)) (c.contains.ensures ns k)) (c.spreads.invariant ns k)

@@ -4,7 +4,7 @@ use Rattle.std.proofs.lemmas.List.{length-map}
 use Rattle.schema_types.specs.NameRules.{fragments}
 use Rattle.schema_types.specs.Sites.{FragmentAt}
 use Rattle.doc_sites.specs.SitesView.{definition_of}
-use Rattle.doc_fields.proofs.spreads.count_fragments.Goals as goal
+use Rattle.doc_sites.proofs.spreads.count_fragments.Goals as goal
 
 pub returns : goal.returns
 returns c =

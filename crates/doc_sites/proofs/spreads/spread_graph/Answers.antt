@@ -6,9 +6,9 @@ use Rattle.schema_types.specs.NameRules.{fragments, spread_by}
 use Rattle.gql_graph.specs.Rules.{each}
 use Rattle.gql_graph.specs.Texts.{Text}
 use Rattle.gql_graph.proofs.Graphs.{pairs_end, pairs_next, tells_held}
-use Rattle.doc_args.specs.Spreads.{spreading}
-use Rattle.doc_args.proofs.Steps.{next_seen}
-use Rattle.doc_args.proofs.spreads.spreads.Goals as goal
+use Rattle.doc_sites.specs.Definitions.{spreading}
+use Rattle.doc_sites.proofs.DefinitionSteps.{next_seen}
+use Rattle.doc_sites.proofs.spreads.spread_graph.Goals as goal
 
 pub definitions-init : goal.definitions-init
 definitions-init c = ([], c.new-graph.ensures, refl)
@@ -16,8 +16,8 @@ definitions-init c = ([], c.new-graph.ensures, refl)
 pub definitions-preserved : goal.definitions-preserved
 definitions-preserved c =
     let s = c.definitions.invariant in
-    pairs_next (λ d. spreading (definition_of d)) c.put_fragment.new.graph s.0 _ c.args.definitions.now c.definitions.definition-index c.definition-item.result (omega arith) c.definition-item.is
-    (c.in_ok-put_fragment.ensures s.0 s.1) s.2
+    pairs_next (λ d. spreading (definition_of d)) c.put_spreads.new.graph s.0 _ c.args.definitions.now c.definitions.definition-index c.definition-item.result (omega arith) c.definition-item.is
+    (c.in_ok-put_spreads.ensures s.0 s.1) s.2
 
 pub returns : goal.returns
 returns c =

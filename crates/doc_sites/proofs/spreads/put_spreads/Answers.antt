@@ -8,7 +8,7 @@ use Rattle.schema_types.specs.NameRules.{names_of_all, spreads_in}
 use Rattle.gql_graph.specs.Texts.{Text}
 use Rattle.doc_sites.specs.Definitions.{spreading}
 use denote.Ref.{Bor}
-use Rattle.doc_names.proofs.rules.cycles.put_spreads.Goals as goal
+use Rattle.doc_sites.proofs.spreads.put_spreads.Goals as goal
 
 pub returns-in_ok-next-in-Fragment : goal.returns-in_ok-next-in-Fragment
 returns-in_ok-next-in-Fragment c = λ pairs h.

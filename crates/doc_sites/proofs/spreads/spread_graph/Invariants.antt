@@ -4,8 +4,8 @@ use Rattle.doc_sites.specs.SitesView.{definition_of}
 use Rattle.gql_graph.specs.Graphs.{Holds}
 use Rattle.gql_graph.specs.Rules.{each}
 use Rattle.gql_graph.specs.Texts.{Text}
-use Rattle.doc_args.specs.Spreads.{spreading}
-use Rattle.doc_args.proofs.spreads.spreads.Given as goal
+use Rattle.doc_sites.specs.Definitions.{spreading}
+use Rattle.doc_sites.proofs.spreads.spread_graph.Given as goal
 
 abbrev pub invariant-definitions : goal.invariant-definitions
 invariant-definitions l =
