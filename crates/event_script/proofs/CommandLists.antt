@@ -6,10 +6,10 @@ use Rattle.serde_json.specs.declared.value.Value.{Value}
 use Rattle.store_model.specs.declared.command.Command.{Command}
 use Rattle.store_model.specs.Events.{command_of, commands_in}
 
-joined : (more : Option (List Command)) (done : List Command) (command : Command)
+joins : (more : Option (List Command)) (done : List Command) (command : Command)
     → option_map (λ cs. done ++ cs) (option_map (λ cs. command ∷ cs) more) ≡ option_map (λ cs. (done ++ command ∷ []) ++ cs) more
-joined None done command = refl
-joined (Some cs) done command = ap Some (sym (append_assoc done (command ∷ []) cs))
+joins None done command = refl
+joins (Some cs) done command = ap Some (sym (append_assoc done (command ∷ []) cs))
 
 abbrev put_first : Option Command → Option (List Command) → Option (List Command)
 put_first first more = option_and_then (λ c. option_map (λ cs. c ∷ cs) more) first
@@ -26,5 +26,5 @@ commands_more whole done new vs k v command within is named put before =
     before
     ∙ ap (λ ws. option_map (λ cs. done ++ cs) (commands_in (items_view ws))) here
     ∙ ap (λ first. option_map (λ cs. done ++ cs) (put_first first more)) (sym named)
-    ∙ joined more done command
+    ∙ joins more done command
     ∙ (λ i. option_map (λ cs. (sym put i) ++ cs) (commands_in (items_view (last i))))

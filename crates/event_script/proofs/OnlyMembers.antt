@@ -11,8 +11,8 @@ use Rattle.event_script.specs.Seen.{only_member}
 abbrev pub Member : Type 0
 Member = Bor (String Global) × Bor Value
 
-abbrev pub shown : Member → Text × J.Data
-shown m = (string_bytes m.0.now, view m.1.now)
+abbrev pub as_pair : Member → Text × J.Data
+as_pair m = (string_bytes m.0.now, view m.1.now)
 
 pub only_member-other : (es : List Entry) → (length es ≡ 1 → ⊥) → None ≡ only_member (members_view es)
 only_member-other [] other = refl
@@ -20,7 +20,7 @@ only_member-other (e ∷ []) other = absurd (other refl)
 only_member-other (e ∷ (f ∷ es)) other = refl
 
 pub only_member-one : (es : List Entry) (first : Option Member) → length es ≡ 1 → IsSome first ↔ (0 < length es)
-    → IfSome first (λ p. slice_get es 0 ≡ Some (p.0.now, p.1.now)) → option_map shown first ≡ only_member (members_view es)
+    → IfSome first (λ p. slice_get es 0 ≡ Some (p.0.now, p.1.now)) → option_map as_pair first ≡ only_member (members_view es)
 only_member-one [] first one there is = absurd (omega arith)
 only_member-one (e ∷ []) None one there is = absurd (true≢false (sym (there.1 (omega arith))))
 only_member-one (e ∷ []) (Some p) one there is =

@@ -8,14 +8,11 @@ ghost use Rattle.event_script.specs.Seen.{event_seen, Says};
 use crate::fault::LineFault;
 use crate::rows::event_in;
 use crate::text::{TextFault, value_of};
-use gql_plain::NoMemory;
+use gql_plain::{MAX_LINE, NoMemory};
 use json::Scratch;
 use serde_json::Value;
 use std::alloc::Global;
 use store_model::Event;
-
-/// A line has at most this many bytes: 8 MiB.
-const MAX_LINE: usize = 8_388_608;
 
 /// A reader of lines, one after another (this project's own). Memory for strings with escapes is
 /// kept from line to line: 16 KiB, and as many bytes as the longest line had.

@@ -141,7 +141,7 @@ fn has_layer_keys(members: &Map<String, Value>) -> bool
 }
 
 fn begin_of(alloc: Global, members: Map<String, Value>) -> Result<Event, LineFault>
-    ensures { Says result (events.of_shape (events.layered events.begin (members_view members.entries))) }
+    ensures { Says result (events.of_shape (events.layer_shape events.begin (members_view members.entries))) }
 {
     if !has_layer_keys(&members) {
         return Err(LineFault::EventShape);
@@ -166,7 +166,7 @@ fn begin_of(alloc: Global, members: Map<String, Value>) -> Result<Event, LineFau
 }
 
 fn finish_of(alloc: Global, members: Map<String, Value>) -> Result<Event, LineFault>
-    ensures { Says result (events.of_shape (events.layered events.finish (members_view members.entries))) }
+    ensures { Says result (events.of_shape (events.layer_shape events.finish (members_view members.entries))) }
 {
     if !has_layer_keys(&members) {
         return Err(LineFault::EventShape);

@@ -5,7 +5,7 @@ use std::alloc::{AllocError, Global};
 use std::test::Fail;
 
 /// The `do` of an event, or the name of a fault.
-fn said(answer: &Result<Event, LineFault>) -> &'static str {
+fn text_of_answer(answer: &Result<Event, LineFault>) -> &'static str {
     match answer {
         Ok(Event::Retain { .. }) => "retain",
         Ok(Event::Release { .. }) => "release",
@@ -284,7 +284,7 @@ fn first_wrong(alloc: Global, rows: &'static str) -> Result<&'static str, NoMemo
     let mut reader = LineReader::new(alloc)?;
     for row in rows.lines() {
         let (word, line) = row.split_once(' ').unwrap_or((row, ""));
-        if said(&reader.read(line.as_bytes())) != word {
+        if text_of_answer(&reader.read(line.as_bytes())) != word {
             return Ok(row);
         }
     }
@@ -306,7 +306,7 @@ fn each_line_is_its_fault(rt: HostRuntime) -> Result<(), Fail> {
 #[test]
 fn a_line_is_utf8(rt: HostRuntime) -> Result<(), Fail> {
     let answer = read_event(rt.alloc(), b"\"\xff\"");
-    assert_eq!(rt; said(&answer), "NotJson");
+    assert_eq!(rt; text_of_answer(&answer), "NotJson");
     Ok(())
 }
 
@@ -316,7 +316,7 @@ fn each_command_is_one_or_a_fault(rt: HostRuntime) -> Result<(), Fail> {
         let (word, command) = row.split_once(' ').unwrap_or((row, ""));
         let line = format!(in rt.alloc(); r#"{{"do":"update","updates":[{command}]}}"#)?;
         let answer = read_event(rt.alloc(), line.as_bytes());
-        assert_eq!(rt; said(&answer), word, "at {command}");
+        assert_eq!(rt; text_of_answer(&answer), word, "at {command}");
     }
     Ok(())
 }
@@ -328,7 +328,7 @@ fn a_name_has_at_most_200_bytes(rt: HostRuntime) -> Result<(), Fail> {
         let (before, after) = line.split_once('*').unwrap_or((line, ""));
         let line = format!(in rt.alloc(); "{before}{NAME}{after}")?;
         let answer = read_event(rt.alloc(), line.as_bytes());
-        assert_eq!(rt; said(&answer), word, "at {before}");
+        assert_eq!(rt; text_of_answer(&answer), word, "at {before}");
     }
     Ok(())
 }
@@ -385,17 +385,17 @@ fn is_the_payload(event: &Event, response: &Value) -> bool {
 
 #[test]
 fn a_line_has_at_most_8_mebibytes(rt: HostRuntime) -> Result<(), Fail> {
-    let mut line = padded(rt.alloc(), br#"{"do":"collect"}"#, 8_388_608)?;
+    let mut line = pad(rt.alloc(), br#"{"do":"collect"}"#, 8_388_608)?;
     let answer = read_event(rt.alloc(), &line);
-    assert_eq!(rt; said(&answer), "collect");
+    assert_eq!(rt; text_of_answer(&answer), "collect");
     line.push(b' ')?;
     let answer = read_event(rt.alloc(), &line);
-    assert_eq!(rt; said(&answer), "LineTooLong");
+    assert_eq!(rt; text_of_answer(&answer), "LineTooLong");
     Ok(())
 }
 
 /// The bytes, followed by as many blanks as the length wants.
-fn padded(alloc: Global, bytes: &[u8], length: usize) -> Result<Vec<u8>, AllocError> {
+fn pad(alloc: Global, bytes: &[u8], length: usize) -> Result<Vec<u8>, AllocError> {
     let mut line = Vec::new(alloc);
     line.extend_from_slice(bytes)?;
     line.resize(length, b' ')?;

@@ -65,8 +65,8 @@ an_unfinished_line_is_none_before_the_end = refl
 abbrev project : Project
 project = record { schema = schema; operations = (codes "Q", selections) ∷ [] }
 
-abbrev paid : State
-paid = record { entries = (says schema selections response).facts ∷ []; handles = (codes "h", selections) ∷ [] }
+abbrev pay_state : State
+pay_state = record { entries = (says schema selections response).facts ∷ []; handles = (codes "h", selections) ∷ [] }
 
 pub an_operation_is_retained : step_event project beginning 1 (retain (codes "h") (codes "Q"))
     ≡ accept (codes "{\"n\":1,\"ok\":\"retain\"}\n") (record { entries = []; handles = (codes "h", selections) ∷ [] })
@@ -74,12 +74,12 @@ unfolding serde_json_on_literals digits
 an_operation_is_retained = refl
 
 pub a_payload_is_confirmed : step_event project (record { entries = []; handles = (codes "h", selections) ∷ [] }) 2 (payload (codes "h") response)
-    ≡ accept (codes "{\"n\":2,\"ok\":\"payload\"}\n") paid
+    ≡ accept (codes "{\"n\":2,\"ok\":\"payload\"}\n") pay_state
 unfolding serde_json_on_literals digits
 a_payload_is_confirmed = refl
 
-pub an_operation_is_read : step_event project paid 3 (read (codes "h"))
-    ≡ accept (codes "{\"data\":{\"me\":{\"name\":\"Ann\"}},\"missing\":false,\"n\":3,\"ok\":\"read\",\"seen\":[\"4\",\"client:root\"]}\n") paid
+pub an_operation_is_read : step_event project pay_state 3 (read (codes "h"))
+    ≡ accept (codes "{\"data\":{\"me\":{\"name\":\"Ann\"}},\"missing\":false,\"n\":3,\"ok\":\"read\",\"seen\":[\"4\",\"client:root\"]}\n") pay_state
 unfolding serde_json_on_literals digits
 an_operation_is_read = refl
 

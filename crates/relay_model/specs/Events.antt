@@ -1,6 +1,7 @@
 -- The event of a line, as far as events are taken so far.
-use Rattle.std.specs.Prelude.{ℕ, ◌^◌, length, Bool, true, false, ◌&&◌, ◌==◌, cond, codes, bytes_eq, nat_lt, nat_le, Option, Some, None, option_and_then}
+use Rattle.std.specs.Prelude.{length, Bool, true, false, ◌&&◌, ◌==◌, cond, codes, bytes_eq, nat_lt, nat_le, Option, Some, None, option_and_then}
 use Rattle.std.specs.Str.{is_utf8}
+use Rattle.gql_plain.specs.Limits.{max_line}
 use Rattle.serde_json.specs.Data as J
 use Rattle.serde_json.specs.Events.{members_len}
 use Rattle.serde_json.specs.Find.{get_member, as_str, as_object}
@@ -18,10 +19,6 @@ pub data Line : Type 0 where
   not_json : Line
   other : Line
   event : Event → Line
-
--- at most this many bytes are read of a line: 8 MiB
-abbrev pub max_line : ℕ
-max_line = 2 ^ 23
 
 -- a handle is a text of 1 to 200 bytes
 abbrev pub is_handle : Text → Bool

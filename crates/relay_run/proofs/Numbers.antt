@@ -29,8 +29,8 @@ first_digit a t digits front =
       | inr x ↦ absurd (false≢true x)
     ]
 
-hundred : (a b c : ℕ) → is_buffer (a ∷ b ∷ c ∷ []) ≡ true → (a ≡ 49) × (b ≡ 48) × (c ≡ 48)
-hundred a b c h =
+digits_of_100 : (a b c : ℕ) → is_buffer (a ∷ b ∷ c ∷ []) ≡ true → (a ≡ 49) × (b ≡ 48) × (c ≡ 48)
+digits_of_100 a b c h =
     let parts = and_parts _ _ h in
     let front = and_parts _ _ parts.0 in
     let decimal_is = and_parts _ _ front.0 in
@@ -66,7 +66,7 @@ other (a ∷ b ∷ c ∷ []) h =
     same_truth _ _
     (λ e. let p = and_parts _ _ e in let q = and_parts _ _ p.1 in let r = and_parts _ _ q.1 in
     one_zero_zero a b c (eqb-true a 49 p.0, eqb-true b 48 q.0, eqb-true c 48 r.0))
-    (λ e. let p = hundred a b c e in
+    (λ e. let p = digits_of_100 a b c e in
     and_from _ _ (eq-eqb a 49 p.0) (and_from _ _ (eq-eqb b 48 p.1) (and_from _ _ (eq-eqb c 48 p.2) refl)))
 other (a ∷ b ∷ c ∷ d ∷ ds) h =
     same_truth _ _
@@ -95,7 +95,7 @@ pub three_digits : (w : List ℕ) → 3 ≤ length w → is_buffer w ≡ true �
 three_digits [] long h = absurd (omega (arith, long))
 three_digits (a ∷ []) long h = absurd (omega (arith, long))
 three_digits (a ∷ b ∷ []) long h = absurd (omega (arith, long))
-three_digits (a ∷ b ∷ c ∷ []) long h = let p = hundred a b c h in rw (p.0, p.1, p.2) refl
+three_digits (a ∷ b ∷ c ∷ []) long h = let p = digits_of_100 a b c h in rw (p.0, p.1, p.2) refl
 three_digits (a ∷ b ∷ c ∷ d ∷ ds) long h = absurd (no_more a b c d ds h)
 
 pub no_digits : is_buffer [] ≡ true → ⊥

@@ -2,6 +2,7 @@
 use Rattle.std.proofs.Common.{◌≡◌, ◌<◌, ◌+◌, ℕ, List, [], ◌∷◌, length, get_or, drop, Bool, true, false, ◌&&◌, ◌||◌, not, cond, bytes_eq, Option, Some, is_some, refl, sym, ap, ◌∙◌}
 use Rattle.std.specs.List.{list_any}
 use Rattle.std.specs.BTreeMap.{BTreeMap}
+use Rattle.gql_plain.proofs.Booleans.{and_false}
 use denote.Ref.{Bor}
 use Rattle.relay_model.specs.Keys.{Text, typename}
 use Rattle.relay_model.specs.Payload.{object_ids, all_differ}
@@ -31,10 +32,6 @@ and-true : (b : Bool) → (b && true) ≡ b
 and-true true = refl
 and-true false = refl
 
-and-false : (b : Bool) → (b && false) ≡ false
-and-false true = refl
-and-false false = refl
-
 -- one more key
 pub is_some-noted : {X : Type 0} (here t : Bool) (x : X) (before : Option X) → t ≡ true → is_some (cond here (Some x) before) ≡ (is_some before || (t && here))
 is_some-noted true true x before h = sym (or-true (is_some before))
@@ -44,7 +41,7 @@ is_some-noted here false x before h = absurd (cc)
 none_of-where : (h t e n a : Bool) → (not (h || (t && e)) && (n && not (t && a))) ≡ ((not h && n) && not (t && (e || a)))
 none_of-where true t e n a = refl
 none_of-where false false e n a = refl
-none_of-where false true true n a = sym (and-false n)
+none_of-where false true true n a = sym (and_false n)
 none_of-where false true false n a = refl
 
 none_of-noted : (has now : Text → Bool) (t : Bool) (id : Text) → ((q : Text) → now q ≡ (has q || (t && bytes_eq id q)))
@@ -58,16 +55,16 @@ none_of-noted has now t id noted (x ∷ xs) =
     (λ i. not (noted x i) && none_of-noted has now t id noted xs i)
     ∙ none_of-where (has x) t (bytes_eq id x) (none_of has xs) (list_any (bytes_eq id) xs)
 
-regrouped : (p n q d : Bool) → ((p && n) && (q && d)) ≡ (p && ((n && q) && d))
-regrouped true true q d = refl
-regrouped true false q d = refl
-regrouped false n q d = refl
+regroup : (p n q d : Bool) → ((p && n) && (q && d)) ≡ (p && ((n && q) && d))
+regroup true true q d = refl
+regroup true false q d = refl
+regroup false n q d = refl
 
 pub differs_where : (t : Bool) (has now : Text → Bool) (id : Text) (ids : List Text) (new : Bool) → new ≡ not (t && has id)
     → ((q : Text) → now q ≡ (has q || (t && bytes_eq id q)))
     → (none_of has (cond t (id ∷ ids) ids) && all_differ (cond t (id ∷ ids) ids)) ≡ (new && (none_of now ids && all_differ ids))
 differs_where true has now id ids new is noted =
-    regrouped (not (has id)) (none_of has ids) (not (list_any (bytes_eq id) ids)) (all_differ ids)
+    regroup (not (has id)) (none_of has ids) (not (list_any (bytes_eq id) ids)) (all_differ ids)
     ∙ (λ i. sym is i && (sym (none_of-noted has now true id noted ids) i && all_differ ids))
 differs_where false has now id ids new is noted =
     (λ i. sym (none_of-noted has now false id noted ids ∙ and-true (none_of has ids)) i && all_differ ids)

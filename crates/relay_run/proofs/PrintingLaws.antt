@@ -59,8 +59,8 @@ listed-step trees new key x more es start is next before =
     ∙ ap (λ fs. trees ++ map text (texts_of fs)) (sym next)
     ∙ before
 
-pub listed : {X : Type 0} (trees : List Tree) (es : List (Str Global × X)) (start : List Tree) → es ≡ [] → trees ++ map text (texts_of es) ≡ start → trees ≡ start
-listed trees es start none all = sym (append-nil trees) ∙ ap (λ fs. trees ++ map text (texts_of fs)) (sym none) ∙ all
+pub lists : {X : Type 0} (trees : List Tree) (es : List (Str Global × X)) (start : List Tree) → es ≡ [] → trees ++ map text (texts_of es) ≡ start → trees ≡ start
+lists trees es start none all = sym (append-nil trees) ∙ ap (λ fs. trees ++ map text (texts_of fs)) (sym none) ∙ all
 
 -- the line of a read, where its parts are known of each of some answers
 pub read_line_of_each : (P : Answer → Type 0) (r : Result Text NoMemory) (n : ℕ) (value : Tree) (missing : Bool) (seen : List Tree)

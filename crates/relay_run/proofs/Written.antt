@@ -4,7 +4,8 @@ use Rattle.std.specs.Prelude.{unwrap_or}
 use Rattle.std.proofs.lemmas.List.{append-nil, take-append-drop}
 use Rattle.gql_plain.specs.Tree.{Tree, null, truth, text, list, object, trees_of, members_of}
 use Rattle.gql_plain.specs.ToJson.{compact}
-use Rattle.relay_model.specs.Events.{Event, retain, payload, read, Line, too_long, not_json as no_json, other, event, line_of, max_line}
+use Rattle.gql_plain.specs.Limits.{max_line}
+use Rattle.relay_model.specs.Events.{Event, retain, payload, read, Line, too_long, not_json as no_json, other, event, line_of}
 use Rattle.relay_model.specs.Keys.{Text}
 use Rattle.gql_ast.specs.Sels.{Sels}
 use Rattle.serde_json.specs.Data as J
@@ -75,28 +76,28 @@ pub both_end : (a b : Text) → EndsLine a → EndsLine b → EndsLine (a ++ b)
 both_end a b x (inl none) = subst EndsLine (sym (ap (λ t. a ++ t) none ∙ append-nil a)) x
 both_end a b x (inr some) = inr (a ++ some.0, ap (λ t. a ++ t) some.1 ∙ sym (append_assoc a some.0 (10 ∷ [])))
 
-abbrev seen : Text → Text
-seen l = take (max_line + 1) l
+abbrev first_bytes : Text → Text
+first_bytes l = take (max_line + 1) l
 
 -- after one more line
 pub written_next : (p : Project) (s : State) (n : ℕ) (all added l : Text) (ls0 ls : List Text) → ls0 ≡ l ∷ ls → all ≡ added ++ output_from p s n (cut ls0)
-    → all ≡ (added ++ (step p s n (seen l)).text) ++ output_from p (step p s n (seen l)).state (n + 1) (cut ls)
-written_next p s n all added l ls0 ls e h = h ∙ ap (λ xs. added ++ output_from p s n (cut xs)) e ∙ sym (append_assoc added (step p s n (seen l)).text _)
+    → all ≡ (added ++ (step p s n (first_bytes l)).text) ++ output_from p (step p s n (first_bytes l)).state (n + 1) (cut ls)
+written_next p s n all added l ls0 ls e h = h ∙ ap (λ xs. added ++ output_from p s n (cut xs)) e ∙ sym (append_assoc added (step p s n (first_bytes l)).text _)
 
 or_or : (a b c : Bool) → (a || (b || c)) ≡ ((a || b) || c)
 or_or true b c = refl
 or_or false b c = refl
 
 pub refused_next : (p : Project) (s : State) (n : ℕ) (all before : Bool) (l : Text) (ls0 ls : List Text) → ls0 ≡ l ∷ ls → all ≡ (before || refused_from p s n (cut ls0))
-    → all ≡ ((before || (step p s n (seen l)).refused) || refused_from p (step p s n (seen l)).state (n + 1) (cut ls))
+    → all ≡ ((before || (step p s n (first_bytes l)).refused) || refused_from p (step p s n (first_bytes l)).state (n + 1) (cut ls))
 refused_next p s n all before l ls0 ls e h = h ∙ ap (λ xs. before || refused_from p s n (cut xs)) e ∙ or_or before _ _
 
 -- a part of the next answer, and what is then still to come
 pub part_then : (p : Project) (s : State) (n : ℕ) (all added l : Text) (ls0 ls : List Text) (k : ℕ) → ls0 ≡ l ∷ ls → all ≡ added ++ output_from p s n (cut ls0)
-    → (added ++ take k (step p s n (seen l)).text) ++ (drop k (step p s n (seen l)).text ++ output_from p (step p s n (seen l)).state (n + 1) (cut ls)) ≡ all
+    → (added ++ take k (step p s n (first_bytes l)).text) ++ (drop k (step p s n (first_bytes l)).text ++ output_from p (step p s n (first_bytes l)).state (n + 1) (cut ls)) ≡ all
 part_then p s n all added l ls0 ls k e h =
-    let answer = (step p s n (seen l)).text in
-    let rest = output_from p (step p s n (seen l)).state (n + 1) (cut ls) in
+    let answer = (step p s n (first_bytes l)).text in
+    let rest = output_from p (step p s n (first_bytes l)).state (n + 1) (cut ls) in
     append_assoc added (take k answer) (drop k answer ++ rest) ∙ ap (λ t. added ++ t) (sym (append_assoc (take k answer) (drop k answer) rest) ∙ ap (λ t. t ++ rest) (take-append-drop k answer))
     ∙ sym (h ∙ ap (λ xs. added ++ output_from p s n (cut xs)) e)
 

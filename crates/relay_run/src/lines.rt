@@ -3,7 +3,7 @@ ghost use Rattle.std.specs.Prelude.{◌≡◌, ◌⊎◌, ◌↔◌, ◌≤◌, 
 ghost use Rattle.std.specs.List.{position};
 ghost use Rattle.relay_io.specs.Causes.{Rose};
 ghost use Rattle.relay_io.specs.Streams.{append};
-ghost use Rattle.relay_model.specs.Events.{max_line};
+ghost use Rattle.gql_plain.specs.Limits.{max_line};
 ghost use Rattle.relay_model.specs.Machine as machine;
 ghost use Rattle.relay_model.specs.Machine.{State};
 ghost use Rattle.relay_model.specs.Script.{lines_of};
@@ -17,11 +17,9 @@ use crate::interim::engine::Engine;
 use crate::interim::project::Project;
 use crate::put::put_all;
 use crate::status::Status;
+use gql_plain::MAX_LINE;
 use relay_io::Sink;
 use std::alloc::Global;
-
-/// The most bytes of a line that is looked at: 8 MiB.
-pub const MAX_LINE: usize = 1 << 23;
 
 /// Why the answering stops before the last line.
 #[derive(Clone, Copy, Debug, Drop)]

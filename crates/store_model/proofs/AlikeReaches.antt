@@ -6,7 +6,7 @@ use Rattle.store_record.specs.Keys.{Text}
 use Rattle.gql_plain.specs.Order.{has_text}
 use Rattle.store_model.specs.Alike.{Among, Related, AlikeGroup, AlikeAt, Keeps}
 use Rattle.store_model.specs.Items.{Ask, Group, asks, parts, Collect, groups_at}
-use Rattle.store_model.specs.Reaches.{Onward, types_of, followed, from_each, reach_asked, reach_groups, reach_stand, reach_at}
+use Rattle.store_model.specs.Reaches.{Onward, types_of, links_followed, from_each, reach_asked, reach_groups, reach_stand, reach_at}
 use Rattle.store_model.specs.Walks.{Slots, Fields, Standing, absent, gone, lives, standing_of, field_of}
 
 abbrev pub Each : {X : Type 0} → (X → Type 0) → List X → Type 0
@@ -33,22 +33,22 @@ module _ (P : Text → Type 0) where
   module _ {F G : Type 0} (r : Related F G) (next : Onward F) (other : Onward G)
       (same : (types : List Text) (fs : List F) (gs : List G) (id : Text) → r types fs gs → Each P (next types fs id) → Each P (other types gs id)) where
     -- what holds of a group's reach holds of the reach from each of its fields
-    of_field : (fields : Fields) (fs : List F) (us : List Ask) (a : Ask) → Among a us → Each P (reach_asked next fields fs us) → Each P (from_each (next (types_of a.form) fs) (followed fields a))
+    of_field : (fields : Fields) (fs : List F) (us : List Ask) (a : Ask) → Among a us → Each P (reach_asked next fields fs us) → Each P (from_each (next (types_of a.form) fs) (links_followed fields a))
     of_field fields fs [] a here h = absurd here
     of_field fields fs (u ∷ us) a (inl e) h =
-        subst (λ b. Each P (from_each (next (types_of b.form) fs) (followed fields b))) e
-        (each_left P (from_each (next (types_of u.form) fs) (followed fields u)) (reach_asked next fields fs us) h)
+        subst (λ b. Each P (from_each (next (types_of b.form) fs) (links_followed fields b))) e
+        (each_left P (from_each (next (types_of u.form) fs) (links_followed fields u)) (reach_asked next fields fs us) h)
     of_field fields fs (u ∷ us) a (inr there) h =
-        of_field fields fs us a there (each_right P (from_each (next (types_of u.form) fs) (followed fields u)) (reach_asked next fields fs us) h)
+        of_field fields fs us a there (each_right P (from_each (next (types_of u.form) fs) (links_followed fields u)) (reach_asked next fields fs us) h)
 
     members_within : (fields : Fields) (fs : List F) (gs : List G) → (us vs : List Ask) → Each (λ a. r (types_of a.form) fs gs) us → Each (λ b. Among b us) vs
         → Each P (reach_asked next fields fs us) → Each P (reach_asked other fields gs vs)
     members_within fields fs gs us [] below there h = tt
     members_within fields fs gs us (v ∷ vs) below there h =
-        each_append P (from_each (other (types_of v.form) gs) (followed fields v)) (reach_asked other fields gs vs)
+        each_append P (from_each (other (types_of v.form) gs) (links_followed fields v)) (reach_asked other fields gs vs)
         (from_within (next (types_of v.form) fs) (other (types_of v.form) gs)
         (λ id. same (types_of v.form) fs gs id (of_among (λ a. r (types_of a.form) fs gs) v us below there.0))
-        (followed fields v) (of_field fields fs us v there.0 h))
+        (links_followed fields v) (of_field fields fs us v there.0 h))
         (members_within fields fs gs us vs below there.1 h)
 
     groups_within : (fields : Fields) (us : List (Group F)) (vs : List (Group G)) → AllZip (AlikeGroup r) us vs → Each P (reach_groups next fields us) → Each P (reach_groups other fields vs)

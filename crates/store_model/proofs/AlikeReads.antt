@@ -8,7 +8,7 @@ use Rattle.store_record.specs.declared.field.Field.TheVariants.{Leaf, Link, Link
 use Rattle.store_model.specs.Alike.{Related, AlikeGroup, AlikePointer, AlikeAt, Keeps}
 use Rattle.store_model.specs.Items.{Form, typename, leaf, one, many, Pointer, Group, parts, Collect, groups_at}
 use Rattle.store_model.specs.Reaches.{types_of}
-use Rattle.store_model.specs.Walks.{Slots, Fields, Standing, absent, gone, lives, standing_of, field_of, Trace, joined, looks_at, issue, Shown, Next, or_null, shown_object, with_found, with_value, one_at, element_at, elements_at, listed, many_at, value_at, read_key, group_at, fields_at, pointer_at, pointers_at, marks, object_at, where_possible, stand_at, read_at}
+use Rattle.store_model.specs.Walks.{Slots, Fields, Standing, absent, gone, lives, standing_of, field_of, Trace, join_traces, looks_at, issue, Shown, Next, or_null, shown_object, with_found, with_value, one_at, element_at, elements_at, list_found, many_at, value_at, read_key, group_at, fields_at, pointer_at, pointers_at, marks, object_at, where_possible, stand_at, read_at}
 
 -- ---- a field, where the parts below it are read alike
 
@@ -28,13 +28,13 @@ module _ {F G : Type 0} (next : Next F) (other : Next G) (fs : List F) (gs : Lis
   elements_alike (e ∷ es) =
       let first = element_alike e in
       let rest = elements_alike es in
-      λ i. ((first i).0 ∷ (rest i).0, joined (first i).1 (rest i).1)
+      λ i. ((first i).0 ∷ (rest i).0, join_traces (first i).1 (rest i).1)
 
   many_alike : (field : Option Field) → many_at next types fs field ≡ many_at other types gs field
   many_alike None = refl
   many_alike (Some (Leaf value)) = refl
   many_alike (Some (Link id)) = refl
-  many_alike (Some (Links ids)) = ap listed (elements_alike ids)
+  many_alike (Some (Links ids)) = ap list_found (elements_alike ids)
 
 module _ {F G : Type 0} (next : Next F) (other : Next G) (fs : List F) (gs : List G) where
   value_alike : (T : Text) (form : Form) (field : Option Field) → ((id : Text) → next (types_of form) fs id ≡ other (types_of form) gs id)
@@ -64,7 +64,7 @@ module _ {F G : Type 0} (r : Related F G) (next : Next F) (other : Next G)
       let rest = fields_alike T id fields end turned e us vs h.1 in
       λ i. (
         with_found (h.0.first i).response (first i).0 (rest i).0,
-        joined (joined (looks_at (h.0.first i).form id (read_key (h.0.first i))) (first i).1) (rest i).1,
+        join_traces (join_traces (looks_at (h.0.first i).form id (read_key (h.0.first i))) (first i).1) (rest i).1,
       )
 
   issue_alike : (T id : Text) (p : Pointer F) (q : Pointer G) → AlikePointer r T p q → issue id p ≡ issue id q
@@ -75,7 +75,7 @@ module _ {F G : Type 0} (r : Related F G) (next : Next F) (other : Next G)
   pointer_alike T id p q e false body = λ i. (shown_object (e.scope i), issue_alike T id p q e i)
   pointer_alike T id p q e true body =
       let inner = same (T ∷ []) (p.body ∷ []) (q.body ∷ []) id (body refl) in
-      λ i. (or_null (inner i).0, joined (issue_alike T id p q e i) (inner i).1)
+      λ i. (or_null (inner i).0, join_traces (issue_alike T id p q e i) (inner i).1)
 
   pointers_read_alike : (T id : Text) → (ps : List (Pointer F)) (qs : List (Pointer G)) → AllZip (AlikePointer r T) ps qs → pointers_at next T id ps ≡ pointers_at other T id qs
   pointers_read_alike T id [] [] h = refl
@@ -84,7 +84,7 @@ module _ {F G : Type 0} (r : Related F G) (next : Next F) (other : Next G)
   pointers_read_alike T id (p ∷ ps) (q ∷ qs) h =
       let first = pointer_alike T id p q h.0 p.inline h.0.body ∙ ap (pointer_at other T id q) h.0.inline in
       let rest = pointers_read_alike T id ps qs h.1 in
-      λ i. (with_value (h.0.fragment i) (first i).0 (rest i).0, joined (first i).1 (rest i).1)
+      λ i. (with_value (h.0.fragment i) (first i).0 (rest i).0, join_traces (first i).1 (rest i).1)
 
   possible_alike : (id : Text) (possible : Bool) (x y : Shown × Trace) → (possible ≡ true → x ≡ y) → where_possible possible id x ≡ where_possible possible id y
   possible_alike id true x y e = ap (where_possible true id) (e refl)

@@ -13,9 +13,9 @@ use Rattle.store_record.specs.declared.record.Slot.TheVariants.{Deleted, Alive}
 use Rattle.store_model.proofs.Least.{Each, each_append, each_left, each_right, each_so}
 use Rattle.store_model.specs.Enough.{SameAt, LooksAreEnough}
 use Rattle.store_model.specs.Entries.{merge_all, apply, some_ids, some_id, Looks, no_looks, looks_and, asked_page, asked_by_cursor, asked_onto, asked_with_page, asked_of_parent, asked_by_page, asked_in_connection, connection_link, asked_by_edit, asked_by_command, asked_by_facts, asked_by_pages, asked_by_commands, asked_by_each, ids_of_all, looks, weights}
-use Rattle.store_model.specs.Merge.{linked, links_of, edges_of, with_live, below, node_of, node_at, nodes_at, live_edges, new_edges, is_among, counter_of, edge_id, next_edge, make_edges, info_id, info_below, whole_info, taken_both, Kept, with_edges, replaced, with_info, page_after, others_than, nodes_of, page_before, has_cursor, is_null, onto_client, kept, onto, with_page, of_parent, merge}
+use Rattle.store_model.specs.Merge.{link_under, links_of, edges_of, with_live, below, node_of, node_at, nodes_at, live_edges, new_edges, is_among, counter_of, edge_id, next_edge, make_edges, info_id, info_below, whole_info, taken_both, Kept, with_edges, replace_edges, with_info, page_after, others_than, nodes_of, page_before, has_cursor, is_null, onto_client, kept_connection, onto, with_page, of_parent, merge}
 use Rattle.store_model.specs.Records.{Records, slot_at, alive, live, with_slot, with_record, field_at, with_field, with_fact, record_of, put_fact, put}
-use Rattle.store_model.specs.Updates.{changed, created, deleted, connection_of, edge_of, edge_put, edge_inserted, edges_without, field_without, edge_deleted, insert_edge, delete_edge, act, act_all, added, link_or_null}
+use Rattle.store_model.specs.Updates.{change_record, create_record, delete_record, connection_of, edge_of, edge_put, edge_inserted, edges_without, field_without, edge_deleted, insert_edge, delete_edge, act, act_all, add_to_field, link_or_null}
 use Rattle.store_model.specs.declared.command.Command.{Command}
 use Rattle.store_model.specs.declared.command.Command.TheVariants as C
 use Rattle.store_model.specs.declared.command.EdgeEdit.{EdgeEdit}
@@ -41,8 +41,8 @@ module _ (m n : Records) where
   live_same : (id : Text) → SameAt m n id → live id m ≡ live id n
   live_same id h = ap (option_and_then alive) h
 
-  below_same : (key : Text) (r : Record) → Each (SameAt m n) (some_id (linked key r)) → below key r m ≡ below key r n
-  below_same key r h = at (linked key r) h
+  below_same : (key : Text) (r : Record) → Each (SameAt m n) (some_id (link_under key r)) → below key r m ≡ below key r n
+  below_same key r h = at (link_under key r) h
     where
       at : (o : Option Text) → Each (SameAt m n) (some_id o) → option_and_then (with_live m) o ≡ option_and_then (with_live n) o
       at None h = refl
@@ -99,11 +99,11 @@ module _ (m n : Records) where
       each_made k [] a b h = h
       each_made k (e ∷ es) a b h = each_made (next_edge k) es (with_record (edge_id connection k) e a) (with_record (edge_id connection k) e b) (same_record (edge_id connection k) e e a b q refl h)
 
-  info_same : (server : Record) → Each (SameAt m n) (some_id (linked (codes "pageInfo") server)) → info_below server m ≡ info_below server n
+  info_same : (server : Record) → Each (SameAt m n) (some_id (link_under (codes "pageInfo") server)) → info_below server m ≡ info_below server n
   info_same server h = ap (option_map (λ p. p.1)) (below_same (codes "pageInfo") server h)
 
-  replaced_same : (h : HandleFact) (server : Record) (c : Kept) (a b : Records) (q : Text) → Each (SameAt m n) (some_id (linked (codes "pageInfo") server)) → Each (SameAt m n) (some_ids (edges_of server))
-      → SameAt a b q → SameAt (replaced h server c m a) (replaced h server c n b) q
+  replaced_same : (h : HandleFact) (server : Record) (c : Kept) (a b : Records) (q : Text) → Each (SameAt m n) (some_id (link_under (codes "pageInfo") server)) → Each (SameAt m n) (some_ids (edges_of server))
+      → SameAt a b q → SameAt (replace_edges h server c m a) (replace_edges h server c n b) q
   replaced_same h server c a b q info edges s =
       let live_ones = live_edges_same (edges_of server) edges in
       let new = ap (new_edges []) live_ones in
@@ -120,7 +120,7 @@ module _ (m n : Records) where
       at None = s
       at (Some r) = same_record id _ _ a b q (ap (λ x. taken_both key other x r) e) s
 
-  after_same : (server : Record) (c : Kept) (q : Text) → Each (SameAt m n) (some_id (linked (codes "pageInfo") server)) → Each (SameAt m n) (some_ids (edges_of server)) → Each (SameAt m n) (some_ids (edges_of c.row))
+  after_same : (server : Record) (c : Kept) (q : Text) → Each (SameAt m n) (some_id (link_under (codes "pageInfo") server)) → Each (SameAt m n) (some_ids (edges_of server)) → Each (SameAt m n) (some_ids (edges_of c.row))
       → SameAt m n (info_id c.id) → SameAt m n q → SameAt (page_after server c m) (page_after server c n) q
   after_same server c q info edges old own s =
       let lives = live_edges_same (edges_of server) edges in
@@ -129,7 +129,7 @@ module _ (m n : Records) where
       with_info_same (info_id c.id) (codes "endCursor") (codes "hasNextPage") _ _ _ _ _ _ q (info_same server info) (live_same (info_id c.id) own)
       (edges_made c.id c.next _ _ _ _ q new (same_record c.id _ _ m n q (ap (λ es. with_edges server c (edges_of c.row) es []) new) s))
 
-  before_same : (server : Record) (c : Kept) (q : Text) → Each (SameAt m n) (some_id (linked (codes "pageInfo") server)) → Each (SameAt m n) (some_ids (edges_of server)) → Each (SameAt m n) (some_ids (edges_of c.row))
+  before_same : (server : Record) (c : Kept) (q : Text) → Each (SameAt m n) (some_id (link_under (codes "pageInfo") server)) → Each (SameAt m n) (some_ids (edges_of server)) → Each (SameAt m n) (some_ids (edges_of c.row))
       → SameAt m n (info_id c.id) → SameAt m n q → SameAt (page_before server c m) (page_before server c n) q
   before_same server c q info edges old own s =
       let lives = live_edges_same (edges_of server) edges in
@@ -181,7 +181,7 @@ module _ (m n : Records) where
   Steps a b x y = (a ≡ b) × ((q : Text) → SameAt m n q → SameAt x y q)
 
   client_same : (h : HandleFact) (server : Record) (c : Text × Record) → SameLooks (asked_onto h server (Some c) m)
-      → Steps (asked_onto h server (Some c) m) (asked_onto h server (Some c) n) (onto_client h server (kept c) m) (onto_client h server (kept c) n)
+      → Steps (asked_onto h server (Some c) m) (asked_onto h server (Some c) n) (onto_client h server (kept_connection c) m) (onto_client h server (kept_connection c) n)
   client_same h server c looked = at (is_null h.before) (is_null h.after) looked
     where
       info : Text
@@ -201,22 +201,22 @@ module _ (m n : Records) where
           (cond ba (asked_by_cursor (has_cursor (codes "startCursor") h.before (live (info_id c.0) m)) (info_id c.0) server c.1) no_looks))
           (cond bb (cond ba (asked_page server []) (asked_by_cursor (has_cursor (codes "endCursor") h.after (live (info_id c.0) n)) (info_id c.0) server c.1))
           (cond ba (asked_by_cursor (has_cursor (codes "startCursor") h.before (live (info_id c.0) n)) (info_id c.0) server c.1) no_looks))
-          (cond bb (cond ba (replaced h server (kept c) m m) (cond (has_cursor (codes "endCursor") h.after (live (info_id c.0) m)) (page_after server (kept c) m) m))
-          (cond (ba && has_cursor (codes "startCursor") h.before (live (info_id c.0) m)) (page_before server (kept c) m) m))
-          (cond bb (cond ba (replaced h server (kept c) n n) (cond (has_cursor (codes "endCursor") h.after (live (info_id c.0) n)) (page_after server (kept c) n) n))
-          (cond (ba && has_cursor (codes "startCursor") h.before (live (info_id c.0) n)) (page_before server (kept c) n) n))
-      at true true looked = (refl, λ q s. replaced_same h server (kept c) m n q looked.0 (each_left (SameAt m n) (some_ids (edges_of server)) [] looked.1) s)
+          (cond bb (cond ba (replace_edges h server (kept_connection c) m m) (cond (has_cursor (codes "endCursor") h.after (live (info_id c.0) m)) (page_after server (kept_connection c) m) m))
+          (cond (ba && has_cursor (codes "startCursor") h.before (live (info_id c.0) m)) (page_before server (kept_connection c) m) m))
+          (cond bb (cond ba (replace_edges h server (kept_connection c) n n) (cond (has_cursor (codes "endCursor") h.after (live (info_id c.0) n)) (page_after server (kept_connection c) n) n))
+          (cond (ba && has_cursor (codes "startCursor") h.before (live (info_id c.0) n)) (page_before server (kept_connection c) n) n))
+      at true true looked = (refl, λ q s. replaced_same h server (kept_connection c) m n q looked.0 (each_left (SameAt m n) (some_ids (edges_of server)) [] looked.1) s)
       at true false looked =
           let e = has_same (codes "endCursor") h.after (info_id c.0) (own_info (has_cursor (codes "endCursor") h.after (live (info_id c.0) m)) (info_id c.0) server c.1 looked) in (
             ap (λ b. asked_by_cursor b (info_id c.0) server c.1) e,
-            λ q s. subst (λ b. SameAt (cond (has_cursor (codes "endCursor") h.after (live (info_id c.0) m)) (page_after server (kept c) m) m) (cond b (page_after server (kept c) n) n) q) e
-                (by_after (has_cursor (codes "endCursor") h.after (live (info_id c.0) m)) h server (kept c) q looked s),
+            λ q s. subst (λ b. SameAt (cond (has_cursor (codes "endCursor") h.after (live (info_id c.0) m)) (page_after server (kept_connection c) m) m) (cond b (page_after server (kept_connection c) n) n) q) e
+                (by_after (has_cursor (codes "endCursor") h.after (live (info_id c.0) m)) h server (kept_connection c) q looked s),
           )
       at false true looked =
           let e = has_same (codes "startCursor") h.before (info_id c.0) (own_info (has_cursor (codes "startCursor") h.before (live (info_id c.0) m)) (info_id c.0) server c.1 looked) in (
             ap (λ b. asked_by_cursor b (info_id c.0) server c.1) e,
-            λ q s. subst (λ b. SameAt (cond (has_cursor (codes "startCursor") h.before (live (info_id c.0) m)) (page_before server (kept c) m) m) (cond b (page_before server (kept c) n) n) q) e
-                (by_before (has_cursor (codes "startCursor") h.before (live (info_id c.0) m)) h server (kept c) q looked s),
+            λ q s. subst (λ b. SameAt (cond (has_cursor (codes "startCursor") h.before (live (info_id c.0) m)) (page_before server (kept_connection c) m) m) (cond b (page_before server (kept_connection c) n) n) q) e
+                (by_before (has_cursor (codes "startCursor") h.before (live (info_id c.0) m)) h server (kept_connection c) q looked s),
           )
       at false false looked = (refl, λ q s. s)
 
@@ -233,7 +233,7 @@ module _ (m n : Records) where
       → Steps (asked_with_page h parent o m) (asked_with_page h parent o n) (with_page h parent o m) (with_page h parent o n)
   page_same h parent None looked = (refl, λ q s. same_record h.parent _ _ m n q refl s)
   page_same h parent (Some server) looked =
-      let link = some_id (linked h.handle_key parent) in
+      let link = some_id (link_under h.handle_key parent) in
       let e = below_same h.handle_key parent (looks_left link (asked_onto h server.1 (below h.handle_key parent m) m) looked) in
       let inner = onto_same h server.1 parent (below h.handle_key parent m) (looks_right link (asked_onto h server.1 (below h.handle_key parent m) m) looked) in (
         ap (looks_and link) (inner.0 ∙ ap (λ o. asked_onto h server.1 o n) e),
@@ -243,7 +243,7 @@ module _ (m n : Records) where
   parent_same : (h : HandleFact) (o : Option Record) → SameLooks (asked_of_parent h o m) → Steps (asked_of_parent h o m) (asked_of_parent h o n) (of_parent h o m) (of_parent h o n)
   parent_same h None looked = (refl, λ q s. s)
   parent_same h (Some parent) looked =
-      let link = some_id (linked h.field_key parent) in
+      let link = some_id (link_under h.field_key parent) in
       let e = below_same h.field_key parent (looks_left link (asked_with_page h parent (below h.field_key parent m) m) looked) in
       let inner = page_same h parent (below h.field_key parent m) (looks_right link (asked_with_page h parent (below h.field_key parent m) m) looked) in (
         ap (looks_and link) (inner.0 ∙ ap (λ o. asked_with_page h parent o n) e),
@@ -260,24 +260,24 @@ module _ (m n : Records) where
 
   -- ---- commands
 
-  changed_same : (id : Text) (change : Record → Record) → SameAt m n id → (q : Text) → SameAt m n q → SameAt (changed id change m) (changed id change n) q
-  changed_same id change own q s = subst (λ o. SameAt (changed id change m) (unwrap_or (option_map (λ r. with_record id (change r) n) o) n) q) (live_same id own) (at (live id m))
+  changed_same : (id : Text) (change : Record → Record) → SameAt m n id → (q : Text) → SameAt m n q → SameAt (change_record id change m) (change_record id change n) q
+  changed_same id change own q s = subst (λ o. SameAt (change_record id change m) (unwrap_or (option_map (λ r. with_record id (change r) n) o) n) q) (live_same id own) (at (live id m))
     where
       at : (o : Option Record) → SameAt (unwrap_or (option_map (λ r. with_record id (change r) m) o) m) (unwrap_or (option_map (λ r. with_record id (change r) n) o) n) q
       at None = s
       at (Some r) = same_record id (change r) (change r) m n q refl s
 
-  created_same : (id of : Text) → SameAt m n id → (q : Text) → SameAt m n q → SameAt (created (live id m) id of m) (created (live id n) id of n) q
-  created_same id of own q s = subst (λ o. SameAt (created (live id m) id of m) (created o id of n) q) (live_same id own) (at (live id m))
+  created_same : (id of : Text) → SameAt m n id → (q : Text) → SameAt m n q → SameAt (create_record (live id m) id of m) (create_record (live id n) id of n) q
+  created_same id of own q s = subst (λ o. SameAt (create_record (live id m) id of m) (create_record o id of n) q) (live_same id own) (at (live id m))
     where
-      at : (o : Option Record) → SameAt (created o id of m) (created o id of n) q
+      at : (o : Option Record) → SameAt (create_record o id of m) (create_record o id of n) q
       at None = same_record id (record_of of) (record_of of) m n q refl s
       at (Some r) = s
 
-  deleted_same : (id : Text) → SameAt m n id → (q : Text) → SameAt m n q → SameAt (deleted (live id m) id m) (deleted (live id n) id n) q
-  deleted_same id own q s = subst (λ o. SameAt (deleted (live id m) id m) (deleted o id n) q) (live_same id own) (at (live id m))
+  deleted_same : (id : Text) → SameAt m n id → (q : Text) → SameAt m n q → SameAt (delete_record (live id m) id m) (delete_record (live id n) id n) q
+  deleted_same id own q s = subst (λ o. SameAt (delete_record (live id m) id m) (delete_record o id n) q) (live_same id own) (at (live id m))
     where
-      at : (o : Option Record) → SameAt (deleted o id m) (deleted o id n) q
+      at : (o : Option Record) → SameAt (delete_record o id m) (delete_record o id n) q
       at None = s
       at (Some r) = same_write id Deleted Deleted m n q refl s
 
@@ -328,7 +328,7 @@ module _ (m n : Records) where
 
   command_same : (c : Command) → SameLooks (asked_by_command c m) → Steps (asked_by_command c m) (asked_by_command c n) (act c m) (act c n)
   command_same (C.Set id field args value) h = (refl, changed_same id (with_field (field_key field args) (Leaf value)) h.0.0)
-  command_same (C.Add id field args by) h = (refl, changed_same id (added (field_key field args) by) h.0.0)
+  command_same (C.Add id field args by) h = (refl, changed_same id (add_to_field (field_key field args) by) h.0.0)
   command_same (C.Link id field args to) h = (refl, changed_same id (with_field (field_key field args) (link_or_null to)) h.0.0)
   command_same (C.Links id field args to) h = (refl, changed_same id (with_field (field_key field args) (Links to)) h.0.0)
   command_same (C.Create id of) h = (refl, created_same id of h.0.0)

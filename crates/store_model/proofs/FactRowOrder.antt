@@ -49,17 +49,17 @@ row_below id (f ∷ fs) rs all = (below_rows (fact_at id f) rs all, row_below id
 
 -- ---- all rows
 
-joined : (fs gs : List Fact) → IsStrictlySortedBy fact_cmp fs → IsStrictlySortedBy fact_cmp gs
+append_sorted : (fs gs : List Fact) → IsStrictlySortedBy fact_cmp fs → IsStrictlySortedBy fact_cmp gs
     → AllByRecursion (λ f. AllByRecursion (λ g. fact_cmp f g ≡ Less) gs) fs → IsStrictlySortedBy fact_cmp (fs ++ gs)
 unfolding IsStrictlySortedBy
-joined [] gs a b all = b
-joined (f ∷ fs) gs a b all = (each_append (λ g. fact_cmp f g ≡ Less) fs gs a.0 all.0, joined fs gs a.1 b all.1)
+append_sorted [] gs a b all = b
+append_sorted (f ∷ fs) gs a b all = (each_append (λ g. fact_cmp f g ≡ Less) fs gs a.0 all.0, append_sorted fs gs a.1 b all.1)
 
 rows_rise : (rows : List FactRow) → IsStrictlySortedBy (λ a b. text_cmp a.id b.id) rows → HaveFieldsInOrder rows → IsStrictlySortedBy fact_cmp (facts_of rows)
 unfolding IsStrictlySortedBy
 rows_rise [] order fields = tt
 rows_rise (r ∷ rs) order fields =
-    joined (facts_of_row r) (facts_of rs)
+    append_sorted (facts_of_row r) (facts_of rs)
     (row_rises r.id (fields_of r) (AreInOrder-put typename (Leaf (Words r.type_name)) r.fields fields.0))
     (rows_rise rs order.1 fields.1)
     (row_below r.id (fields_of r) rs order.0)

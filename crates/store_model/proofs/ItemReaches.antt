@@ -6,7 +6,7 @@ use Rattle.store_record.specs.Keys.{Text}
 use Rattle.store_model.proofs.ItemReads.{all_alike, GivesItems}
 use Rattle.store_model.proofs.SameItems.{AlikeAsked, AlikeItem, Fieldwise, grouped_alike, parts_alike}
 use Rattle.store_model.specs.Items.{Asked, Group, members, parts, Collect, collect_all, groups_at}
-use Rattle.store_model.specs.Reaches.{Onward, types_of, followed, from_each, reach_asked, reach_groups, reach_stand, reach_at}
+use Rattle.store_model.specs.Reaches.{Onward, types_of, links_followed, from_each, reach_asked, reach_groups, reach_stand, reach_at}
 use Rattle.store_model.specs.Walks.{Slots, Fields, Standing, absent, gone, lives, standing_of, field_of}
 
 from_alike : (next other : Text → List Text) → ((id : Text) → next id ≡ other id) → (ids : List Text) → from_each next ids ≡ from_each other ids
@@ -24,8 +24,8 @@ module _ {F G : Type 0} (r : F → G → Type 0) (next : Onward F) (other : Onwa
   fields_alike fields fs gs below [] (v ∷ vs) h = absurd h
   fields_alike fields fs gs below (u ∷ us) [] h = absurd h
   fields_alike fields fs gs below (u ∷ us) (v ∷ vs) h =
-      let first = from_alike (next (types_of u.ask.form) fs) (other (types_of u.ask.form) gs) (below (types_of u.ask.form)) (followed fields u.ask)
-      ∙ ap (λ a. from_each (other (types_of a.form) gs) (followed fields a)) h.0.ask in
+      let first = from_alike (next (types_of u.ask.form) fs) (other (types_of u.ask.form) gs) (below (types_of u.ask.form)) (links_followed fields u.ask)
+      ∙ ap (λ a. from_each (other (types_of a.form) gs) (links_followed fields a)) h.0.ask in
       let rest = fields_alike fields fs gs below us vs h.1 in
       λ i. first i ++ rest i
 

@@ -3,7 +3,7 @@ use Rattle.std.proofs.Common.{◌≡◌, ℕ, zero, suc, List, [], ◌∷◌, �
 use Rattle.std.specs.List.{AllZip}
 use Rattle.store_model.proofs.Merged.{NoneOf, joining, group_itself_as}
 use Rattle.store_model.specs.Alike.{Related, AlikeGroup, AlikePointer, Alike}
-use Rattle.store_model.specs.Items.{Asked, Pointer, Item, asked, pointed, asked_of, grouped, grouped_onto, without, pointers, Collect, collect_all, groups_at, pointers_on}
+use Rattle.store_model.specs.Items.{Asked, Pointer, Item, asked, pointed, asked_of, groups_of, grouped_onto, without, pointers, Collect, collect_all, groups_at, pointers_on}
 use Rattle.store_record.specs.Keys.{Text}
 
 pointer_itself : {F : Type 0} (r : Related F F) (whole : (types : List Text) (fs : List F) → r types fs fs) (T : Text) (ps : List (Pointer F)) → AllZip (AlikePointer r T) ps ps
@@ -25,7 +25,7 @@ module _ {F : Type 0} (collect : Collect F) where
   alike_items (suc n) types fs gs e = λ T here.
       let same = alike_itself (suc n) types fs T here in
       record {
-        groups = subst (λ xs. AllZip (AlikeGroup (Alike collect collect n)) (groups_at collect T fs) (grouped xs)) (e T) same.groups;
+        groups = subst (λ xs. AllZip (AlikeGroup (Alike collect collect n)) (groups_at collect T fs) (groups_of xs)) (e T) same.groups;
         pointers = subst (λ xs. AllZip (AlikePointer (Alike collect collect n) T) (pointers_on collect T fs) (pointers xs)) (e T) same.pointers;
       }
 
@@ -53,7 +53,7 @@ module _ {F : Type 0} (collect : Collect F) where
   -- at a type, items that differ by one join of two fields whose parts give, together, what the one part gives
   pub join_at : (n : ℕ) (T : Text) (p q rest : List (Item F)) (a b c : Asked F) → a.ask ≡ c.ask → b.ask ≡ c.ask → NoneOf a.ask.response (asked_of q)
       → ((U : Text) → collect U c.part ≡ collect U a.part ++ collect U b.part)
-      → AllZip (AlikeGroup (Alike collect collect n)) (grouped (p ++ asked a ∷ (q ++ asked b ∷ rest))) (grouped (p ++ asked c ∷ (q ++ rest)))
+      → AllZip (AlikeGroup (Alike collect collect n)) (groups_of (p ++ asked a ∷ (q ++ asked b ∷ rest))) (groups_of (p ++ asked c ∷ (q ++ rest)))
   join_at n T p q rest a b c e f none both =
       let left : asked_of (p ++ asked a ∷ (q ++ asked b ∷ rest)) ≡ asked_of p ++ a ∷ (asked_of q ++ b ∷ asked_of rest)
       = asked_append p (asked a ∷ (q ++ asked b ∷ rest)) ∙ ap (λ us. asked_of p ++ a ∷ us) (asked_append q (asked b ∷ rest)) in

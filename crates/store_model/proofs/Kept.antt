@@ -12,10 +12,10 @@ use Rattle.store_model.proofs.SameSlots.{read_same_seen}
 use Rattle.store_model.specs.Alike.{Among}
 use Rattle.store_model.proofs.Seated.{among_map, each_among, group_for, SeatedIn, Seated, grouped_seats, Fits, grouped_fits, among_all}
 use Rattle.store_model.specs.Entries.{some_ids}
-use Rattle.store_model.specs.Items.{Form, typename, leaf, one, many, Ask, key_of, handle_of, Asked, Pointer, Item, asked, pointed, Group, members, parts, asks, asked_of, grouped, without, pointers, Collect, collect_all}
-use Rattle.store_model.specs.Reaches.{Onward, types_of, links_of, links_under, followed, from_each, reach_asked, reach_groups, reach_stand, reach_at}
+use Rattle.store_model.specs.Items.{Form, typename, leaf, one, many, Ask, key_of, handle_of, Asked, Pointer, Item, asked, pointed, Group, members, parts, asks, asked_of, groups_of, without, pointers, Collect, collect_all}
+use Rattle.store_model.specs.Reaches.{Onward, types_of, links_of, links_under, links_followed, from_each, reach_asked, reach_groups, reach_stand, reach_at}
 use Rattle.store_model.specs.Retention.{Covered, Covers}
-use Rattle.store_model.specs.Walks.{Issued, stood, Slots, Fields, Standing, absent, gone, lives, standing_of, field_of, Trace, joined, looks_at, Shown, Found, Next, null_alone, leaf_at, one_at, elements_at, many_at, value_at, read_key, group_at, fields_at, pointer_at, pointers_at, marks, object_at, where_possible, stand_at, read_at, pointers_of_reads, pointers_in_turn}
+use Rattle.store_model.specs.Walks.{Issued, trace_at, Slots, Fields, Standing, absent, gone, lives, standing_of, field_of, Trace, join_traces, looks_at, Shown, Found, Next, null_alone, leaf_at, one_at, elements_at, many_at, value_at, read_key, group_at, fields_at, pointer_at, pointers_at, marks, object_at, where_possible, stand_at, read_at, pointers_of_reads, pointers_in_turn}
 
 -- ---- a field is read under one of the keys that are followed
 
@@ -39,7 +39,7 @@ module _ (P : Text → Type 0) (on : Text → List Text) where
 abbrev pub Holds : (Text → Type 0) → (Issued → Type 0) → Trace → Type 0
 Holds P J t = Each P t.seen × Each J t.issued
 
-holds_joined : (P : Text → Type 0) (J : Issued → Type 0) (s t : Trace) → Holds P J s → Holds P J t → Holds P J (joined s t)
+holds_joined : (P : Text → Type 0) (J : Issued → Type 0) (s t : Trace) → Holds P J s → Holds P J t → Holds P J (join_traces s t)
 holds_joined P J s t a b = (each_append P s.seen t.seen a.0 b.0, each_append J s.issued t.issued a.1 b.1)
 
 kept_null : (P : Text → Type 0) (J : Issued → Type 0) (value : Plain) → Holds P J (null_alone value).1
@@ -112,19 +112,19 @@ module _ {F : Type 0} (P : Text → Type 0) (J : Issued → Type 0) (next : Next
   kept_fields T id fields end (g ∷ groups) before h =
       let look = looks_at g.first.ask.form id (read_key g.first.ask) in
       let value = (group_at next T fields g).1 in
-      holds_joined P J (joined look value) (fields_at next T id fields end groups).1
+      holds_joined P J (join_traces look value) (fields_at next T id fields end groups).1
       (holds_joined P J look value (kept_look P J g.first.ask.form id (read_key g.first.ask)) h.0)
       (kept_fields T id fields end groups before h.1)
 
 -- ---- the reach below the fields of one record
 
 module _ {F : Type 0} (P : Text → Type 0) (next : Onward F) (fields : Fields) where
-  reach_of_field : (fs : List F) (us : List Ask) (a : Ask) → Among a us → Each P (reach_asked next fields fs us) → Each P (from_each (next (types_of a.form) fs) (followed fields a))
+  reach_of_field : (fs : List F) (us : List Ask) (a : Ask) → Among a us → Each P (reach_asked next fields fs us) → Each P (from_each (next (types_of a.form) fs) (links_followed fields a))
   reach_of_field fs [] a h all = absurd h
   reach_of_field fs (u ∷ us) a (inl e) all =
-      subst (λ b. Each P (from_each (next (types_of b.form) fs) (followed fields b))) e (each_left P (from_each (next (types_of u.form) fs) (followed fields u)) (reach_asked next fields fs us) all)
+      subst (λ b. Each P (from_each (next (types_of b.form) fs) (links_followed fields b))) e (each_left P (from_each (next (types_of u.form) fs) (links_followed fields u)) (reach_asked next fields fs us) all)
   reach_of_field fs (u ∷ us) a (inr h) all =
-      reach_of_field fs us a h (each_right P (from_each (next (types_of u.form) fs) (followed fields u)) (reach_asked next fields fs us) all)
+      reach_of_field fs us a h (each_right P (from_each (next (types_of u.form) fs) (links_followed fields u)) (reach_asked next fields fs us) all)
 
   abbrev ReachIn : Option (Group F) → Type 0
   ReachIn None = Unit {0}
@@ -215,22 +215,22 @@ module _ {F : Type 0} (masked whole : Collect F) (Deep : ℕ → F → Type 0) (
 
     kept_object : (owner T : Text) (fs gs : List F) (id : Text) (fields : Fields) → Each (SubAt T gs) fs → Each (Deep (suc n)) fs
         → ((p : Pointer F) → GoodPointer n T gs p → HoldsAt P J next T id p)
-        → Each P (reach_groups onward fields (grouped (collect_all whole T gs))) → Holds P J (object_at masked owner next T fs id fields).1
+        → Each P (reach_groups onward fields (groups_of (collect_all whole T gs))) → Holds P J (object_at masked owner next T fs id fields).1
     kept_object owner T fs gs id fields sub deep inner reach =
         let items = collect_all masked T fs in
-        let hs = grouped (collect_all whole T gs) in
+        let hs = groups_of (collect_all whole T gs) in
         let good = good_items covered n T gs fs sub deep in
         let seats = each_so (GoodAsked n T gs) (SeatedDeep hs) (asked_of items) (λ a h. (grouped_seats (collect_all whole T gs) a h.0, h.1)) (good_asked n T gs items good) in
-        kept_fields P J next T id fields (marks owner id (pointers_at next T id (pointers items))) (grouped items)
+        kept_fields P J next T id fields (marks owner id (pointers_at next T id (pointers items))) (groups_of items)
         (kept_pointers P J next T id (pointers items) (each_so (GoodPointer n T gs) (HoldsAt P J next T id) (pointers items) inner (good_pointers n T gs items good)))
-        (each_so (Fits (SeatedDeep hs)) (λ g. Holds P J (group_at next T fields g).1) (grouped items)
+        (each_so (Fits (SeatedDeep hs)) (λ g. Holds P J (group_at next T fields g).1) (groups_of items)
         (λ g fits. kept_group T fields g (group_for g.first.ask.response hs) (seats_of hs g fits) (deep_of hs g fits) (reach_in P onward fields g.first.ask.response hs reach))
         (grouped_fits (SeatedDeep hs) items seats))
 
     kept_possible : (id : Text) (possible in_reach : Bool) → (possible ≡ true → in_reach ≡ true) → (r : Shown × Trace) (ids : List Text) → P id → Each P (cond in_reach ids []) → (possible ≡ true → Each P ids → Holds P J r.1)
         → Holds P J (where_possible possible id r).1
     kept_possible id false in_reach so r ids here h object = ((here, tt), tt)
-    kept_possible id true in_reach so r ids here h object = holds_joined P J (stood id) r.1 ((here, tt), tt) (object refl (subst (λ b. Each P (cond b ids [])) (so refl) h))
+    kept_possible id true in_reach so r ids here h object = holds_joined P J (trace_at id) r.1 ((here, tt), tt) (object refl (subst (λ b. Each P (cond b ids [])) (so refl) h))
 
     kept_stand : (typed : Text → Text) (owner : Text) (types reached : List Text) (fs gs : List F) (id : Text) (fields : Fields) (s : Standing)
         → ((name : Text) → s ≡ lives name → has_text types (typed name) ≡ true → has_text reached (typed name) ≡ true)
@@ -241,7 +241,7 @@ module _ {F : Type 0} (masked whole : Collect F) (Deep : ℕ → F → Type 0) (
     kept_stand typed owner types reached fs gs id fields gone within sub deep inner here reach = ((here, tt), tt)
     kept_stand typed owner types reached fs gs id fields (lives name) within sub deep inner here reach =
         let T = typed name in
-        kept_possible id (has_text types T) (has_text reached T) (within name refl) (object_at masked owner next T fs id fields) (reach_groups onward fields (grouped (collect_all whole T gs))) here reach
+        kept_possible id (has_text types T) (has_text reached T) (within name refl) (object_at masked owner next T fs id fields) (reach_groups onward fields (groups_of (collect_all whole T gs))) here reach
         (λ yes r. kept_object owner T fs gs id fields (sub name refl) deep (inner name refl (within name refl yes)) r)
 
   -- ---- the laws

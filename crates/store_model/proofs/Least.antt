@@ -4,7 +4,7 @@ use Rattle.std.proofs.lemmas.Slice.Eq.{bytes_eq-Decides}
 use Rattle.std.specs.List.{AllByRecursion}
 use Rattle.gql_plain.specs.Order.{has_text}
 use Rattle.store_record.specs.Keys.{Text}
-use Rattle.store_model.specs.Leads.{Live, Picked, none, picked, beside, pick, of_picked, grown}
+use Rattle.store_model.specs.Leads.{Live, Picked, none, picked, beside, pick, of_picked, grow}
 
 abbrev pub Each : {X : Type 0} → (X → Type 0) → List X → Type 0
 Each P xs = AllByRecursion P xs
@@ -88,12 +88,12 @@ pick_says P ids (x ∷ lives) =
 
 -- ---- the set that grows
 
-keeps_at : (n : ℕ) (ids : List Text) (id : Text) (p : Picked) → In id ids → ((rest : List Live) (more : List Text) → In id more → In id (grown n rest more))
-    → In id (of_picked ids (λ e rest. grown n rest (ids ++ e.out)) p)
+keeps_at : (n : ℕ) (ids : List Text) (id : Text) (p : Picked) → In id ids → ((rest : List Live) (more : List Text) → In id more → In id (grow n rest more))
+    → In id (of_picked ids (λ e rest. grow n rest (ids ++ e.out)) p)
 keeps_at n ids id none h later = h
 keeps_at n ids id (picked e rest) h later = later rest (ids ++ e.out) (in_left ids e.out id h)
 
-pub grown_keeps : (n : ℕ) (lives : List Live) (ids : List Text) (id : Text) → In id ids → In id (grown n lives ids)
+pub grown_keeps : (n : ℕ) (lives : List Live) (ids : List Text) (id : Text) → In id ids → In id (grow n lives ids)
 grown_keeps zero lives ids id h = h
 grown_keeps (suc n) lives ids id h = keeps_at n ids id (pick ids lives) h (λ rest more. grown_keeps n rest more id)
 
@@ -102,17 +102,17 @@ abbrev pub Done : List Text → Live → Type 0
 Done ids e = In e.id ids → Each (λ j. In j ids) e.out
 
 closed_at : (n : ℕ) (lives : List Live) (ids : List Text) (p : Picked) → ((P : Live → Type 0) → Says P ids lives p) → length lives ≤ suc n
-    → ((rest : List Live) (more : List Text) → length rest ≤ n → Each (Done (grown n rest more)) rest)
-    → Each (Done (of_picked ids (λ e rest. grown n rest (ids ++ e.out)) p)) lives
+    → ((rest : List Live) (more : List Text) → length rest ≤ n → Each (Done (grow n rest more)) rest)
+    → Each (Done (of_picked ids (λ e rest. grow n rest (ids ++ e.out)) p)) lives
 closed_at n lives ids none says short later =
     each_so (λ e. has_text ids e.id ≡ false) (Done ids) lives (λ e not_in is_in. absurd (true≢false (sym is_in ∙ not_in))) (says (Done ids))
 closed_at n lives ids (picked e rest) says short later =
-    let all = grown n rest (ids ++ e.out) in
+    let all = grow n rest (ids ++ e.out) in
     let s = says (Done all) in
     let here : Done all e = λ _. each_from (λ j. In j all) e.out (λ j h. grown_keeps n rest (ids ++ e.out) j (in_right ids e.out j h)) in
     s.2 here (later rest (ids ++ e.out) (omega (arith, s.1)))
 
-pub grown_closed : (n : ℕ) (lives : List Live) (ids : List Text) → length lives ≤ n → Each (Done (grown n lives ids)) lives
+pub grown_closed : (n : ℕ) (lives : List Live) (ids : List Text) → length lives ≤ n → Each (Done (grow n lives ids)) lives
 grown_closed zero [] ids short = tt
 grown_closed zero (e ∷ lives) ids short = absurd (omega arith)
 grown_closed (suc n) lives ids short = closed_at n lives ids (pick ids lives) (λ P. pick_says P ids lives) short (grown_closed n)
@@ -121,14 +121,14 @@ abbrev pub Closed : (Text → Type 0) → Live → Type 0
 Closed P e = P e.id → Each P e.out
 
 least_at : (P : Text → Type 0) (n : ℕ) (lives : List Live) (ids : List Text) (p : Picked) → Says (Closed P) ids lives p → Each P ids → Each (Closed P) lives
-    → ((rest : List Live) (more : List Text) → Each P more → Each (Closed P) rest → Each P (grown n rest more))
-    → Each P (of_picked ids (λ e rest. grown n rest (ids ++ e.out)) p)
+    → ((rest : List Live) (more : List Text) → Each P more → Each (Closed P) rest → Each P (grow n rest more))
+    → Each P (of_picked ids (λ e rest. grow n rest (ids ++ e.out)) p)
 least_at P n lives ids none says all closed later = all
 least_at P n lives ids (picked e rest) says all closed later =
     let r = says.3 closed in
     later rest (ids ++ e.out) (each_append P ids e.out all (r.0 (of_member P ids e.id all says.0))) r.1
 
 -- whatever holds of the first ids and is closed holds of all that are led to
-pub grown_least : (P : Text → Type 0) (n : ℕ) (lives : List Live) (ids : List Text) → Each P ids → Each (Closed P) lives → Each P (grown n lives ids)
+pub grown_least : (P : Text → Type 0) (n : ℕ) (lives : List Live) (ids : List Text) → Each P ids → Each (Closed P) lives → Each P (grow n lives ids)
 grown_least P zero lives ids all closed = all
 grown_least P (suc n) lives ids all closed = least_at P n lives ids (pick ids lives) (pick_says (Closed P) ids lives) all closed (grown_least P n)

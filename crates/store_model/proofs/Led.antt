@@ -12,31 +12,31 @@ use Rattle.store_record.specs.declared.record.Record.{Record}
 use Rattle.store_record.specs.declared.record.Slot.{Slot}
 use Rattle.store_record.specs.declared.record.Slot.TheVariants.{Deleted, Alive}
 use Rattle.store_model.proofs.Least.{Each, In, Done, Closed, in_first, in_rest, or_right, of_member, each_append, each_left, each_right, each_so, grown_keeps, grown_closed, grown_least}
-use Rattle.store_model.specs.Leads.{Live, live_of, lives_of, ids_of_fields, with_infos, grown, LeadsIsLeast}
+use Rattle.store_model.specs.Leads.{Live, live_of, lives_of, ids_of_fields, with_infos, grow, LeadsIsLeast}
 use Rattle.store_model.specs.Merge.{info_id}
 use Rattle.store_model.specs.Records.{Records, alive, live}
 
 abbrev order : Text → Text → Ordering
 order = slice_cmp nat_cmp
 
-abbrev led : Text → Record → Live
-led id row = record { id = id; out = info_id id ∷ with_infos (ids_of_fields row.fields) }
+abbrev live_under : Text → Record → Live
+live_under id row = record { id = id; out = info_id id ∷ with_infos (ids_of_fields row.fields) }
 
 same_some : {X : Type 0} (x y : X) → Some x ≡ Some y → x ≡ y
 same_some x y e = ap (λ o. unwrap_or o x) e
 
 -- ---- a live record is among the lives
 
-found_here : (P : Live → Type 0) (id key : Text) (s : Slot) (row : Record) → id ≡ key → Each P (live_of key s) → alive s ≡ Some row → P (led id row)
+found_here : (P : Live → Type 0) (id key : Text) (s : Slot) (row : Record) → id ≡ key → Each P (live_of key s) → alive s ≡ Some row → P (live_under id row)
 found_here P id key Deleted row same all e = absurd (true≢false (sym (ap is_some e)))
-found_here P id key (Alive here) row same all e = subst (λ k. P (led k row)) (sym same) (subst (λ r. P (led key r)) (same_some here row e) all.0)
+found_here P id key (Alive here) row same all e = subst (λ k. P (live_under k row)) (sym same) (subst (λ r. P (live_under key r)) (same_some here row e) all.0)
 
-found : (P : Live → Type 0) (es : List (Text × Slot)) → Each P (lives_of es) → (id : Text) (row : Record) → option_and_then alive (find order id es) ≡ Some row → P (led id row)
-found P [] all id row e = absurd (true≢false (sym (ap is_some e)))
-found P (x ∷ es) all id row e =
-    elim (eq_by_cmp order id x.0) as (λ b. eq_by_cmp order id x.0 ≡ b → option_and_then alive (cond b (Some x.1) (find order id es)) ≡ Some row → P (led id row)) [
+finds : (P : Live → Type 0) (es : List (Text × Slot)) → Each P (lives_of es) → (id : Text) (row : Record) → option_and_then alive (find order id es) ≡ Some row → P (live_under id row)
+finds P [] all id row e = absurd (true≢false (sym (ap is_some e)))
+finds P (x ∷ es) all id row e =
+    elim (eq_by_cmp order id x.0) as (λ b. eq_by_cmp order id x.0 ≡ b → option_and_then alive (cond b (Some x.1) (find order id es)) ≡ Some row → P (live_under id row)) [
       | true ↦ λ t here. found_here P id x.0 x.1 row ((bytes_eq-Decides id x.0).0 (sym (is_eq-slice_cmp id x.0) ∙ t)) (each_left P (live_of x.0 x.1) (lives_of es) all) here
-      | false ↦ λ _ later. found P es (each_right P (live_of x.0 x.1) (lives_of es) all) id row later
+      | false ↦ λ _ later. finds P es (each_right P (live_of x.0 x.1) (lives_of es) all) id row later
     ] refl e
 
 -- ---- and each of the lives is a live record
@@ -66,12 +66,12 @@ own (x ∷ es) sorted =
     let same : eq_by_cmp order x.0 x.0 ≡ true = is_eq-slice_cmp x.0 x.0 ∙ (bytes_eq-Decides x.0 x.0).1 refl in
     (ap (λ b. cond b (Some x.1) (find order x.0 es)) same, own_rest x es es (T_first _ _ sorted) (own es (T_second _ _ sorted)))
 
-here_closed : (m : Records) (P : Text → Type 0) → ((id : Text) (row : Record) → live id m ≡ Some row → P id → Each P (led id row).out)
+here_closed : (m : Records) (P : Text → Type 0) → ((id : Text) (row : Record) → live id m ≡ Some row → P id → Each P (live_under id row).out)
     → (id : Text) (s : Slot) → map.get m id ≡ Some s → Each (Closed P) (live_of id s)
 here_closed m P closed id Deleted e = tt
 here_closed m P closed id (Alive row) e = (closed id row (ap (option_and_then alive) e), tt)
 
-lives_closed : (m : Records) (P : Text → Type 0) → ((id : Text) (row : Record) → live id m ≡ Some row → P id → Each P (led id row).out)
+lives_closed : (m : Records) (P : Text → Type 0) → ((id : Text) (row : Record) → live id m ≡ Some row → P id → Each P (live_under id row).out)
     → (es : List (Text × Slot)) → Each (λ y. map.get m y.0 ≡ Some y.1) es → Each (Closed P) (lives_of es)
 lives_closed m P closed [] all = tt
 lives_closed m P closed (x ∷ es) all =
@@ -112,9 +112,9 @@ pub leads-least : LeadsIsLeast
 leads-least m ids =
     let lives = lives_of (map.entries m) in
     let start = with_infos ids in
-    let all = grown (length lives) lives start in
+    let all = grow (length lives) lives start in
     let done = λ (id : Text) (row : Record) (h : live id m ≡ Some row).
-    found (Done all) (map.entries m) (grown_closed (length lives) lives start (omega arith)) id row (ap (option_and_then alive) (sym (map.get-entries m id)) ∙ h) in
+    finds (Done all) (map.entries m) (grown_closed (length lives) lives start (omega arith)) id row (ap (option_and_then alive) (sym (map.get-entries m id)) ∙ h) in
     let out = λ (id : Text) (row : Record) (h : live id m ≡ Some row) (is_in : In id all). (done id row h is_in).1 in (
       record {
         given = λ id h. grown_keeps (length lives) lives start id (in_infos ids id h);

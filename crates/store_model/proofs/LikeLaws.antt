@@ -1,5 +1,6 @@
 -- The laws of likeness for the widest relation.
 use Rattle.std.proofs.Common.{◌≡◌, ℕ, zero, suc, Bool, true, false, true≢false, ◌∷◌, sym, refl, ◌∙◌, arith}
+use Rattle.gql_plain.proofs.Booleans.{both_ways}
 use Rattle.gql_plain.specs.Order.{has_text}
 use Rattle.store_record.specs.Keys.{Text}
 use Rattle.store_model.proofs.AlikeReaches.{reach_same}
@@ -11,11 +12,6 @@ use Rattle.store_model.specs.Alike.{Alike}
 use Rattle.store_model.specs.Items.{Item, asked, pointed, Collect}
 use Rattle.store_model.specs.Laws.{ReachesAreAlike, ResponsesAreAlike, IsLessDeep, DepthsAreEnough}
 use Rattle.store_model.specs.Reaches.{reach_at}
-
-both_ways : (a b : Bool) → (a ≡ true → b ≡ true) → (b ≡ true → a ≡ true) → a ≡ b
-both_ways true b f g = sym (f refl)
-both_ways false true f g = g refl
-both_ways false false f g = refl
 
 pub reach_alike : {F G : Type 0} → ReachesAreAlike F G
 reach_alike collect gather typed m depth types fs gs id h j =

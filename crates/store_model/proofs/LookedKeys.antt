@@ -8,8 +8,8 @@ use Rattle.store_record.specs.declared.field.Field.{Field}
 use Rattle.store_record.specs.declared.field.Field.TheVariants.{Leaf, Link, Links}
 use Rattle.store_model.proofs.Least.{Each, each_append, each_so}
 use Rattle.store_model.proofs.Seated.{Fits, grouped_fits}
-use Rattle.store_model.specs.Items.{Form, typename, leaf, one, many, Asked, Pointer, Item, asked, pointed, Group, members, parts, asked_of, grouped, without, pointers, Collect, collect_all}
-use Rattle.store_model.specs.Walks.{Slots, Fields, Standing, absent, gone, lives, standing_of, field_of, Trace, joined, looks_at, Shown, Next, null_alone, leaf_at, one_at, elements_at, many_at, value_at, read_key, group_at, fields_at, pointer_at, pointers_at, marks, object_at, where_possible, stand_at, read_at}
+use Rattle.store_model.specs.Items.{Form, typename, leaf, one, many, Asked, Pointer, Item, asked, pointed, Group, members, parts, asked_of, groups_of, without, pointers, Collect, collect_all}
+use Rattle.store_model.specs.Walks.{Slots, Fields, Standing, absent, gone, lives, standing_of, field_of, Trace, join_traces, looks_at, Shown, Next, null_alone, leaf_at, one_at, elements_at, many_at, value_at, read_key, group_at, fields_at, pointer_at, pointers_at, marks, object_at, where_possible, stand_at, read_at}
 
 -- what holds of the key that a form looks at
 abbrev pub LooksWell : (Text → Type 0) → Form → Text → Type 0
@@ -108,7 +108,7 @@ module _ {F : Type 0} (Q : Text → Type 0) (K : F → Type 0) where
         let look = looks_at g.first.ask.form id (read_key g.first.ask) in
         let value = (group_at next T fields g).1 in
         let others = each_so (λ a. (g.first.ask.response ≡ a.ask.response) × KeyedAsked a) KeyedAsked g.others (λ a e. e.1) h.0.1 in
-        each_append (λ p. Q p.1) (joined look value).looked (fields_at next T id fields end groups).1.looked
+        each_append (λ p. Q p.1) (join_traces look value).looked (fields_at next T id fields end groups).1.looked
         (each_append (λ p. Q p.1) look.looked value.looked (looked_own Q g.first.ask.form id (read_key g.first.ask) h.0.0.0)
         (looked_value (parts g) (parts_keyed (members g) (h.0.0, others)) T g.first.ask.form (fields (read_key g.first.ask))))
         (looked_fields T id fields end groups before h.1)
@@ -135,7 +135,7 @@ module _ {F : Type 0} (Q : Text → Type 0) (K : F → Type 0) where
         let items = collect_all collect T fs in
         let all = all_keyed collect keyed T fs h in
         looked_possible id (has_text types T) (object_at collect owner next T fs id fields)
-        (looked_fields T id fields (marks owner id (pointers_at next T id (pointers items))) (grouped items)
+        (looked_fields T id fields (marks owner id (pointers_at next T id (pointers items))) (groups_of items)
         (looked_pointers T id (pointers items) (pointers_keyed items all)) (grouped_fits KeyedAsked items (asked_keyed items all)))
 
   -- what holds of the keys of all that is collected on the way holds of each key that a read looks at

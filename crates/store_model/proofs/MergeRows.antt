@@ -69,61 +69,61 @@ page_information_that_the_server_has_not_is_made_without_fields = simp (gets) re
 
 -- ---- a connection that the client keeps: its counter, its edges, its last cursor
 
-abbrev kept : Field → Field → Records
-kept next last =
+abbrev with_fields : Field → Field → Records
+with_fields next last =
     with_page
     (with_record (codes "4") (record { type_name = codes "User"; fields = (codes "__K_friends_connection", Link connection) ∷ (codes "friends", Link (codes "c")) ∷ [] })
     (with_record connection (record { type_name = codes "UserConnection"; fields = (codes "__next", next) ∷ (codes "edges", Links (Some (codes "old") ∷ [])) ∷ (codes "pageInfo", Link (codes "other")) ∷ [] })
     (with_record info_id (record { type_name = codes "PageInfo"; fields = (codes "endCursor", last) ∷ [] })
     (with_record (codes "other") (record { type_name = codes "PageInfo"; fields = (codes "endCursor", Leaf (Words (codes "c9"))) ∷ [] }) no_records))))
 
-pub a_page_that_is_fetched_again_replaces_the_edges : edges_after (merge (handle Null Null) (kept (Leaf (Int (pos 7))) (Leaf (Words (codes "c2")))))
+pub a_page_that_is_fetched_again_replaces_the_edges : edges_after (merge (handle Null Null) (with_fields (Leaf (Int (pos 7))) (Leaf (Words (codes "c2")))))
     ≡ Some (Links (Some (edge_named (codes "7")) ∷ Some (edge_named (codes "8")) ∷ []))
 unfolding serde_json_on_literals digits
 a_page_that_is_fetched_again_replaces_the_edges = simp (gets) refl
 
-pub a_page_after_the_last_cursor_goes_last : edges_after (merge (handle (Words (codes "c2")) Null) (kept (Leaf (Int (pos 7))) (Leaf (Words (codes "c2")))))
+pub a_page_after_the_last_cursor_goes_last : edges_after (merge (handle (Words (codes "c2")) Null) (with_fields (Leaf (Int (pos 7))) (Leaf (Words (codes "c2")))))
     ≡ Some (Links (Some (codes "old") ∷ Some (edge_named (codes "7")) ∷ Some (edge_named (codes "8")) ∷ []))
 unfolding serde_json_on_literals digits
 a_page_after_the_last_cursor_goes_last = simp (gets) refl
 
 -- the stored cursor is that of the page information which the client makes, whatever `pageInfo` links to
-pub a_foreign_cursor_changes_nothing : merge (handle (Words (codes "c9")) Null) (kept (Leaf (Int (pos 7))) (Leaf (Words (codes "c2")))) ≡ kept (Leaf (Int (pos 7))) (Leaf (Words (codes "c2")))
+pub a_foreign_cursor_changes_nothing : merge (handle (Words (codes "c9")) Null) (with_fields (Leaf (Int (pos 7))) (Leaf (Words (codes "c2")))) ≡ with_fields (Leaf (Int (pos 7))) (Leaf (Words (codes "c2")))
 unfolding serde_json_on_literals digits
 a_foreign_cursor_changes_nothing = simp (gets) refl
 
-pub a_number_is_a_cursor : edges_after (merge (handle (Int (pos 2)) Null) (kept (Leaf (Int (pos 7))) (Leaf (Int (pos 2)))))
+pub a_number_is_a_cursor : edges_after (merge (handle (Int (pos 2)) Null) (with_fields (Leaf (Int (pos 7))) (Leaf (Int (pos 2)))))
     ≡ Some (Links (Some (codes "old") ∷ Some (edge_named (codes "7")) ∷ Some (edge_named (codes "8")) ∷ []))
 unfolding serde_json_on_literals digits
 a_number_is_a_cursor = simp (gets) refl
 
-pub a_number_is_no_text : merge (handle (Int (pos 2)) Null) (kept (Leaf (Int (pos 7))) (Leaf (Words (codes "2")))) ≡ kept (Leaf (Int (pos 7))) (Leaf (Words (codes "2")))
+pub a_number_is_no_text : merge (handle (Int (pos 2)) Null) (with_fields (Leaf (Int (pos 7))) (Leaf (Words (codes "2")))) ≡ with_fields (Leaf (Int (pos 7))) (Leaf (Words (codes "2")))
 unfolding serde_json_on_literals digits
 a_number_is_no_text = simp (gets) refl
 
-pub a_list_is_a_cursor : edges_after (merge (handle (Listed (text (codes "x") ∷ [])) Null) (kept (Leaf (Int (pos 7))) (Leaf (Listed (text (codes "x") ∷ [])))))
+pub a_list_is_a_cursor : edges_after (merge (handle (Listed (text (codes "x") ∷ [])) Null) (with_fields (Leaf (Int (pos 7))) (Leaf (Listed (text (codes "x") ∷ [])))))
     ≡ Some (Links (Some (codes "old") ∷ Some (edge_named (codes "7")) ∷ Some (edge_named (codes "8")) ∷ []))
 unfolding serde_json_on_literals digits
 a_list_is_a_cursor = simp (gets) refl
 
 -- a link is no cursor, not even where null is asked for beside another
-pub a_link_is_no_cursor : merge (handle (Words (codes "c2")) Null) (kept (Leaf (Int (pos 7))) (Link (codes "c2"))) ≡ kept (Leaf (Int (pos 7))) (Link (codes "c2"))
+pub a_link_is_no_cursor : merge (handle (Words (codes "c2")) Null) (with_fields (Leaf (Int (pos 7))) (Link (codes "c2"))) ≡ with_fields (Leaf (Int (pos 7))) (Link (codes "c2"))
 unfolding serde_json_on_literals digits
 a_link_is_no_cursor = simp (gets) refl
 
-pub a_counter_at_its_end_stands_still : counter_after (merge (handle Null Null) (kept (Leaf (Int (pos 9223372036854775807))) (Leaf Null))) ≡ Some (Leaf (Int (pos 9223372036854775807)))
+pub a_counter_at_its_end_stands_still : counter_after (merge (handle Null Null) (with_fields (Leaf (Int (pos 9223372036854775807))) (Leaf Null))) ≡ Some (Leaf (Int (pos 9223372036854775807)))
 unfolding serde_json_on_literals digits
 a_counter_at_its_end_stands_still = simp (gets) refl
 
-pub the_last_edge_made_at_the_end_counts : live (edge_named (codes "9223372036854775807")) (merge (handle Null Null) (kept (Leaf (Int (pos 9223372036854775807))) (Leaf Null))) ≡ Some (edge (codes "c2"))
+pub the_last_edge_made_at_the_end_counts : live (edge_named (codes "9223372036854775807")) (merge (handle Null Null) (with_fields (Leaf (Int (pos 9223372036854775807))) (Leaf Null))) ≡ Some (edge (codes "c2"))
 unfolding serde_json_on_literals digits
 the_last_edge_made_at_the_end_counts = simp (gets) refl
 
-pub a_negative_counter_starts_anew : edges_after (merge (handle Null Null) (kept (Leaf (Int (negsuc 0))) (Leaf Null))) ≡ Some (Links (Some (edge_named (codes "0")) ∷ Some (edge_named (codes "1")) ∷ []))
+pub a_negative_counter_starts_anew : edges_after (merge (handle Null Null) (with_fields (Leaf (Int (negsuc 0))) (Leaf Null))) ≡ Some (Links (Some (edge_named (codes "0")) ∷ Some (edge_named (codes "1")) ∷ []))
 unfolding serde_json_on_literals digits
 a_negative_counter_starts_anew = simp (gets) refl
 
-pub a_counter_that_is_a_text_starts_anew : edges_after (merge (handle Null Null) (kept (Leaf (Words (codes "7"))) (Leaf Null))) ≡ Some (Links (Some (edge_named (codes "0")) ∷ Some (edge_named (codes "1")) ∷ []))
+pub a_counter_that_is_a_text_starts_anew : edges_after (merge (handle Null Null) (with_fields (Leaf (Words (codes "7"))) (Leaf Null))) ≡ Some (Links (Some (edge_named (codes "0")) ∷ Some (edge_named (codes "1")) ∷ []))
 unfolding serde_json_on_literals digits
 a_counter_that_is_a_text_starts_anew = simp (gets) refl
 

@@ -31,23 +31,23 @@ of_pages = record { types = codes "UserConnection" ∷ []; identified = []; open
 abbrev of_nodes : Below
 of_nodes = record { types = codes "Dog" ∷ codes "Horse" ∷ codes "User" ∷ []; identified = codes "Horse" ∷ codes "User" ∷ []; open_type = true }
 
-abbrev paged : Item ℕ
-paged = asked (record { ask = record { response = codes "page"; name = codes "friends"; arguments = (codes "after", text (codes "c1")) ∷ (codes "first", whole (pos 2)) ∷ []; connection = Some (record { key = codes "K_friends"; filters = None }); form = one of_pages }; part = 2 })
+abbrev page_item : Item ℕ
+page_item = asked (record { ask = record { response = codes "page"; name = codes "friends"; arguments = (codes "after", text (codes "c1")) ∷ (codes "first", whole (pos 2)) ∷ []; connection = Some (record { key = codes "K_friends"; filters = None }); form = one of_pages }; part = 2 })
 
 -- 0: the operation, 1: a user, 2: a page, 3: page information, 4: a user whose type is asked for, 5: any node
 abbrev project : Collect ℕ
 project T zero = ask (codes "me") (codes "me") (one of_users) 1 ∷ ask (codes "you") (codes "you") (one of_users) 4 ∷ ask (codes "node") (codes "node") (one of_nodes) 5 ∷ []
 project T (suc zero) =
     ask (codes "id") (codes "id") leaf 9 ∷ ask (codes "name") (codes "name") leaf 9 ∷ ask (codes "age") (codes "age") leaf 9
-    ∷ ask (codes "friends") (codes "friends") (many of_users) 1 ∷ ask (codes "best") (codes "best") (one of_users) 1 ∷ paged ∷ []
+    ∷ ask (codes "friends") (codes "friends") (many of_users) 1 ∷ ask (codes "best") (codes "best") (one of_users) 1 ∷ page_item ∷ []
 project T (suc (suc zero)) = ask (codes "pageInfo") (codes "pageInfo") (one (record { types = codes "PageInfo" ∷ []; identified = []; open_type = false })) 3 ∷ []
 project T (suc (suc (suc zero))) = ask (codes "endCursor") (codes "endCursor") leaf 9 ∷ []
 project T (suc (suc (suc (suc zero)))) = ask (codes "__typename") (codes "__typename") typename 9 ∷ ask (codes "id") (codes "id") leaf 9 ∷ ask (codes "name") (codes "name") leaf 9 ∷ []
 project T (suc (suc (suc (suc (suc zero))))) = ask (codes "__typename") (codes "__typename") typename 9 ∷ ask (codes "id") (codes "id") leaf 9 ∷ []
 project T (suc (suc (suc (suc (suc (suc k)))))) = []
 
-abbrev taken : Data → Verdict
-taken d = says project (codes "Query") (0 ∷ []) d
+abbrev verdict_of : Data → Verdict
+verdict_of d = says project (codes "Query") (0 ∷ []) d
 
 abbrev data_of : Data → Data
 data_of d = object (member (codes "data") d no_members)
@@ -66,28 +66,28 @@ num n = number (unsigned n)
 
 -- ---- no data
 
-pub a_response_that_is_no_object_has_no_data : taken (string (codes "x")) ≡ fault [] NoData
+pub a_response_that_is_no_object_has_no_data : verdict_of (string (codes "x")) ≡ fault [] NoData
 a_response_that_is_no_object_has_no_data = refl
 
-pub a_response_without_data : taken (object (member (codes "errors") nothing no_members)) ≡ fault [] NoData
+pub a_response_without_data : verdict_of (object (member (codes "errors") nothing no_members)) ≡ fault [] NoData
 a_response_without_data = refl
 
-pub data_that_is_null : taken (data_of nothing) ≡ fault [] NoData
+pub data_that_is_null : verdict_of (data_of nothing) ≡ fault [] NoData
 data_that_is_null = refl
 
-pub data_that_is_no_object : taken (data_of (num 5)) ≡ fault [] Shape
+pub data_that_is_no_object : verdict_of (data_of (num 5)) ≡ fault [] Shape
 data_that_is_no_object = refl
 
 -- ---- facts
 
-pub the_root_alone : taken (data_of (object no_members)) ≡ content (record { facts = fact root (codes "__typename") (Leaf (Words (codes "__Root"))) ∷ []; handles = [] })
+pub the_root_alone : verdict_of (data_of (object no_members)) ≡ content (record { facts = fact root (codes "__typename") (Leaf (Words (codes "__Root"))) ∷ []; handles = [] })
 the_root_alone = refl
 
-pub a_null_field_is_a_null_leaf : taken (data_of (object (member (codes "me") nothing no_members)))
+pub a_null_field_is_a_null_leaf : verdict_of (data_of (object (member (codes "me") nothing no_members)))
     ≡ content (record { facts = fact root (codes "__typename") (Leaf (Words (codes "__Root"))) ∷ fact root (codes "me") (Leaf Null) ∷ []; handles = [] })
 a_null_field_is_a_null_leaf = refl
 
-pub facts_stand_in_order : taken (with_me (member (codes "id") (string (codes "4")) (member (codes "name") (string (codes "Ann")) no_members)))
+pub facts_stand_in_order : verdict_of (with_me (member (codes "id") (string (codes "4")) (member (codes "name") (string (codes "Ann")) no_members)))
     ≡ content (record {
       facts =
           fact (codes "4") (codes "__typename") (Leaf (Words (codes "User"))) ∷ fact (codes "4") (codes "id") (Leaf (Words (codes "4"))) ∷ fact (codes "4") (codes "name") (Leaf (Words (codes "Ann")))
@@ -97,7 +97,7 @@ pub facts_stand_in_order : taken (with_me (member (codes "id") (string (codes "4
 facts_stand_in_order = refl
 
 -- without an id the record is named by its parent, the field's key and the place in the list
-pub an_object_without_an_id : taken (with_me (member (codes "friends") (array (item nothing (item (object no_members) no_items))) no_members))
+pub an_object_without_an_id : verdict_of (with_me (member (codes "friends") (array (item nothing (item (object no_members) no_items))) no_members))
     ≡ content (record {
       facts =
           fact root (codes "__typename") (Leaf (Words (codes "__Root"))) ∷ fact root (codes "me") (Link (codes "client:root:me"))
@@ -111,7 +111,7 @@ an_object_without_an_id = refl
 
 -- ---- pages
 
-pub a_page_has_its_cursors_and_types : taken (with_me (member (codes "id") (string (codes "4")) (member (codes "page") nothing no_members)))
+pub a_page_has_its_cursors_and_types : verdict_of (with_me (member (codes "id") (string (codes "4")) (member (codes "page") nothing no_members)))
     ≡ content (record {
       facts =
           fact (codes "4") (codes "__typename") (Leaf (Words (codes "User"))) ∷ fact (codes "4") (codes "friends(after:\"c1\",first:2)") (Leaf Null) ∷ fact (codes "4") (codes "id") (Leaf (Words (codes "4")))
@@ -123,63 +123,63 @@ a_page_has_its_cursors_and_types = refl
 
 -- ---- faults of shape and number
 
-pub no_object_where_one_has_to_stand : taken (data_of (object (member (codes "me") (num 5) no_members))) ≡ fault (Key (codes "me") ∷ []) Shape
+pub no_object_where_one_has_to_stand : verdict_of (data_of (object (member (codes "me") (num 5) no_members))) ≡ fault (Key (codes "me") ∷ []) Shape
 no_object_where_one_has_to_stand = refl
 
-pub a_list_where_an_object_has_to_stand : taken (data_of (object (member (codes "me") (array no_items) no_members))) ≡ fault (Key (codes "me") ∷ []) Shape
+pub a_list_where_an_object_has_to_stand : verdict_of (data_of (object (member (codes "me") (array no_items) no_members))) ≡ fault (Key (codes "me") ∷ []) Shape
 a_list_where_an_object_has_to_stand = refl
 
-pub an_object_where_a_list_has_to_stand : taken (with_me (member (codes "friends") (object no_members) no_members)) ≡ fault (Key (codes "me") ∷ Key (codes "friends") ∷ []) Shape
+pub an_object_where_a_list_has_to_stand : verdict_of (with_me (member (codes "friends") (object no_members) no_members)) ≡ fault (Key (codes "me") ∷ Key (codes "friends") ∷ []) Shape
 an_object_where_a_list_has_to_stand = refl
 
-pub an_element_that_is_no_object : taken (with_me (member (codes "friends") (array (item nothing (item (num 5) no_items))) no_members)) ≡ fault (Key (codes "me") ∷ Key (codes "friends") ∷ Index 1 ∷ []) Shape
+pub an_element_that_is_no_object : verdict_of (with_me (member (codes "friends") (array (item nothing (item (num 5) no_items))) no_members)) ≡ fault (Key (codes "me") ∷ Key (codes "friends") ∷ Index 1 ∷ []) Shape
 an_element_that_is_no_object = refl
 
-pub a_number_that_is_too_great : taken (with_me (member (codes "age") (num 9223372036854775808) no_members)) ≡ fault (Key (codes "me") ∷ Key (codes "age") ∷ []) NotWhole
+pub a_number_that_is_too_great : verdict_of (with_me (member (codes "age") (num 9223372036854775808) no_members)) ≡ fault (Key (codes "me") ∷ Key (codes "age") ∷ []) NotWhole
 a_number_that_is_too_great = refl
 
-pub a_number_in_a_leaf_that_is_too_great : taken (with_me (member (codes "age") (array (item (num 9223372036854775808) no_items)) no_members)) ≡ fault (Key (codes "me") ∷ Key (codes "age") ∷ []) NotWhole
+pub a_number_in_a_leaf_that_is_too_great : verdict_of (with_me (member (codes "age") (array (item (num 9223372036854775808) no_items)) no_members)) ≡ fault (Key (codes "me") ∷ Key (codes "age") ∷ []) NotWhole
 a_number_in_a_leaf_that_is_too_great = refl
 
 -- ---- faults of ids
 
-pub an_empty_id : taken (with_me (member (codes "id") (string []) no_members)) ≡ fault (Key (codes "me") ∷ Key (codes "id") ∷ []) IdShape
+pub an_empty_id : verdict_of (with_me (member (codes "id") (string []) no_members)) ≡ fault (Key (codes "me") ∷ Key (codes "id") ∷ []) IdShape
 an_empty_id = refl
 
-pub an_id_that_is_no_text : taken (with_me (member (codes "id") (num 4) no_members)) ≡ fault (Key (codes "me") ∷ Key (codes "id") ∷ []) IdShape
+pub an_id_that_is_no_text : verdict_of (with_me (member (codes "id") (num 4) no_members)) ≡ fault (Key (codes "me") ∷ Key (codes "id") ∷ []) IdShape
 an_id_that_is_no_text = refl
 
-pub an_id_of_the_client : taken (with_me (member (codes "id") (string (codes "client:4")) no_members)) ≡ fault (Key (codes "me") ∷ Key (codes "id") ∷ []) ReservedId
+pub an_id_of_the_client : verdict_of (with_me (member (codes "id") (string (codes "client:4")) no_members)) ≡ fault (Key (codes "me") ∷ Key (codes "id") ∷ []) ReservedId
 an_id_of_the_client = refl
 
 -- the object is walked all the same: a fault at a lesser path comes first
-pub the_least_path_comes_first : taken (with_me (member (codes "age") (num 9223372036854775808) (member (codes "id") (string (codes "client:4")) no_members)))
+pub the_least_path_comes_first : verdict_of (with_me (member (codes "age") (num 9223372036854775808) (member (codes "id") (string (codes "client:4")) no_members)))
     ≡ fault (Key (codes "me") ∷ Key (codes "age") ∷ []) NotWhole
 the_least_path_comes_first = refl
 
 -- at one path the least cause comes first
-pub the_least_cause_comes_first : taken (with_me (member (codes "id") (num 9223372036854775808) no_members)) ≡ fault (Key (codes "me") ∷ Key (codes "id") ∷ []) NotWhole
+pub the_least_cause_comes_first : verdict_of (with_me (member (codes "id") (num 9223372036854775808) no_members)) ≡ fault (Key (codes "me") ∷ Key (codes "id") ∷ []) NotWhole
 the_least_cause_comes_first = refl
 
 -- ---- faults of types
 
-pub another_type_under_an_object_type : taken (data_of (object (member (codes "you") (object (member (codes "__typename") (string (codes "Dog")) no_members)) no_members)))
+pub another_type_under_an_object_type : verdict_of (data_of (object (member (codes "you") (object (member (codes "__typename") (string (codes "Dog")) no_members)) no_members)))
     ≡ fault (Key (codes "you") ∷ Key (codes "__typename") ∷ []) Typename
 another_type_under_an_object_type = refl
 
 -- an object with this fault is not walked further, so that its empty id is no fault
-pub a_misnamed_object_is_not_walked : taken (data_of (object (member (codes "you") (object (member (codes "__typename") (string (codes "Dog")) (member (codes "id") (string []) no_members))) no_members)))
+pub a_misnamed_object_is_not_walked : verdict_of (data_of (object (member (codes "you") (object (member (codes "__typename") (string (codes "Dog")) (member (codes "id") (string []) no_members))) no_members)))
     ≡ fault (Key (codes "you") ∷ Key (codes "__typename") ∷ []) Typename
 a_misnamed_object_is_not_walked = refl
 
-pub no_type_under_an_abstract_type : taken (data_of (object (member (codes "node") (object no_members) no_members))) ≡ fault (Key (codes "node") ∷ Key (codes "__typename") ∷ []) Typename
+pub no_type_under_an_abstract_type : verdict_of (data_of (object (member (codes "node") (object no_members) no_members))) ≡ fault (Key (codes "node") ∷ Key (codes "__typename") ∷ []) Typename
 no_type_under_an_abstract_type = refl
 
-pub a_type_that_is_not_possible : taken (data_of (object (member (codes "node") (object (member (codes "__typename") (string (codes "Cat")) no_members)) no_members))) ≡ fault (Key (codes "node") ∷ Key (codes "__typename") ∷ []) Typename
+pub a_type_that_is_not_possible : verdict_of (data_of (object (member (codes "node") (object (member (codes "__typename") (string (codes "Cat")) no_members)) no_members))) ≡ fault (Key (codes "node") ∷ Key (codes "__typename") ∷ []) Typename
 a_type_that_is_not_possible = refl
 
 -- the type Dog has no id: what stands under `id` is a leaf alone
-pub a_type_without_an_id : taken (data_of (object (member (codes "node") (object (member (codes "__typename") (string (codes "Dog")) (member (codes "id") (string (codes "7")) no_members))) no_members)))
+pub a_type_without_an_id : verdict_of (data_of (object (member (codes "node") (object (member (codes "__typename") (string (codes "Dog")) (member (codes "id") (string (codes "7")) no_members))) no_members)))
     ≡ content (record {
       facts =
           fact root (codes "__typename") (Leaf (Words (codes "__Root"))) ∷ fact root (codes "node") (Link (codes "client:root:node"))
@@ -191,19 +191,19 @@ a_type_without_an_id = refl
 -- ---- conflicts
 
 -- of one user at two places the lesser path gives the first value, the other the path of the fault
-pub two_values_of_one_field : taken (data_of (object (member (codes "me") (object (member (codes "id") (string (codes "4")) (member (codes "name") (string (codes "Ann")) no_members)))
+pub two_values_of_one_field : verdict_of (data_of (object (member (codes "me") (object (member (codes "id") (string (codes "4")) (member (codes "name") (string (codes "Ann")) no_members)))
     (member (codes "you") (object (member (codes "id") (string (codes "4")) (member (codes "name") (string (codes "Bob")) no_members))) no_members))))
     ≡ fault (Key (codes "you") ∷ Key (codes "name") ∷ []) (Conflict (codes "4") (codes "name") (Leaf (Words (codes "Ann"))) (Leaf (Words (codes "Bob"))))
 two_values_of_one_field = refl
 
 -- the conflict is that of the least id and key, here the age, though the names differ too
-pub the_least_key_of_a_conflict : taken (with_me (member (codes "id") (string (codes "4")) (member (codes "name") (string (codes "Ann")) (member (codes "age") (num 5)
+pub the_least_key_of_a_conflict : verdict_of (with_me (member (codes "id") (string (codes "4")) (member (codes "name") (string (codes "Ann")) (member (codes "age") (num 5)
     (member (codes "best") (object (member (codes "id") (string (codes "4")) (member (codes "name") (string (codes "Bob")) (member (codes "age") nothing no_members)))) no_members)))))
     ≡ fault (Key (codes "me") ∷ Key (codes "best") ∷ Key (codes "age") ∷ []) (Conflict (codes "4") (codes "age") (Leaf (Int (pos 5))) (Leaf Null))
 the_least_key_of_a_conflict = refl
 
 -- three values: the second is at the least path of those that differ from the first, friends 10 being after friends 2
-pub the_second_value_of_three : taken (with_me (member (codes "friends") (array (
+pub the_second_value_of_three : verdict_of (with_me (member (codes "friends") (array (
     item (object (member (codes "id") (string (codes "5")) (member (codes "age") (num 1) no_members))) (
     item (object (member (codes "id") (string (codes "5")) (member (codes "age") (num 1) no_members))) (
     item (object (member (codes "id") (string (codes "5")) (member (codes "age") (num 2) no_members))) (
@@ -212,19 +212,19 @@ pub the_second_value_of_three : taken (with_me (member (codes "friends") (array 
 the_second_value_of_three = refl
 
 -- a conflict comes only without another fault
-pub another_fault_comes_before_a_conflict : taken (data_of (object (member (codes "me") (object (member (codes "id") (string (codes "4")) (member (codes "name") (string (codes "Ann")) no_members)))
+pub another_fault_comes_before_a_conflict : verdict_of (data_of (object (member (codes "me") (object (member (codes "id") (string (codes "4")) (member (codes "name") (string (codes "Ann")) no_members)))
     (member (codes "you") (object (member (codes "id") (string (codes "4")) (member (codes "name") (number (unsigned 9223372036854775808)) no_members))) no_members))))
     ≡ fault (Key (codes "you") ∷ Key (codes "name") ∷ []) NotWhole
 another_fault_comes_before_a_conflict = refl
 
 -- the path of a type name is that of its object
-pub two_type_names_of_one_id : taken (data_of (object (member (codes "me") (object (member (codes "id") (string (codes "4")) no_members))
+pub two_type_names_of_one_id : verdict_of (data_of (object (member (codes "me") (object (member (codes "id") (string (codes "4")) no_members))
     (member (codes "node") (object (member (codes "__typename") (string (codes "Horse")) (member (codes "id") (string (codes "4")) no_members))) no_members))))
     ≡ fault (Key (codes "node") ∷ []) (Conflict (codes "4") (codes "__typename") (Leaf (Words (codes "User"))) (Leaf (Words (codes "Horse"))))
 two_type_names_of_one_id = refl
 
 -- one user at two places, with equal values
-pub one_type_name_of_one_id : taken (data_of (object (member (codes "me") (object (member (codes "id") (string (codes "4")) no_members))
+pub one_type_name_of_one_id : verdict_of (data_of (object (member (codes "me") (object (member (codes "id") (string (codes "4")) no_members))
     (member (codes "node") (object (member (codes "__typename") (string (codes "User")) (member (codes "id") (string (codes "4")) no_members))) no_members))))
     ≡ content (record {
       facts =

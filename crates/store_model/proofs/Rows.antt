@@ -12,7 +12,7 @@ use Rattle.store_record.specs.declared.field.Field.{Field}
 use Rattle.store_record.specs.declared.field.Field.TheVariants.{Leaf, Link, Links}
 use Rattle.store_record.specs.declared.record.Record.{Record}
 use Rattle.store_record.specs.declared.record.Slot.TheVariants.{Deleted, Alive}
-use Rattle.store_model.specs.Entries.{apply, folded, looks, weight}
+use Rattle.store_model.specs.Entries.{apply, fold_entries, looks, weight}
 use Rattle.store_model.specs.Leads.{leads_along, lives_of}
 use Rattle.store_model.specs.Merge.{merge}
 use Rattle.store_model.specs.Records.{Records, no_records, with_record, slot_at, live, field_at}
@@ -229,30 +229,30 @@ an_edge_makes_a_list = simp (gets) refl
 
 -- ---- other commands
 
-abbrev aged : Plain → Records
-aged age = with_record (codes "4") (record { type_name = codes "User"; fields = (codes "age", Leaf age) ∷ [] }) no_records
+abbrev with_age : Plain → Records
+with_age age = with_record (codes "4") (record { type_name = codes "User"; fields = (codes "age", Leaf age) ∷ [] }) no_records
 
 abbrev age_of : Records → Option Field
 age_of m = option_and_then (field_at (codes "age")) (live (codes "4") m)
 
-pub a_sum_beyond_the_range_changes_nothing : age_of (act (C.Add (codes "4") (codes "age") [] (pos 1)) (aged (Int (pos 9223372036854775807)))) ≡ Some (Leaf (Int (pos 9223372036854775807)))
+pub a_sum_beyond_the_range_changes_nothing : age_of (act (C.Add (codes "4") (codes "age") [] (pos 1)) (with_age (Int (pos 9223372036854775807)))) ≡ Some (Leaf (Int (pos 9223372036854775807)))
 a_sum_beyond_the_range_changes_nothing = simp (gets) refl
 
-pub a_sum_within_the_range_is_taken : age_of (act (C.Add (codes "4") (codes "age") [] (negsuc 0)) (aged (Int (pos 9223372036854775807)))) ≡ Some (Leaf (Int (pos 9223372036854775806)))
+pub a_sum_within_the_range_is_taken : age_of (act (C.Add (codes "4") (codes "age") [] (negsuc 0)) (with_age (Int (pos 9223372036854775807)))) ≡ Some (Leaf (Int (pos 9223372036854775806)))
 a_sum_within_the_range_is_taken = simp (gets) refl
 
-pub a_number_is_added_to_numbers_alone : age_of (act (C.Add (codes "4") (codes "age") [] (pos 1)) (aged Null)) ≡ Some (Leaf Null)
+pub a_number_is_added_to_numbers_alone : age_of (act (C.Add (codes "4") (codes "age") [] (pos 1)) (with_age Null)) ≡ Some (Leaf Null)
 a_number_is_added_to_numbers_alone = simp (gets) refl
 
 -- the layers of a friend who is made, linked and named
 abbrev created_friend : Records
-created_friend = act_all (C.Create (codes "t1") (codes "User") ∷ C.Link (codes "4") (codes "friend") [] (Some (codes "t1")) ∷ C.Set (codes "t1") (codes "name") [] (Words (codes "Bo")) ∷ []) (aged Null)
+created_friend = act_all (C.Create (codes "t1") (codes "User") ∷ C.Link (codes "4") (codes "friend") [] (Some (codes "t1")) ∷ C.Set (codes "t1") (codes "name") [] (Words (codes "Bo")) ∷ []) (with_age Null)
 
 pub a_created_record_is_linked_and_named : live (codes "t1") created_friend ≡ Some (user (codes "Bo"))
 a_created_record_is_linked_and_named = simp (gets) refl
 
 abbrev linked_friend : Records
-linked_friend = act_all (C.Link (codes "4") (codes "friend") [] (Some (codes "t1")) ∷ C.Set (codes "t1") (codes "name") [] (Words (codes "Bo")) ∷ []) (aged Null)
+linked_friend = act_all (C.Link (codes "4") (codes "friend") [] (Some (codes "t1")) ∷ C.Set (codes "t1") (codes "name") [] (Words (codes "Bo")) ∷ []) (with_age Null)
 
 pub a_record_that_is_not_made_is_not_named : slot_at (codes "t1") linked_friend ≡ None
 a_record_that_is_not_made_is_not_named = simp (gets) refl
@@ -260,10 +260,10 @@ a_record_that_is_not_made_is_not_named = simp (gets) refl
 pub a_link_to_no_record_is_kept : option_and_then (field_at (codes "friend")) (live (codes "4") linked_friend) ≡ Some (Link (codes "t1"))
 a_link_to_no_record_is_kept = simp (gets) refl
 
-pub a_deleted_record_stays_as_deleted : slot_at (codes "4") (act (C.Delete (codes "4")) (aged Null)) ≡ Some Deleted
+pub a_deleted_record_stays_as_deleted : slot_at (codes "4") (act (C.Delete (codes "4")) (with_age Null)) ≡ Some Deleted
 a_deleted_record_stays_as_deleted = simp (gets) refl
 
-pub links_keep_their_nulls : option_and_then (field_at (codes "friends")) (live (codes "4") (act (C.Links (codes "4") (codes "friends") [] (Some (codes "5") ∷ None ∷ Some (codes "5") ∷ [])) (aged Null)))
+pub links_keep_their_nulls : option_and_then (field_at (codes "friends")) (live (codes "4") (act (C.Links (codes "4") (codes "friends") [] (Some (codes "5") ∷ None ∷ Some (codes "5") ∷ [])) (with_age Null)))
     ≡ Some (Links (Some (codes "5") ∷ None ∷ Some (codes "5") ∷ []))
 links_keep_their_nulls = simp (gets) refl
 
@@ -272,14 +272,14 @@ links_keep_their_nulls = simp (gets) refl
 abbrev layer : Command → Entry
 layer c = record { facts = record { facts = []; handles = [] }; commands = c ∷ [] }
 
-abbrev made : Entry
-made = layer (C.Create (codes "t1") (codes "User"))
+abbrev make_entry : Entry
+make_entry = layer (C.Create (codes "t1") (codes "User"))
 
-abbrev befriended : Entry
-befriended = layer (C.Link (codes "4") (codes "friend") [] (Some (codes "t1")))
+abbrev befriend_entry : Entry
+befriend_entry = layer (C.Link (codes "4") (codes "friend") [] (Some (codes "t1")))
 
-abbrev called : Entry
-called = layer (C.Set (codes "t1") (codes "name") [] (Words (codes "Bo")))
+abbrev name_entry : Entry
+name_entry = layer (C.Set (codes "t1") (codes "name") [] (Words (codes "Bo")))
 
 abbrev friendless : Records
 friendless = with_record (codes "4") (record { type_name = codes "User"; fields = (codes "friend", Leaf Null) ∷ [] }) no_records
@@ -287,16 +287,16 @@ friendless = with_record (codes "4") (record { type_name = codes "User"; fields 
 abbrev friend_of : Records → Option Field
 friend_of m = option_and_then (field_at (codes "friend")) (live (codes "4") m)
 
-pub a_layer_sees_those_before_it : live (codes "t1") (folded (made ∷ befriended ∷ called ∷ []) friendless) ≡ Some (user (codes "Bo"))
+pub a_layer_sees_those_before_it : live (codes "t1") (fold_entries (make_entry ∷ befriend_entry ∷ name_entry ∷ []) friendless) ≡ Some (user (codes "Bo"))
 a_layer_sees_those_before_it = simp (gets) refl
 
-pub live_layers_are_linked : friend_of (folded (made ∷ befriended ∷ called ∷ []) friendless) ≡ Some (Link (codes "t1"))
+pub live_layers_are_linked : friend_of (fold_entries (make_entry ∷ befriend_entry ∷ name_entry ∷ []) friendless) ≡ Some (Link (codes "t1"))
 live_layers_are_linked = simp (gets) refl
 
-pub a_reverted_link_leaves_what_was_confirmed : friend_of (folded (made ∷ called ∷ []) friendless) ≡ Some (Leaf Null)
+pub a_reverted_link_leaves_what_was_confirmed : friend_of (fold_entries (make_entry ∷ name_entry ∷ []) friendless) ≡ Some (Leaf Null)
 a_reverted_link_leaves_what_was_confirmed = simp (gets) refl
 
-pub a_reverted_record_is_not_there_for_later_layers : slot_at (codes "t1") (folded (called ∷ []) friendless) ≡ None
+pub a_reverted_record_is_not_there_for_later_layers : slot_at (codes "t1") (fold_entries (name_entry ∷ []) friendless) ≡ None
 a_reverted_record_is_not_there_for_later_layers = simp (gets) refl
 
 -- ---- entries: a record that was taken away comes back with the new fields alone
@@ -304,40 +304,40 @@ a_reverted_record_is_not_there_for_later_layers = simp (gets) refl
 abbrev fact : Text → Text → Field → Fact
 fact id key value = record { id = id; key = key; value = value }
 
-abbrev paid : Entry
-paid = record { facts = record { facts = fact (codes "9") (codes "__typename") (Leaf (Words (codes "User"))) ∷ []; handles = [] }; commands = [] }
+abbrev pay_entry : Entry
+pay_entry = record { facts = record { facts = fact (codes "9") (codes "__typename") (Leaf (Words (codes "User"))) ∷ []; handles = [] }; commands = [] }
 
-pub a_record_that_comes_back_has_its_new_fields_alone : live (codes "9") (apply paid (aged Null)) ≡ Some (record { type_name = codes "User"; fields = [] })
+pub a_record_that_comes_back_has_its_new_fields_alone : live (codes "9") (apply pay_entry (with_age Null)) ≡ Some (record { type_name = codes "User"; fields = [] })
 a_record_that_comes_back_has_its_new_fields_alone = simp (gets) refl
 
-pub a_live_record_keeps_its_fields : live (codes "4") (apply (record { facts = record { facts = fact (codes "4") (codes "__typename") (Leaf (Words (codes "Person"))) ∷ []; handles = [] }; commands = [] }) (aged Null))
+pub a_live_record_keeps_its_fields : live (codes "4") (apply (record { facts = record { facts = fact (codes "4") (codes "__typename") (Leaf (Words (codes "Person"))) ∷ []; handles = [] }; commands = [] }) (with_age Null))
     ≡ Some (record { type_name = codes "Person"; fields = (codes "age", Leaf Null) ∷ [] })
 a_live_record_keeps_its_fields = simp (gets) refl
 
-pub an_entry_weighs_its_facts_and_what_they_ask_for : weight paid no_records ≡ 2
+pub an_entry_weighs_its_facts_and_what_they_ask_for : weight pay_entry no_records ≡ 2
 an_entry_weighs_its_facts_and_what_they_ask_for = refl
 
 -- ---- what a page asks for: no edge that is null, each other edge whether it is live or not
 
-abbrev paged : HandleFact → Entry
-paged h = record { facts = record { facts = []; handles = h ∷ [] }; commands = [] }
+abbrev page_entry : HandleFact → Entry
+page_entry h = record { facts = record { facts = []; handles = h ∷ [] }; commands = [] }
 
-pub a_first_page_asks_for_the_servers_records : looks (paged (handle Null Null (codes "friends"))) first_page
+pub a_first_page_asks_for_the_servers_records : looks (page_entry (handle Null Null (codes "friends"))) first_page
     ≡ codes "4" ∷ codes "c" ∷ codes "i" ∷ codes "a" ∷ codes "b" ∷ []
 unfolding serde_json_on_literals digits
 a_first_page_asks_for_the_servers_records = simp (gets) refl
 
-pub a_first_page_weighs_as_much : weight (paged (handle Null Null (codes "friends"))) first_page ≡ 6
+pub a_first_page_weighs_as_much : weight (page_entry (handle Null Null (codes "friends"))) first_page ≡ 6
 unfolding serde_json_on_literals digits
 a_first_page_weighs_as_much = simp (gets) refl
 
-pub a_page_before_asks_for_the_old_edges_too : looks (paged (handle Null (Words (codes "c1")) (codes "older"))) older_page
+pub a_page_before_asks_for_the_old_edges_too : looks (page_entry (handle Null (Words (codes "c1")) (codes "older"))) older_page
     ≡ codes "4" ∷ codes "d" ∷ connection ∷ (connection ++ codes ":pageInfo") ∷ codes "j" ∷ codes "e" ∷ codes "gone" ∷ codes "f"
     ∷ edge_named (codes "0") ∷ edge_named (codes "1") ∷ []
 unfolding serde_json_on_literals digits
 a_page_before_asks_for_the_old_edges_too = simp (gets) refl
 
-pub a_page_that_does_not_fit_asks_for_the_stored_cursor : looks (paged (handle Null (Words (codes "c9")) (codes "older"))) older_page
+pub a_page_that_does_not_fit_asks_for_the_stored_cursor : looks (page_entry (handle Null (Words (codes "c9")) (codes "older"))) older_page
     ≡ codes "4" ∷ codes "d" ∷ connection ∷ (connection ++ codes ":pageInfo") ∷ []
 unfolding serde_json_on_literals digits
 a_page_that_does_not_fit_asks_for_the_stored_cursor = simp (gets) refl
@@ -348,7 +348,7 @@ self_linked =
     with_record (codes "4") (record { type_name = codes "User"; fields = (codes "__K_friends_connection", Link (codes "4")) ∷ (codes "edges", Links (Some (codes "a") ∷ None ∷ Some (codes "a") ∷ [])) ∷ (codes "friends", Link (codes "4")) ∷ [] })
     no_records
 
-pub an_id_that_is_asked_for_twice_counts_once : weight (paged (handle Null Null (codes "friends"))) self_linked ≡ 4
+pub an_id_that_is_asked_for_twice_counts_once : weight (page_entry (handle Null Null (codes "friends"))) self_linked ≡ 4
 unfolding serde_json_on_literals digits
 an_id_that_is_asked_for_twice_counts_once = simp (gets) refl
 

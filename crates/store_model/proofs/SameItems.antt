@@ -4,7 +4,7 @@ use Rattle.std.specs.List.{AllByRecursion, AllZip}
 use Rattle.store_record.specs.Keys.{Text}
 use Rattle.gql_plain.specs.Order.{has_text}
 use Rattle.store_model.specs.Alike.{Among, AlikeGroup, AlikePointer, Keeps}
-use Rattle.store_model.specs.Items.{Asked, Pointer, Item, asked, pointed, Group, members, parts, asks, asked_of, with_asked, grouped_onto, grouped, without, pointers, Collect, collect_all, groups_at, pointers_on}
+use Rattle.store_model.specs.Items.{Asked, Pointer, Item, asked, pointed, Group, members, parts, asks, asked_of, with_asked, grouped_onto, groups_of, without, pointers, Collect, collect_all, groups_at, pointers_on}
 use Rattle.store_model.specs.Reaches.{types_of}
 
 -- one field, and related parts below it
@@ -73,7 +73,7 @@ module _ {F G : Type 0} (p : F → G → Type 0) where
   onto_alike gs hs (x ∷ xs) [] all e = absurd e
   onto_alike gs hs (x ∷ xs) (y ∷ ys) all e = onto_alike (with_asked gs x) (with_asked hs y) xs ys (with_asked_alike gs hs x y all e.0) e.1
 
-  pub grouped_alike : (xs : List (Item F)) (ys : List (Item G)) → AllZip (AlikeItem p) xs ys → AllZip (Fieldwise p) (grouped xs) (grouped ys)
+  pub grouped_alike : (xs : List (Item F)) (ys : List (Item G)) → AllZip (AlikeItem p) xs ys → AllZip (Fieldwise p) (groups_of xs) (groups_of ys)
   grouped_alike xs ys h = onto_alike [] [] (asked_of xs) (asked_of ys) tt (asked_alike xs ys h)
 
   pub parts_alike : (us : List (Asked F)) (vs : List (Asked G)) → AllZip (AlikeAsked p) us vs → AllZip p (map (λ a. a.part) us) (map (λ a. a.part) vs)

@@ -4,7 +4,7 @@ use Rattle.gql_plain.specs.Order.{has_text}
 use Rattle.store_record.specs.Keys.{Text}
 use Rattle.store_model.proofs.Least.{Each, each_left, each_right}
 use Rattle.store_model.specs.Items.{Ask, Group, asks, parts, Collect, groups_at}
-use Rattle.store_model.specs.Reaches.{Onward, types_of, followed, from_each, reach_asked, reach_groups, reach_stand, reach_at}
+use Rattle.store_model.specs.Reaches.{Onward, types_of, links_followed, from_each, reach_asked, reach_groups, reach_stand, reach_at}
 use Rattle.store_model.specs.Walks.{Slots, Fields, Standing, absent, gone, lives, standing_of, field_of}
 
 module _ (P : Text → Type 0) where
@@ -19,8 +19,8 @@ module _ (P : Text → Type 0) where
     asked_same : (fs : List F) (us : List Ask) → Each P (reach_asked next fields fs us) → reach_asked other fields fs us ≡ reach_asked next fields fs us
     asked_same fs [] h = refl
     asked_same fs (a ∷ us) h =
-        let here = from_each (next (types_of a.form) fs) (followed fields a) in
-        let first = from_same (next (types_of a.form) fs) (other (types_of a.form) fs) (same (types_of a.form) fs) (followed fields a) (each_left P here (reach_asked next fields fs us) h) in
+        let here = from_each (next (types_of a.form) fs) (links_followed fields a) in
+        let first = from_same (next (types_of a.form) fs) (other (types_of a.form) fs) (same (types_of a.form) fs) (links_followed fields a) (each_left P here (reach_asked next fields fs us) h) in
         let rest = asked_same fs us (each_right P here (reach_asked next fields fs us) h) in
         λ i. first i ++ rest i
 

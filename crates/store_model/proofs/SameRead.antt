@@ -7,14 +7,14 @@ use Rattle.store_record.specs.declared.field.Field.TheVariants.{Leaf, Link, Link
 use Rattle.store_model.proofs.Least.{each_left, each_right}
 use Rattle.store_model.specs.Agree.{Agrees, AgreeAt, AgreeUnder}
 use Rattle.store_model.specs.Items.{Form, typename, leaf, one, many, Pointer, Group, parts, Collect, groups_at, pointers_on}
-use Rattle.store_model.specs.Walks.{Slots, Fields, Standing, absent, gone, lives, standing_of, field_of, Trace, joined, stood, looks_at, issue, Shown, Next, or_null, with_found, with_value, leaf_at, one_at, element_at, elements_at, listed, many_at, value_at, read_key, group_at, fields_at, pointer_at, pointers_at, marks, object_at, where_possible, stand_at, read_at}
+use Rattle.store_model.specs.Walks.{Slots, Fields, Standing, absent, gone, lives, standing_of, field_of, Trace, join_traces, trace_at, looks_at, issue, Shown, Next, or_null, with_found, with_value, leaf_at, one_at, element_at, elements_at, list_found, many_at, value_at, read_key, group_at, fields_at, pointer_at, pointers_at, marks, object_at, where_possible, stand_at, read_at}
 
 -- ---- agreement on what two walks met
 
-pub agrees_left : (m n : Slots) (s t : Trace) → Agrees m n (joined s t) → Agrees m n s
+pub agrees_left : (m n : Slots) (s t : Trace) → Agrees m n (join_traces s t) → Agrees m n s
 agrees_left m n s t h = record { ids = each_left (AgreeAt m n) s.seen t.seen h.ids; fields = each_left (AgreeUnder m n) s.looked t.looked h.fields }
 
-pub agrees_right : (m n : Slots) (s t : Trace) → Agrees m n (joined s t) → Agrees m n t
+pub agrees_right : (m n : Slots) (s t : Trace) → Agrees m n (join_traces s t) → Agrees m n t
 agrees_right m n s t h = record { ids = each_right (AgreeAt m n) s.seen t.seen h.ids; fields = each_right (AgreeUnder m n) s.looked t.looked h.fields }
 
 -- ---- one step of the walk, where what lies below is the same
@@ -35,15 +35,15 @@ module _ {F : Type 0} (m n : Slots) (next other : Next F) (same : (types : List 
   elements_same types fs (e ∷ es) h =
       let first = element_same types fs e (agrees_left m n _ (elements_at next types fs es).1 h) in
       let rest = elements_same types fs es (agrees_right m n (element_at next types fs e).1 _ h) in
-      λ i. ((first i).0 ∷ (rest i).0, joined (first i).1 (rest i).1)
+      λ i. ((first i).0 ∷ (rest i).0, join_traces (first i).1 (rest i).1)
 
   many_same : (types : List Text) (fs : List F) (field : Option Field) → Agrees m n (many_at next types fs field).1 → many_at other types fs field ≡ many_at next types fs field
   many_same types fs None h = refl
   many_same types fs (Some (Leaf value)) h = refl
   many_same types fs (Some (Link id)) h = refl
-  many_same types fs (Some (Links ids)) h = ap listed (elements_same types fs ids h)
+  many_same types fs (Some (Links ids)) h = ap list_found (elements_same types fs ids h)
 
-  value_same : (T id : Text) (fs : List F) (form : Form) (key : Text) → Agrees m n (joined (looks_at form id key) (value_at next T fs form (field_of (m id) key)).1)
+  value_same : (T id : Text) (fs : List F) (form : Form) (key : Text) → Agrees m n (join_traces (looks_at form id key) (value_at next T fs form (field_of (m id) key)).1)
       → value_at other T fs form (field_of (n id) key) ≡ value_at next T fs form (field_of (m id) key)
   value_same T id fs typename key h = refl
   value_same T id fs leaf key h = ap leaf_at (sym h.fields.0)
@@ -56,27 +56,27 @@ module _ {F : Type 0} (m n : Slots) (next other : Next F) (same : (types : List 
   met_before : (T id : Text) (end : Shown × Trace) (groups : List (Group F)) → Agrees m n (fields_at next T id (field_of (m id)) end groups).1 → Agrees m n end.1
   met_before T id end [] h = h
   met_before T id end (g ∷ groups) h =
-      met_before T id end groups (agrees_right m n (joined (looks_at g.first.ask.form id (read_key g.first.ask)) (group_at next T (field_of (m id)) g).1) _ h)
+      met_before T id end groups (agrees_right m n (join_traces (looks_at g.first.ask.form id (read_key g.first.ask)) (group_at next T (field_of (m id)) g).1) _ h)
 
   fields_same : (T id : Text) (end turned : Shown × Trace) (groups : List (Group F)) → turned ≡ end → Agrees m n (fields_at next T id (field_of (m id)) end groups).1
       → fields_at other T id (field_of (n id)) turned groups ≡ fields_at next T id (field_of (m id)) end groups
   fields_same T id end turned [] e h = e
   fields_same T id end turned (g ∷ groups) e h =
       let first = value_same T id (parts g) g.first.ask.form (read_key g.first.ask) (agrees_left m n _ (fields_at next T id (field_of (m id)) end groups).1 h) in
-      let rest = fields_same T id end turned groups e (agrees_right m n (joined (looks_at g.first.ask.form id (read_key g.first.ask)) (group_at next T (field_of (m id)) g).1) _ h) in
-      λ i. (with_found g.first.ask.response (first i).0 (rest i).0, joined (joined (looks_at g.first.ask.form id (read_key g.first.ask)) (first i).1) (rest i).1)
+      let rest = fields_same T id end turned groups e (agrees_right m n (join_traces (looks_at g.first.ask.form id (read_key g.first.ask)) (group_at next T (field_of (m id)) g).1) _ h) in
+      λ i. (with_found g.first.ask.response (first i).0 (rest i).0, join_traces (join_traces (looks_at g.first.ask.form id (read_key g.first.ask)) (first i).1) (rest i).1)
 
   pointer_same : (T id : Text) (p : Pointer F) (inline : Bool) → Agrees m n (pointer_at next T id p inline).1 → pointer_at other T id p inline ≡ pointer_at next T id p inline
   pointer_same T id p false h = refl
   pointer_same T id p true h =
-      ap (λ r. (or_null r.0, joined (issue id p) r.1)) (same (T ∷ []) (p.body ∷ []) id (agrees_right m n (issue id p) (next (T ∷ []) (p.body ∷ []) id).1 h))
+      ap (λ r. (or_null r.0, join_traces (issue id p) r.1)) (same (T ∷ []) (p.body ∷ []) id (agrees_right m n (issue id p) (next (T ∷ []) (p.body ∷ []) id).1 h))
 
   pointers_same : (T id : Text) (ps : List (Pointer F)) → Agrees m n (pointers_at next T id ps).1 → pointers_at other T id ps ≡ pointers_at next T id ps
   pointers_same T id [] h = refl
   pointers_same T id (p ∷ ps) h =
       let first = pointer_same T id p p.inline (agrees_left m n _ (pointers_at next T id ps).1 h) in
       let rest = pointers_same T id ps (agrees_right m n (pointer_at next T id p p.inline).1 _ h) in
-      λ i. (with_value p.fragment (first i).0 (rest i).0, joined (first i).1 (rest i).1)
+      λ i. (with_value p.fragment (first i).0 (rest i).0, join_traces (first i).1 (rest i).1)
 
   module _ (collect : Collect F) (typed : Text → Text) (owner : Text) where
     object_same : (T : Text) (fs : List F) (id : Text) → Agrees m n (object_at collect owner next T fs id (field_of (m id))).1
@@ -88,7 +88,7 @@ module _ {F : Type 0} (m n : Slots) (next other : Next F) (same : (types : List 
 
     possible_same : (T : Text) (fs : List F) (id : Text) (possible : Bool) → Agrees m n (where_possible possible id (object_at collect owner next T fs id (field_of (m id)))).1
         → where_possible possible id (object_at collect owner other T fs id (field_of (n id))) ≡ where_possible possible id (object_at collect owner next T fs id (field_of (m id)))
-    possible_same T fs id true h = ap (where_possible true id) (object_same T fs id (agrees_right m n (stood id) (object_at collect owner next T fs id (field_of (m id))).1 h))
+    possible_same T fs id true h = ap (where_possible true id) (object_same T fs id (agrees_right m n (trace_at id) (object_at collect owner next T fs id (field_of (m id))).1 h))
     possible_same T fs id false h = refl
 
     stand_same : (types : List Text) (fs : List F) (id : Text) (s : Standing) → Agrees m n (stand_at collect typed owner next types fs id s (field_of (m id))).1

@@ -10,13 +10,13 @@ use Rattle.store_model.proofs.Least.{Each, each_append, each_left, each_right, e
 use Rattle.store_model.proofs.SameRead.{read_same}
 use Rattle.store_model.specs.Agree.{AgreeAt, AgreeUnder}
 use Rattle.store_model.specs.Items.{Form, typename, leaf, one, many, Pointer, Group, parts, Collect, groups_at, pointers_on}
-use Rattle.store_model.specs.Walks.{Slots, Fields, Standing, absent, gone, lives, standing_of, field_of, Trace, joined, looks_at, Shown, Next, leaf_at, null_alone, one_at, element_at, elements_at, many_at, value_at, read_key, group_at, fields_at, pointer_at, pointers_at, marks, object_at, where_possible, stand_at, read_at}
+use Rattle.store_model.specs.Walks.{Slots, Fields, Standing, absent, gone, lives, standing_of, field_of, Trace, join_traces, looks_at, Shown, Next, leaf_at, null_alone, one_at, element_at, elements_at, many_at, value_at, read_key, group_at, fields_at, pointer_at, pointers_at, marks, object_at, where_possible, stand_at, read_at}
 
 -- what holds of each id stood at holds of each id whose field is looked at
 abbrev pub Within : (Text → Type 0) → Trace → Type 0
 Within P t = Each P t.seen → Each (λ p. P p.0) t.looked
 
-within_joined : (P : Text → Type 0) (s t : Trace) → Within P s → Within P t → Within P (joined s t)
+within_joined : (P : Text → Type 0) (s t : Trace) → Within P s → Within P t → Within P (join_traces s t)
 within_joined P s t a b h = each_append (λ p. P p.0) s.looked t.looked (a (each_left P s.seen t.seen h)) (b (each_right P s.seen t.seen h))
 
 within_look : (P : Text → Type 0) (form : Form) (id key : Text) → P id → Within P (looks_at form id key)
@@ -72,7 +72,7 @@ module _ {F : Type 0} (P : Text → Type 0) (next : Next F) (within : (types : L
   within_fields T id fields end (g ∷ groups) here before h =
       let look = looks_at g.first.ask.form id (read_key g.first.ask) in
       let value = (group_at next T fields g).1 in
-      within_joined P (joined look value) (fields_at next T id fields end groups).1
+      within_joined P (join_traces look value) (fields_at next T id fields end groups).1
       (within_joined P look value (within_look P g.first.ask.form id (read_key g.first.ask) here) (within_value T (parts g) g.first.ask.form (fields (read_key g.first.ask))))
       (within_fields T id fields end groups here before) h
 

@@ -4,7 +4,7 @@ use Rattle.std.proofs.lemmas.Slice.Eq.{bytes_eq-Decides}
 use Rattle.store_record.specs.Keys.{Text}
 use Rattle.store_model.proofs.Least.{Each, each_append}
 use Rattle.store_model.specs.Alike.{Among}
-use Rattle.store_model.specs.Items.{Asked, Item, asked, pointed, Group, members, asked_of, with_asked, grouped_onto, grouped, Collect, collect_all}
+use Rattle.store_model.specs.Items.{Asked, Item, asked, pointed, Group, members, asked_of, with_asked, grouped_onto, groups_of, Collect, collect_all}
 
 -- ---- members of a list
 
@@ -83,7 +83,7 @@ module _ {F : Type 0} where
   onto_seats gs (a ∷ us) x (inl e) = subst (λ y. Seated (grouped_onto (with_asked gs a) us) y) e (onto_still (with_asked gs a) us a (seated_new gs a))
   onto_seats gs (a ∷ us) x (inr h) = onto_seats (with_asked gs a) us x h
 
-  pub grouped_seats : (items : List (Item F)) (x : Asked F) → Among x (asked_of items) → Seated (grouped items) x
+  pub grouped_seats : (items : List (Item F)) (x : Asked F) → Among x (asked_of items) → Seated (groups_of items) x
   grouped_seats items x h = onto_seats [] (asked_of items) x h
 
   -- ---- what holds of each field holds of the fields of each group, which have its response key
@@ -103,7 +103,7 @@ module _ {F : Type 0} where
   onto_fits P gs [] all h = all
   onto_fits P gs (a ∷ us) all h = onto_fits P (with_asked gs a) us (with_asked_fits P gs a all h.0) h.1
 
-  pub grouped_fits : (P : Asked F → Type 0) (items : List (Item F)) → Each P (asked_of items) → Each (Fits P) (grouped items)
+  pub grouped_fits : (P : Asked F → Type 0) (items : List (Item F)) → Each P (asked_of items) → Each (Fits P) (groups_of items)
   grouped_fits P items h = onto_fits P [] (asked_of items) tt h
 
   -- ---- what parts give one by one they give together

@@ -30,8 +30,8 @@ slots =
     (with_slot (codes "h") (row (codes "UserConnection") [])
     (λ i. None)))))
 
-abbrev typed : Text → Text
-typed name = cond (bytes_eq name (codes "__Root")) (codes "Query") name
+abbrev type_at : Text → Text
+type_at name = cond (bytes_eq name (codes "__Root")) (codes "Query") name
 
 -- ---- parts, by number
 
@@ -54,13 +54,13 @@ me object_type (suc (suc k)) = field (codes "age") (codes "age") leaf 0 ∷ []
 abbrev query : List Text
 query = codes "Query" ∷ []
 
-pub a_read_marks_its_pointers : (read_at me typed (codes "o") slots 3 query (0 ∷ []) root).0
+pub a_read_marks_its_pointers : (read_at me type_at (codes "o") slots 3 query (0 ∷ []) root).0
     ≡ Some (object (member (codes "me") (object (
     member (codes "__fragments") (object (member (codes "J") (object (member (codes "age") (whole (pos 5)) no_members)) (member (codes "P") (object (member (codes "size") (whole (pos 3)) no_members)) no_members)))
     (member (codes "__id") (text (codes "4")) (member (codes "__owner") (text (codes "o")) (member (codes "name") (text (codes "Ann")) no_members))))) no_members))
 a_read_marks_its_pointers = refl
 
-pub a_read_stands_at_its_records : (read_at me typed (codes "o") slots 3 query (0 ∷ []) root).1
+pub a_read_stands_at_its_records : (read_at me type_at (codes "o") slots 3 query (0 ∷ []) root).1
     ≡ record {
       missing = false;
       seen = root ∷ codes "4" ∷ codes "4" ∷ [];
@@ -76,13 +76,13 @@ abbrev friends : Collect ℕ
 friends object_type zero = field (codes "friends") (codes "friends") (many (of_type (codes "User"))) 1 ∷ []
 friends object_type (suc k) = field (codes "name") (codes "name") leaf 0 ∷ field (codes "kind") (codes "__typename") typename 0 ∷ []
 
-pub a_missing_element_is_null : (read_at friends typed (codes "o") slots 2 (codes "User" ∷ []) (0 ∷ []) (codes "4")).0
+pub a_missing_element_is_null : (read_at friends type_at (codes "o") slots 2 (codes "User" ∷ []) (0 ∷ []) (codes "4")).0
     ≡ Some (object (member (codes "friends") (list (
     tree (object (member (codes "kind") (text (codes "User")) (member (codes "name") null no_members)))
     (tree null (tree null (tree null no_trees))))) no_members))
 a_missing_element_is_null = refl
 
-pub an_absent_record_is_missing : (read_at friends typed (codes "o") slots 2 (codes "User" ∷ []) (0 ∷ []) (codes "4")).1
+pub an_absent_record_is_missing : (read_at friends type_at (codes "o") slots 2 (codes "User" ∷ []) (0 ∷ []) (codes "4")).1
     ≡ record {
       missing = true;
       seen = codes "4" ∷ codes "5" ∷ codes "6" ∷ codes "7" ∷ [];
@@ -91,15 +91,15 @@ pub an_absent_record_is_missing : (read_at friends typed (codes "o") slots 2 (co
     }
 an_absent_record_is_missing = refl
 
-pub a_record_of_another_type_is_missing : read_at friends typed (codes "o") slots 2 query (0 ∷ []) (codes "4")
+pub a_record_of_another_type_is_missing : read_at friends type_at (codes "o") slots 2 query (0 ∷ []) (codes "4")
     ≡ (None, record { missing = true; seen = codes "4" ∷ []; looked = []; issued = [] })
 a_record_of_another_type_is_missing = refl
 
 -- a connection follows its own key and its handle key
-abbrev connected : Collect ℕ
-connected object_type k =
+abbrev connection_item : Collect ℕ
+connection_item object_type k =
     asked (record { ask = record { response = codes "friends"; name = codes "friends"; arguments = []; connection = Some (record { key = codes "K_friends"; filters = None }); form = one (of_type (codes "UserConnection")) }; part = 0 }) ∷ []
 
-pub a_connection_follows_both_its_keys : reach_at connected typed slots 2 (codes "User" ∷ []) (0 ∷ []) (codes "4")
+pub a_connection_follows_both_its_keys : reach_at connection_item type_at slots 2 (codes "User" ∷ []) (0 ∷ []) (codes "4")
     ≡ codes "4" ∷ codes "5" ∷ codes "6" ∷ codes "7" ∷ codes "h" ∷ []
 a_connection_follows_both_its_keys = refl

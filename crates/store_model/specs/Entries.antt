@@ -7,7 +7,7 @@ use Rattle.store_record.specs.declared.field.Field.{Field}
 use Rattle.store_record.specs.declared.field.Field.TheVariants.{Leaf, Link, Links}
 use Rattle.store_record.specs.declared.record.Record.{Record}
 use Rattle.store_model.specs.Records.{Records, live, put}
-use Rattle.store_model.specs.Merge.{merge, linked, below, edges_of, info_id, is_null, has_cursor}
+use Rattle.store_model.specs.Merge.{merge, link_under, below, edges_of, info_id, is_null, has_cursor}
 use Rattle.store_model.specs.Updates.{act, act_all, connection_of}
 use Rattle.store_record.specs.Keys.{field_key, handle_name}
 use Rattle.store_model.specs.declared.command.Command.{Command}
@@ -28,9 +28,9 @@ abbrev pub apply : Entry → Records → Records
 apply e m = act_all e.commands (merge_all e.facts.handles (put e.facts.facts m))
 
 -- entries, one after another
-abbrev pub folded : List Entry → Records → Records
-folded [] m = m
-folded (e ∷ es) m = folded es (apply e m)
+abbrev pub fold_entries : List Entry → Records → Records
+fold_entries [] m = m
+fold_entries (e ∷ es) m = fold_entries es (apply e m)
 
 -- ---- the ids that are asked for
 
@@ -59,7 +59,7 @@ looks_and ids a = record { ids = ids ++ a.ids; edges = a.edges }
 
 -- what a page that is taken asks for: the server's edges, the old edges where they stay, and the page information
 abbrev pub asked_page : Record → List (Option Text) → Looks
-asked_page server old = record { ids = some_id (linked (codes "pageInfo") server); edges = some_ids (edges_of server) ++ some_ids old }
+asked_page server old = record { ids = some_id (link_under (codes "pageInfo") server); edges = some_ids (edges_of server) ++ some_ids old }
 
 abbrev pub asked_by_cursor : Bool → Text → Record → Record → Looks
 asked_by_cursor false info server row = of_ids (info ∷ [])
@@ -76,11 +76,11 @@ asked_onto h server (Some c) m =
 
 abbrev pub asked_with_page : HandleFact → Record → Option (Text × Record) → Records → Looks
 asked_with_page h parent None m = no_looks
-asked_with_page h parent (Some server) m = looks_and (some_id (linked h.handle_key parent)) (asked_onto h server.1 (below h.handle_key parent m) m)
+asked_with_page h parent (Some server) m = looks_and (some_id (link_under h.handle_key parent)) (asked_onto h server.1 (below h.handle_key parent m) m)
 
 abbrev pub asked_of_parent : HandleFact → Option Record → Records → Looks
 asked_of_parent h None m = no_looks
-asked_of_parent h (Some parent) m = looks_and (some_id (linked h.field_key parent)) (asked_with_page h parent (below h.field_key parent m) m)
+asked_of_parent h (Some parent) m = looks_and (some_id (link_under h.field_key parent)) (asked_with_page h parent (below h.field_key parent m) m)
 
 abbrev pub asked_by_page : HandleFact → Records → Looks
 asked_by_page h m = looks_and (h.parent ∷ []) (asked_of_parent h (live h.parent m) m)
@@ -91,7 +91,7 @@ asked_in_connection (Some c) = some_ids (edges_of c.1)
 
 abbrev pub connection_link : EdgeEdit → Option Record → List Text
 connection_link e None = []
-connection_link e (Some parent) = some_id (linked (field_key (handle_name e.key) e.filters) parent)
+connection_link e (Some parent) = some_id (link_under (field_key (handle_name e.key) e.filters) parent)
 
 abbrev pub asked_by_edit : EdgeEdit → Records → Looks
 asked_by_edit e m = record { ids = e.id ∷ connection_link e (live e.id m); edges = asked_in_connection (connection_of e m) }
@@ -176,5 +176,5 @@ named_by_commands [] = []
 named_by_commands (c ∷ cs) = named_by_command c ++ named_by_commands cs
 
 -- the ids of its facts and of the links in them, the parents of its pages, and the ids of its commands
-abbrev pub named : Entry → List Text
-named e = named_by_facts e.facts.facts ++ map (λ h. h.parent) e.facts.handles ++ named_by_commands e.commands
+abbrev pub ids_named : Entry → List Text
+ids_named e = named_by_facts e.facts.facts ++ map (λ h. h.parent) e.facts.handles ++ named_by_commands e.commands

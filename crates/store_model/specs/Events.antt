@@ -1,7 +1,8 @@
 -- The event of a line (this project's own): what a JSON value says as an event, and where it is none.
-use Rattle.std.specs.Prelude.{ℕ, ◌^◌, ℤ, List, [], ◌∷◌, length, Bool, true, false, not, ◌&&◌, ◌||◌, cond, codes, bytes_eq, nat_eq, nat_lt, nat_le, Option, Some, None, option_map, option_and_then, is_some}
+use Rattle.std.specs.Prelude.{ℤ, List, [], ◌∷◌, length, Bool, true, false, not, ◌&&◌, ◌||◌, cond, codes, bytes_eq, nat_eq, nat_lt, nat_le, Option, Some, None, option_map, option_and_then, is_some}
 use Rattle.std.specs.List.{list_all, starts_with}
 use Rattle.std.specs.Str.{is_utf8}
+use Rattle.gql_plain.specs.Limits.{max_line}
 use Rattle.gql_plain.specs.Names.{is_name}
 use Rattle.gql_plain.specs.FromJson.{is_whole, plain_tree, members_are_whole, plain_members}
 use Rattle.gql_plain.specs.Order.{has_text}
@@ -52,10 +53,6 @@ pub data Line : Type 0 where
   too_long not_json no_event no_commands : Line
   event : Event → Line
 
--- a line has at most 8 MiB
-abbrev pub max_line : ℕ
-max_line = 2 ^ 23
-
 -- ---- members of an object
 
 abbrev pub keys_of : J.Members → List Text
@@ -74,9 +71,9 @@ where_true true o = o
 where_true false o = None
 
 -- the text, where it passes a test
-abbrev pub tested : (Text → Bool) → Option Text → Option Text
-tested test None = None
-tested test (Some t) = where_true (test t) (Some t)
+abbrev pub where_passes : (Text → Bool) → Option Text → Option Text
+where_passes test None = None
+where_passes test (Some t) = where_true (test t) (Some t)
 
 -- the name of a handle, a layer or a watch: 1 to 200 bytes
 abbrev pub is_short : Text → Bool
@@ -90,17 +87,17 @@ abbrev pub is_field_name : Text → Bool
 is_field_name t = is_name t && not (starts_with nat_eq t (codes "__"))
 
 abbrev pub name_at : Text → J.Members → Option Text
-name_at key ms = tested is_short (text_at key ms)
+name_at key ms = where_passes is_short (text_at key ms)
 
 abbrev pub id_at : Text → J.Members → Option Text
-id_at key ms = tested is_there (text_at key ms)
+id_at key ms = where_passes is_there (text_at key ms)
 
 -- the id of a record that may be made or deleted: any but the root's
 abbrev pub other_id_at : Text → J.Members → Option Text
-other_id_at key ms = tested (λ t. not (bytes_eq t root)) (id_at key ms)
+other_id_at key ms = where_passes (λ t. not (bytes_eq t root)) (id_at key ms)
 
 abbrev pub field_name_at : Text → J.Members → Option Text
-field_name_at key ms = tested is_field_name (text_at key ms)
+field_name_at key ms = where_passes is_field_name (text_at key ms)
 
 -- the pairs of a plain object
 abbrev pub pairs_list : Members → Arguments
@@ -325,8 +322,8 @@ update_of ms = where_true (has_only (codes "do" ∷ codes "updates" ∷ []) ms)
 abbrev pub layer_keys : List Text
 layer_keys = codes "do" ∷ codes "layer" ∷ codes "handle" ∷ codes "response" ∷ codes "updates" ∷ []
 
-abbrev pub layered : (Text → Option Answer → List Command → Event) → J.Members → Option Shape
-layered build ms = where_true (has_only layer_keys ms)
+abbrev pub layer_shape : (Text → Option Answer → List Command → Event) → J.Members → Option Shape
+layer_shape build ms = where_true (has_only layer_keys ms)
     (option_and_then (λ layer. option_map (λ answer. record { with_updates = λ cs. build layer answer cs; updates = get_member (codes "updates") ms })
     (optional_answer ms)) (name_at (codes "layer") ms))
 
@@ -366,8 +363,8 @@ shape_named name ms =
     (cond (bytes_eq name (codes "release")) (release_of ms)
     (cond (bytes_eq name (codes "payload")) (payload_of ms)
     (cond (bytes_eq name (codes "update")) (update_of ms)
-    (cond (bytes_eq name (codes "begin")) (layered begin ms)
-    (cond (bytes_eq name (codes "finish")) (layered finish ms)
+    (cond (bytes_eq name (codes "begin")) (layer_shape begin ms)
+    (cond (bytes_eq name (codes "finish")) (layer_shape finish ms)
     (cond (bytes_eq name (codes "revert")) (revert_of ms)
     (cond (bytes_eq name (codes "read")) (read_of ms)
     (cond (bytes_eq name (codes "watch")) (watch_of ms)

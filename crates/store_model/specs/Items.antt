@@ -91,8 +91,8 @@ grouped_onto groups [] = groups
 grouped_onto groups (a ∷ fields) = grouped_onto (with_asked groups a) fields
 
 -- the groups of the fields among items, in order of first response key
-abbrev pub grouped : {F : Type 0} → List (Item F) → List (Group F)
-grouped items = grouped_onto [] (asked_of items)
+abbrev pub groups_of : {F : Type 0} → List (Item F) → List (Group F)
+groups_of items = grouped_onto [] (asked_of items)
 
 -- ---- pointers
 
@@ -120,7 +120,7 @@ collect_all collect object_type (f ∷ fs) = collect object_type f ++ collect_al
 
 -- the groups that parts give on an object type
 abbrev pub groups_at : {F : Type 0} → Collect F → Text → List F → List (Group F)
-groups_at collect T fs = grouped (collect_all collect T fs)
+groups_at collect T fs = groups_of (collect_all collect T fs)
 
 -- the pointers that parts give on an object type
 abbrev pub pointers_on : {F : Type 0} → Collect F → Text → List F → List (Pointer F)

@@ -52,12 +52,12 @@ of_picked x f none = x
 of_picked x f (picked e rest) = f e rest
 
 -- the set, with what the live ids in it lead to, n of them at most
-abbrev pub grown : ℕ → List Live → List Text → List Text
-grown zero lives ids = ids
-grown (suc n) lives ids = of_picked ids (λ e rest. grown n rest (ids ++ e.out)) (pick ids lives)
+abbrev pub grow : ℕ → List Live → List Text → List Text
+grow zero lives ids = ids
+grow (suc n) lives ids = of_picked ids (λ e rest. grow n rest (ids ++ e.out)) (pick ids lives)
 
 abbrev pub leads_along : List Live → List Text → List Text
-leads_along lives ids = grown (length lives) lives (with_infos ids)
+leads_along lives ids = grow (length lives) lives (with_infos ids)
 
 abbrev pub leads : Records → List Text → List Text
 leads m ids = leads_along (lives_of (map.entries m)) ids

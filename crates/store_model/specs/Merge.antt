@@ -31,8 +31,8 @@ leaf_of (Link id) = None
 leaf_of (Links ids) = None
 
 -- the id that a record links to under a key
-abbrev pub linked : Text → Record → Option Text
-linked key r = option_and_then link_of (field_at key r)
+abbrev pub link_under : Text → Record → Option Text
+link_under key r = option_and_then link_of (field_at key r)
 
 -- the ids and nulls of a list under a key; none where there is no list
 abbrev pub edges_of : Record → List (Option Text)
@@ -44,11 +44,11 @@ with_live m id = option_map (λ r. (id, r)) (live id m)
 
 -- the live record to which a record links under a key, and its id
 abbrev pub below : Text → Record → Records → Option (Text × Record)
-below key r m = option_and_then (with_live m) (linked key r)
+below key r m = option_and_then (with_live m) (link_under key r)
 
 -- the node of an edge
 abbrev pub node_of : Record → Option Text
-node_of = linked (codes "node")
+node_of = link_under (codes "node")
 
 abbrev pub same_node : Option Text → Option Text → Bool
 same_node None b = false
@@ -111,14 +111,14 @@ abbrev pub make_edges : Text → ℕ → List Record → Records → Records
 make_edges connection k [] m = m
 make_edges connection k (e ∷ es) m = make_edges connection (next_edge k) es (with_record (edge_id connection k) e m)
 
-abbrev pub counted : ℕ → List Record → ℕ
-counted k [] = k
-counted k (e ∷ es) = counted (next_edge k) es
+abbrev pub counter_after : ℕ → List Record → ℕ
+counter_after k [] = k
+counter_after k (e ∷ es) = counter_after (next_edge k) es
 
 -- the counter is written only where an edge is made
 abbrev pub with_counter : ℕ → List Record → Record → Record
 with_counter k [] r = r
-with_counter k (e ∷ es) r = with_field (codes "__next") (Leaf (Int (pos (counted k (e ∷ es))))) r
+with_counter k (e ∷ es) r = with_field (codes "__next") (Leaf (Int (pos (counter_after k (e ∷ es))))) r
 
 -- ---- the connection
 
@@ -143,13 +143,13 @@ whole_info info_type None = record_of info_type
 whole_info info_type (Some r) = record { type_name = info_type; fields = r.fields }
 
 -- one field is taken where the server has it
-abbrev pub taken : Text → Record → Record → Record
-taken key server r = unwrap_or (option_map (λ f. with_field key f r) (field_at key server)) r
+abbrev pub take_field : Text → Record → Record → Record
+take_field key server r = unwrap_or (option_map (λ f. with_field key f r) (field_at key server)) r
 
 -- two fields are taken where the server has them; all else stays
 abbrev pub taken_both : Text → Text → Option Record → Record → Record
 taken_both key other None r = r
-taken_both key other (Some server) r = taken other server (taken key server r)
+taken_both key other (Some server) r = take_field other server (take_field key server r)
 
 -- where a connection is kept: its id, its record, the number of its next edge
 pub record Kept : Type 0 where
@@ -165,8 +165,8 @@ with_edges server c first new last =
 
 -- The page replaces the edges, and the page information is made whole. It is looked at in m, and written onto
 -- the other records.
-abbrev pub replaced : HandleFact → Record → Kept → Records → Records → Records
-replaced h server c m onto =
+abbrev pub replace_edges : HandleFact → Record → Kept → Records → Records → Records
+replace_edges h server c m onto =
     let new = new_edges [] (live_edges m (edges_of server)) in
     with_record (info_id c.id) (whole_info h.info_type (info_below server m))
     (make_edges c.id c.next new
@@ -220,7 +220,7 @@ is_null (Object ms) = false
 abbrev pub onto_client : HandleFact → Record → Kept → Records → Records
 onto_client h server c m =
     cond (is_null h.before)
-    (cond (is_null h.after) (replaced h server c m m)
+    (cond (is_null h.after) (replace_edges h server c m m)
     (cond (has_cursor (codes "endCursor") h.after (live (info_id c.id) m)) (page_after server c m) m))
     (cond (is_null h.after && has_cursor (codes "startCursor") h.before (live (info_id c.id) m)) (page_before server c m) m)
 
@@ -228,15 +228,15 @@ onto_client h server c m =
 abbrev pub onto_none : HandleFact → Record → Record → Records → Records
 onto_none h server parent m =
     let id = client_id h.parent h.handle_key None in
-    replaced h server (record { id = id; row = record_of h.page_type; next = 0 }) m
+    replace_edges h server (record { id = id; row = record_of h.page_type; next = 0 }) m
     (with_record h.parent (with_field h.handle_key (Link id) parent) m)
 
-abbrev pub kept : Text × Record → Kept
-kept c = record { id = c.0; row = c.1; next = counter_of c.1 }
+abbrev pub kept_connection : Text × Record → Kept
+kept_connection c = record { id = c.0; row = c.1; next = counter_of c.1 }
 
 abbrev pub onto : HandleFact → Record → Record → Option (Text × Record) → Records → Records
 onto h server parent None m = onto_none h server parent m
-onto h server parent (Some c) m = onto_client h server (kept c) m
+onto h server parent (Some c) m = onto_client h server (kept_connection c) m
 
 -- without a live connection of the server, the handle key becomes null
 abbrev pub with_page : HandleFact → Record → Option (Text × Record) → Records → Records

@@ -29,8 +29,8 @@ links_under fields None = []
 links_under fields (Some key) = links_of (fields key)
 
 -- the links that a field follows: those under its own key, and those of its connection
-abbrev pub followed : Fields → Ask → List Text
-followed fields a = links_of (fields (key_of a)) ++ links_under fields (handle_of a)
+abbrev pub links_followed : Fields → Ask → List Text
+links_followed fields a = links_of (fields (key_of a)) ++ links_under fields (handle_of a)
 
 -- the walks from ids, one after another
 abbrev pub from_each : (Text → List Text) → List Text → List Text
@@ -40,7 +40,7 @@ from_each next (id ∷ ids) = next id ++ from_each next ids
 -- every field of a group is followed, and the joined parts of the group go on from each link
 abbrev pub reach_asked : {F : Type 0} → Onward F → Fields → List F → List Ask → List Text
 reach_asked next fields fs [] = []
-reach_asked next fields fs (a ∷ rest) = from_each (next (types_of a.form) fs) (followed fields a) ++ reach_asked next fields fs rest
+reach_asked next fields fs (a ∷ rest) = from_each (next (types_of a.form) fs) (links_followed fields a) ++ reach_asked next fields fs rest
 
 abbrev pub reach_groups : {F : Type 0} → Onward F → Fields → List (Group F) → List Text
 reach_groups next fields [] = []

@@ -15,13 +15,13 @@ use Rattle.store_model.specs.declared.command.Command.TheVariants as C
 use Rattle.store_model.specs.declared.command.EdgeEdit.{EdgeEdit}
 
 -- the records with a live record changed
-abbrev pub changed : Text → (Record → Record) → Records → Records
-changed id change m = unwrap_or (option_map (λ r. with_record id (change r) m) (live id m)) m
+abbrev pub change_record : Text → (Record → Record) → Records → Records
+change_record id change m = unwrap_or (option_map (λ r. with_record id (change r) m) (live id m)) m
 
 -- ---- fields
 
 abbrev pub set_field : Text → Text → Arguments → Field → Records → Records
-set_field id name arguments value m = changed id (with_field (field_key name arguments) value) m
+set_field id name arguments value m = change_record id (with_field (field_key name arguments) value) m
 
 abbrev pub sum_or : ℤ → ℤ → ℤ
 sum_or a b = cond (is_in_range (a +ℤ b)) (a +ℤ b) a
@@ -40,8 +40,8 @@ field_plus by (Leaf value) = Leaf (plus by value)
 field_plus by (Link id) = Link id
 field_plus by (Links ids) = Links ids
 
-abbrev pub added : Text → ℤ → Record → Record
-added key by r = unwrap_or (option_map (λ f. with_field key (field_plus by f) r) (field_at key r)) r
+abbrev pub add_to_field : Text → ℤ → Record → Record
+add_to_field key by r = unwrap_or (option_map (λ f. with_field key (field_plus by f) r) (field_at key r)) r
 
 -- a link, or null where there is none
 abbrev pub link_or_null : Option Text → Field
@@ -50,13 +50,13 @@ link_or_null (Some id) = Link id
 
 -- ---- records
 
-abbrev pub created : Option Record → Text → Text → Records → Records
-created None id of m = with_record id (record_of of) m
-created (Some r) id of m = m
+abbrev pub create_record : Option Record → Text → Text → Records → Records
+create_record None id of m = with_record id (record_of of) m
+create_record (Some r) id of m = m
 
-abbrev pub deleted : Option Record → Text → Records → Records
-deleted None id m = m
-deleted (Some r) id m = with_slot id Deleted m
+abbrev pub delete_record : Option Record → Text → Records → Records
+delete_record None id m = m
+delete_record (Some r) id m = with_slot id Deleted m
 
 -- ---- edges
 
@@ -113,11 +113,11 @@ delete_edge e m = edge_deleted e (connection_of e m) m
 
 abbrev pub act : Command → Records → Records
 act (C.Set id field args value) m = set_field id field args (Leaf value) m
-act (C.Add id field args by) m = changed id (added (field_key field args) by) m
+act (C.Add id field args by) m = change_record id (add_to_field (field_key field args) by) m
 act (C.Link id field args to) m = set_field id field args (link_or_null to) m
 act (C.Links id field args to) m = set_field id field args (Links to) m
-act (C.Create id of) m = created (live id m) id of m
-act (C.Delete id) m = deleted (live id m) id m
+act (C.Create id of) m = create_record (live id m) id of m
+act (C.Delete id) m = delete_record (live id m) id m
 act (C.AppendNode e) m = insert_edge false e m
 act (C.PrependNode e) m = insert_edge true e m
 act (C.DeleteEdge e) m = delete_edge e m

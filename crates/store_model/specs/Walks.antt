@@ -63,12 +63,12 @@ abbrev pub still : Trace
 still = record { missing = false; seen = []; looked = []; issued = [] }
 
 -- something missing
-abbrev pub lost : Trace
-lost = record { missing = true; seen = []; looked = []; issued = [] }
+abbrev pub missing_trace : Trace
+missing_trace = record { missing = true; seen = []; looked = []; issued = [] }
 
 -- one id stood at
-abbrev pub stood : Text → Trace
-stood id = record { missing = false; seen = id ∷ []; looked = []; issued = [] }
+abbrev pub trace_at : Text → Trace
+trace_at id = record { missing = false; seen = id ∷ []; looked = []; issued = [] }
 
 -- one id stood at, and the record missing
 abbrev pub stood_lost : Text → Trace
@@ -83,8 +83,8 @@ abbrev pub issue : {F : Type 0} → Text → Pointer F → Trace
 issue id p = record { missing = false; seen = []; looked = []; issued = record { fragment = p.fragment; id = id; scope = p.scope } ∷ [] }
 
 -- what two walks meet, one after the other
-abbrev pub joined : Trace → Trace → Trace
-joined s t = record { missing = s.missing || t.missing; seen = s.seen ++ t.seen; looked = s.looked ++ t.looked; issued = s.issued ++ t.issued }
+abbrev pub join_traces : Trace → Trace → Trace
+join_traces s t = record { missing = s.missing || t.missing; seen = s.seen ++ t.seen; looked = s.looked ++ t.looked; issued = s.issued ++ t.issued }
 
 -- ---- what a read gives
 
@@ -134,23 +134,23 @@ standings r = length r.1.seen
 -- the value of a leaf that stands under a field of objects: only null does
 abbrev pub null_alone : Plain → Found
 null_alone Null = (Some null, still)
-null_alone (Truth b) = (None, lost)
-null_alone (Int z) = (None, lost)
-null_alone (Words s) = (None, lost)
-null_alone (Listed ts) = (None, lost)
-null_alone (Object ms) = (None, lost)
+null_alone (Truth b) = (None, missing_trace)
+null_alone (Int z) = (None, missing_trace)
+null_alone (Words s) = (None, missing_trace)
+null_alone (Listed ts) = (None, missing_trace)
+null_alone (Object ms) = (None, missing_trace)
 
 abbrev pub leaf_at : Option Field → Found
-leaf_at None = (None, lost)
+leaf_at None = (None, missing_trace)
 leaf_at (Some (Leaf value)) = (Some (tree_of value), still)
-leaf_at (Some (Link id)) = (None, lost)
-leaf_at (Some (Links ids)) = (None, lost)
+leaf_at (Some (Link id)) = (None, missing_trace)
+leaf_at (Some (Links ids)) = (None, missing_trace)
 
 abbrev pub one_at : {F : Type 0} → Next F → List Text → List F → Option Field → Found
-one_at next types fs None = (None, lost)
+one_at next types fs None = (None, missing_trace)
 one_at next types fs (Some (Leaf value)) = null_alone value
 one_at next types fs (Some (Link id)) = next types fs id
-one_at next types fs (Some (Links ids)) = (None, lost)
+one_at next types fs (Some (Links ids)) = (None, missing_trace)
 
 -- an element is null where the list has none, and where it is missing
 abbrev pub element_at : {F : Type 0} → Next F → List Text → List F → Option Text → Tree × Trace
@@ -161,17 +161,17 @@ abbrev pub elements_at : {F : Type 0} → Next F → List Text → List F → Li
 elements_at next types fs [] = ([], still)
 elements_at next types fs (e ∷ es) = (
   (element_at next types fs e).0 ∷ (elements_at next types fs es).0,
-  joined (element_at next types fs e).1 (elements_at next types fs es).1,
+  join_traces (element_at next types fs e).1 (elements_at next types fs es).1,
 )
 
-abbrev pub listed : List Tree × Trace → Found
-listed r = (Some (list (trees_of r.0)), r.1)
+abbrev pub list_found : List Tree × Trace → Found
+list_found r = (Some (list (trees_of r.0)), r.1)
 
 abbrev pub many_at : {F : Type 0} → Next F → List Text → List F → Option Field → Found
-many_at next types fs None = (None, lost)
+many_at next types fs None = (None, missing_trace)
 many_at next types fs (Some (Leaf value)) = null_alone value
-many_at next types fs (Some (Link id)) = (None, lost)
-many_at next types fs (Some (Links ids)) = listed (elements_at next types fs ids)
+many_at next types fs (Some (Link id)) = (None, missing_trace)
+many_at next types fs (Some (Links ids)) = list_found (elements_at next types fs ids)
 
 -- a field by its form; the type name is that of the record
 abbrev pub value_at : {F : Type 0} → Next F → Text → List F → Form → Option Field → Found
@@ -199,7 +199,7 @@ abbrev pub fields_at : {F : Type 0} → Next F → Text → Text → Fields → 
 fields_at next T id fields end [] = end
 fields_at next T id fields end (g ∷ groups) = (
   with_found g.first.ask.response (group_at next T fields g).0 (fields_at next T id fields end groups).0,
-  joined (joined (looks_at g.first.ask.form id (read_key g.first.ask)) (group_at next T fields g).1) (fields_at next T id fields end groups).1,
+  join_traces (join_traces (looks_at g.first.ask.form id (read_key g.first.ask)) (group_at next T fields g).1) (fields_at next T id fields end groups).1,
 )
 
 -- ---- pointers
@@ -207,23 +207,23 @@ fields_at next T id fields end (g ∷ groups) = (
 -- a pointer shows the values of the local variables; an inline one the data of its body, whose walk joins
 abbrev pub pointer_at : {F : Type 0} → Next F → Text → Text → Pointer F → Bool → Tree × Trace
 pointer_at next T id p false = (shown_object p.scope, issue id p)
-pointer_at next T id p true = (or_null (next (T ∷ []) (p.body ∷ []) id).0, joined (issue id p) (next (T ∷ []) (p.body ∷ []) id).1)
+pointer_at next T id p true = (or_null (next (T ∷ []) (p.body ∷ []) id).0, join_traces (issue id p) (next (T ∷ []) (p.body ∷ []) id).1)
 
 abbrev pub pointers_at : {F : Type 0} → Next F → Text → Text → List (Pointer F) → Shown × Trace
 pointers_at next T id [] = ([], still)
 pointers_at next T id (p ∷ rest) = (
   with_value p.fragment (pointer_at next T id p p.inline).0 (pointers_at next T id rest).0,
-  joined (pointer_at next T id p p.inline).1 (pointers_at next T id rest).1,
+  join_traces (pointer_at next T id p p.inline).1 (pointers_at next T id rest).1,
 )
 
 -- an object with a pointer tells its id, the name of its owner, and the pointers under the names of their fragments
-abbrev pub marked : Text → Text → Shown → Shown
-marked owner id [] = []
-marked owner id (m ∷ ms) =
+abbrev pub mark_pointers : Text → Text → Shown → Shown
+mark_pointers owner id [] = []
+mark_pointers owner id (m ∷ ms) =
     with_value (codes "__fragments") (shown_object (m ∷ ms)) (with_value (codes "__id") (text id) (with_value (codes "__owner") (text owner) []))
 
 abbrev pub marks : Text → Text → Shown × Trace → Shown × Trace
-marks owner id r = (marked owner id r.0, r.1)
+marks owner id r = (mark_pointers owner id r.0, r.1)
 
 -- ---- records
 
@@ -234,13 +234,13 @@ object_at collect owner next T fs id fields =
 
 -- a live record is missing where its type is not possible
 abbrev pub where_possible : Bool → Text → Shown × Trace → Found
-where_possible true id r = (Some (shown_object r.0), joined (stood id) r.1)
+where_possible true id r = (Some (shown_object r.0), join_traces (trace_at id) r.1)
 where_possible false id r = (None, stood_lost id)
 
 -- an absent record is missing, a deleted one null; typed gives a record's type from its type name
 abbrev pub stand_at : {F : Type 0} → Collect F → (Text → Text) → Text → Next F → List Text → List F → Text → Standing → Fields → Found
 stand_at collect typed owner next types fs id absent fields = (None, stood_lost id)
-stand_at collect typed owner next types fs id gone fields = (Some null, stood id)
+stand_at collect typed owner next types fs id gone fields = (Some null, trace_at id)
 stand_at collect typed owner next types fs id (lives name) fields =
     where_possible (has_text types (typed name)) id (object_at collect owner next (typed name) fs id fields)
 

@@ -18,8 +18,8 @@ below_all : (low key : List ℕ) (keys : List (List ℕ)) → order low key ≡ 
 below_all low key [] lt all = tt
 below_all low key (k ∷ keys) lt all = (nat_list_cmp_total.trans low key k lt all.0, below_all low key keys lt all.1)
 
-turned : (a b : List ℕ) (o : Ordering) → order a b ≡ o → order b a ≡ ordering_reverse o
-turned a b o p = nat_list_cmp_total.antisymm b a ∙ ap ordering_reverse p
+order_turns : (a b : List ℕ) (o : Ordering) → order a b ≡ o → order b a ≡ ordering_reverse o
+order_turns a b o p = nat_list_cmp_total.antisymm b a ∙ ap ordering_reverse p
 
 index_bound : (o : Ordering) → ordering_index o ≤ 2
 index_bound Less = omega arith
@@ -32,8 +32,8 @@ index_rises a b key below = at (order b key) refl
     at : (o : Ordering) → order b key ≡ o → ordering_index (order a key) ≤ ordering_index o
     at Less e = rw (nat_list_cmp_total.trans a b key below e) (omega arith)
     at Equal e =
-        let over : order key a ≡ Greater = nat_list_cmp_total.congr key b a (turned b key Equal e) ∙ turned a b Less below in
-        rw (turned key a Greater over) (omega arith)
+        let over : order key a ≡ Greater = nat_list_cmp_total.congr key b a (order_turns b key Equal e) ∙ order_turns a b Less below in
+        rw (order_turns key a Greater over) (omega arith)
     at Greater e = index_bound (order a key)
 
 same_text : (a b : List ℕ) → order a b ≡ Equal → a ≡ b
@@ -65,7 +65,7 @@ module _ {X : Type 0} where
       elim (order key e.0) as (λ o. order key e.0 ≡ o → AreInOrder (keys_of (by_order o ((key, value) ∷ e ∷ es) ((e.0, value) ∷ es) (e ∷ put order key value es)))) [
         | Less ↦ λ p. ((p, below_all key e.0 (keys_of es) p sorted.0), sorted)
         | Equal ↦ λ p. sorted
-        | Greater ↦ λ p. (below_put e.0 key value es (turned key e.0 Greater p) sorted.0, AreInOrder-put key value es sorted.1)
+        | Greater ↦ λ p. (below_put e.0 key value es (order_turns key e.0 Greater p) sorted.0, AreInOrder-put key value es sorted.1)
       ] refl
 
   -- a pair whose key is there has a new value
@@ -74,11 +74,11 @@ module _ {X : Type 0} where
   unfolding IsStrictlySortedBy
   put-found key value [] at d sorted within same = absurd (omega arith)
   put-found key value (e ∷ es) zero d sorted within same =
-      ap (λ o. by_order o ((key, value) ∷ e ∷ es) ((e.0, value) ∷ es) (e ∷ put order key value es)) (turned e.0 key Equal same)
+      ap (λ o. by_order o ((key, value) ∷ e ∷ es) ((e.0, value) ∷ es) (e ∷ put order key value es)) (order_turns e.0 key Equal same)
   put-found key value (e ∷ es) (suc at) d sorted within same =
       let there = (get_or es at d).0 in
       let below : order e.0 there ≡ Less = below_at (λ x. x.0) (λ later. order e.0 later ≡ Less) es at d (omega arith) sorted.0 in
-      let over : order key e.0 ≡ Greater = sym (nat_list_cmp_total.congr there key e.0 same) ∙ turned e.0 there Less below in
+      let over : order key e.0 ≡ Greater = sym (nat_list_cmp_total.congr there key e.0 same) ∙ order_turns e.0 there Less below in
       ap (λ o. by_order o ((key, value) ∷ e ∷ es) ((e.0, value) ∷ es) (e ∷ put order key value es)) over
       ∙ ap (λ xs. e ∷ xs) (put-found key value es at d sorted.1 (omega arith) same)
 
@@ -96,9 +96,9 @@ module _ {X : Type 0} where
   put-absent key value [] zero within below over = refl
   put-absent key value [] (suc at) within below over = absurd (omega arith)
   put-absent key value (e ∷ es) zero within below over =
-      ap (λ o. by_order o ((key, value) ∷ e ∷ es) ((e.0, value) ∷ es) (e ∷ put order key value es)) (turned e.0 key Greater (over zero e (omega arith) (omega arith)))
+      ap (λ o. by_order o ((key, value) ∷ e ∷ es) ((e.0, value) ∷ es) (e ∷ put order key value es)) (order_turns e.0 key Greater (over zero e (omega arith) (omega arith)))
   put-absent key value (e ∷ es) (suc at) within below over =
-      ap (λ o. by_order o ((key, value) ∷ e ∷ es) ((e.0, value) ∷ es) (e ∷ put order key value es)) (turned e.0 key Less (below zero e (omega arith) (omega arith)))
+      ap (λ o. by_order o ((key, value) ∷ e ∷ es) ((e.0, value) ∷ es) (e ∷ put order key value es)) (order_turns e.0 key Less (below zero e (omega arith) (omega arith)))
       ∙ ap (λ xs. e ∷ xs) (put-absent key value es at (omega arith)
       (λ k d lt at_k. below (suc k) d (omega arith) (omega arith))
       (λ k d le lt. over (suc k) d (omega arith) (omega arith)))

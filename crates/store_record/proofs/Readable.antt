@@ -8,13 +8,14 @@ use Rattle.std.specs.Str.Parse.{AllDigits}
 use Rattle.std.proofs.lemmas.Bool.{ltb-true, lt-ltb}
 use Rattle.std.proofs.lemmas.Fmt.{decimal_is_IsNumeral, signed_decimal_injective}
 use Rattle.std.proofs.lemmas.List.{append_cancel_left, append-nil}
+use Rattle.gql_plain.proofs.Booleans.{or_true}
 use Rattle.json.specs.Print.{escape, quoted}
 use Rattle.json.specs.Text.{content, plain}
 use Rattle.json.proofs.Printed.Strings.{content-escape}
 use Rattle.gql_plain.specs.Names.{is_within, is_name_start, is_name_byte, is_name}
 use Rattle.gql_plain.specs.ToJson.{compact, more_trees, more_members}
 use Rattle.gql_plain.specs.Tree.{Tree, null, truth, whole, text, list, object, Trees, no_trees, tree, Members, no_members, member}
-use Rattle.store_record.specs.Keys.{Text, Arguments, is_in_range, is_in_64_bits, trees_are_in_64_bits, members_are_in_64_bits, is_null, given, pair_text, more_pairs, key_with, are_arguments, FieldKeysDiffer}
+use Rattle.store_record.specs.Keys.{Text, Arguments, is_in_range, is_in_64_bits, trees_are_in_64_bits, members_are_in_64_bits, is_null, without_nulls, pair_text, more_pairs, key_with, are_arguments, FieldKeysDiffer}
 
 first_of : (a b : Bool) → (a && b) ≡ true → a ≡ true
 first_of true b h = refl
@@ -44,10 +45,6 @@ run p (x ∷ xs) (y ∷ ys) u v a b su sv e =
 
 abbrev is_number_byte : ℕ → Bool
 is_number_byte b = (b == 45) || nat_lt (digit_value b) 10
-
-or_true : (a : Bool) → (a || true) ≡ true
-or_true true = refl
-or_true false = refl
 
 digits : (ds : Text) → AllDigits 10 ds → list_all is_number_byte ds ≡ true
 digits [] h = refl
@@ -230,32 +227,32 @@ all_pairs (a ∷ xs) (b ∷ ys) good also e =
     let r = first_pair a b xs ys (first_of _ (are_arguments xs) good) (first_of _ (are_arguments ys) also) (ap (drop 1) e) in
     (λ i. r.0 i ∷ all_pairs xs ys (second_of _ (are_arguments xs) good) (second_of _ (are_arguments ys) also) r.1 i)
 
-given_arguments : (xs : Arguments) → are_arguments xs ≡ true → are_arguments (given xs) ≡ true
+given_arguments : (xs : Arguments) → are_arguments xs ≡ true → are_arguments (without_nulls xs) ≡ true
 given_arguments [] good = refl
 given_arguments (a ∷ xs) good =
     let rest = given_arguments xs (second_of _ (are_arguments xs) good) in
-    elim (is_null a.1) as (λ b. are_arguments (cond b (given xs) (a ∷ given xs)) ≡ true) [ true ↦ rest | false ↦ λ i. first_of (is_name a.0 && is_in_64_bits a.1) (are_arguments xs) good i && rest i ]
+    elim (is_null a.1) as (λ b. are_arguments (cond b (without_nulls xs) (a ∷ without_nulls xs)) ≡ true) [ true ↦ rest | false ↦ λ i. first_of (is_name a.0 && is_in_64_bits a.1) (are_arguments xs) good i && rest i ]
 
 -- two texts of which both begin with a name, and what follows it
-named : (name other u v : Text) → is_name name ≡ true → is_name other ≡ true → Stops is_name_byte u → Stops is_name_byte v → name ++ u ≡ other ++ v → (name ≡ other) × (u ≡ v)
-named name other u v good also su sv e = run is_name_byte name other u v (name_bytes name good) (name_bytes other also) su sv e
+same_name : (name other u v : Text) → is_name name ≡ true → is_name other ≡ true → Stops is_name_byte u → Stops is_name_byte v → name ++ u ≡ other ++ v → (name ≡ other) × (u ≡ v)
+same_name name other u v good also su sv e = run is_name_byte name other u v (name_bytes name good) (name_bytes other also) su sv e
 
-opened : (name : Text) (a : Text × Tree) (more : Arguments) → key_with name (a ∷ more) ≡ name ++ (40 ∷ (pair_text a ++ more_pairs more))
-opened name a more = append_assoc (name ++ codes "(") (pair_text a) (more_pairs more) ∙ append_assoc name (codes "(") (pair_text a ++ more_pairs more)
+key_opens : (name : Text) (a : Text × Tree) (more : Arguments) → key_with name (a ∷ more) ≡ name ++ (40 ∷ (pair_text a ++ more_pairs more))
+key_opens name a more = append_assoc (name ++ codes "(") (pair_text a) (more_pairs more) ∙ append_assoc name (codes "(") (pair_text a ++ more_pairs more)
 
 keys : (name other : Text) (xs ys : Arguments) → is_name name ≡ true → is_name other ≡ true → are_arguments xs ≡ true → are_arguments ys ≡ true
     → key_with name xs ≡ key_with other ys → (name ≡ other) × (xs ≡ ys)
 keys name other [] [] good also fit fits e = (e, refl)
 keys name other [] (b ∷ ys) good also fit fits e =
-    let r = named name other [] (40 ∷ (pair_text b ++ more_pairs ys)) good also tt refl (append-nil name ∙ e ∙ opened other b ys) in
+    let r = same_name name other [] (40 ∷ (pair_text b ++ more_pairs ys)) good also tt refl (append-nil name ∙ e ∙ key_opens other b ys) in
     absurd (let h : 0 ≡ 40 = ap (λ x. get_or x 0 0) r.1 in omega arith)
 keys name other (a ∷ xs) [] good also fit fits e =
-    let r = named name other (40 ∷ (pair_text a ++ more_pairs xs)) [] good also refl tt (sym (opened name a xs) ∙ e ∙ sym (append-nil other)) in
+    let r = same_name name other (40 ∷ (pair_text a ++ more_pairs xs)) [] good also refl tt (sym (key_opens name a xs) ∙ e ∙ sym (append-nil other)) in
     absurd (let h : 40 ≡ 0 = ap (λ x. get_or x 0 0) r.1 in omega arith)
 keys name other (a ∷ xs) (b ∷ ys) good also fit fits e =
-    let r = named name other (40 ∷ (pair_text a ++ more_pairs xs)) (40 ∷ (pair_text b ++ more_pairs ys)) good also refl refl (sym (opened name a xs) ∙ e ∙ opened other b ys) in
+    let r = same_name name other (40 ∷ (pair_text a ++ more_pairs xs)) (40 ∷ (pair_text b ++ more_pairs ys)) good also refl refl (sym (key_opens name a xs) ∙ e ∙ key_opens other b ys) in
     (r.0, all_pairs (a ∷ xs) (b ∷ ys) fit fits (λ i. 44 ∷ drop 1 (r.1 i)))
 
 pub field_keys-differ : FieldKeysDiffer
 field_keys-differ name other arguments others good also fit fits e =
-    keys name other (given arguments) (given others) good also (given_arguments arguments fit) (given_arguments others fits) e
+    keys name other (without_nulls arguments) (without_nulls others) good also (given_arguments arguments fit) (given_arguments others fits) e

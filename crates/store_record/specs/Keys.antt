@@ -26,9 +26,9 @@ is_null (list ts) = false
 is_null (object ms) = false
 
 -- the arguments that are not null
-abbrev pub given : Arguments → Arguments
-given [] = []
-given (a ∷ more) = cond (is_null a.1) (given more) (a ∷ given more)
+abbrev pub without_nulls : Arguments → Arguments
+without_nulls [] = []
+without_nulls (a ∷ more) = cond (is_null a.1) (without_nulls more) (a ∷ without_nulls more)
 
 abbrev pub pair_text : Text × Tree → Text
 pair_text a = a.0 ++ codes ":" ++ compact a.1
@@ -44,7 +44,7 @@ key_with name (a ∷ more) = name ++ codes "(" ++ pair_text a ++ more_pairs more
 
 -- the key under which a field is stored
 abbrev pub field_key : Text → Arguments → Text
-field_key name arguments = key_with name (given arguments)
+field_key name arguments = key_with name (without_nulls arguments)
 
 -- the arguments that ask for a page of a connection (Cursor Connections, section 4)
 abbrev pub paging : List Text
@@ -60,15 +60,15 @@ is_kept None name = not (has_text paging name)
 is_kept (Some names) name = has_text names name
 
 -- the arguments that tell one connection from another
-abbrev pub filtered : Option (List Text) → Arguments → Arguments
-filtered filters arguments = kept_by (is_kept filters) arguments
+abbrev pub connection_arguments : Option (List Text) → Arguments → Arguments
+connection_arguments filters arguments = kept_by (is_kept filters) arguments
 
 abbrev pub handle_name : Text → Text
 handle_name key = codes "__" ++ key ++ codes "_connection"
 
 -- the key under which the client keeps a connection
 abbrev pub handle_key : Text → Option (List Text) → Arguments → Text
-handle_key key filters arguments = field_key (handle_name key) (filtered filters arguments)
+handle_key key filters arguments = field_key (handle_name key) (connection_arguments filters arguments)
 
 -- ---- generated ids
 
@@ -125,7 +125,7 @@ are_arguments arguments = list_all (λ a. is_name a.0 && is_in_64_bits a.1) argu
 abbrev pub FieldKeysDiffer : Type 0
 FieldKeysDiffer = (name other : Text) (arguments others : Arguments)
     → IsTrue (is_name name) → IsTrue (is_name other) → IsTrue (are_arguments arguments) → IsTrue (are_arguments others)
-    → field_key name arguments ≡ field_key other others → (name ≡ other) × (given arguments ≡ given others)
+    → field_key name arguments ≡ field_key other others → (name ≡ other) × (without_nulls arguments ≡ without_nulls others)
 
 -- a handle key is the field key of no field of a schema, whose names do not begin with `__`
 abbrev pub HandleKeysDiffer : Type 0

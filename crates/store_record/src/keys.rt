@@ -60,13 +60,17 @@ pub fn handle_key(alloc: Global, connection: &Conn, arguments: &Pairs) -> Result
     ensures { IfOk result (λ key. key ≡ keys.handle_key connection.now.key connection.now.filters arguments.now) }
 {
     let name = format!(in alloc; "__{}_connection", connection.key.as_str())?;
-    let kept = filtered(alloc, connection, arguments)?;
+    let kept = connection_arguments(alloc, connection, arguments)?;
     field_key(alloc, &Words::from_string(name), &kept)
 }
 
 /// The arguments that tell one connection from another.
-fn filtered(alloc: Global, connection: &Conn, arguments: &Pairs) -> Result<Pairs, NoMemory>
-    ensures { IfOk result (λ kept. kept ≡ keys.filtered connection.now.filters arguments.now) }
+fn connection_arguments(
+    alloc: Global,
+    connection: &Conn,
+    arguments: &Pairs,
+) -> Result<Pairs, NoMemory>
+    ensures { IfOk result (λ kept. kept ≡ keys.connection_arguments connection.now.filters arguments.now) }
 {
     let mut kept = Pairs::new(alloc);
     'arguments: for (argument, value) in &arguments.entries {

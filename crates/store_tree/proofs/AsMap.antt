@@ -8,9 +8,9 @@ use Rattle.std.specs.Cmp.Lexicographic.{slice_cmp, nat_list_cmp_total}
 use Rattle.std.specs.Ordering.{nat_cmp, eq_by_cmp, is_eq}
 use Rattle.store_tree.specs.Contents.{KeysRise, keys_of, without_key}
 
-turned : {A : Type 0} (b : Bool) (x y : A) → cond (not b) x y ≡ cond b y x
-turned true x y = refl
-turned false x y = refl
+turns : {A : Type 0} (b : Bool) (x y : A) → cond (not b) x y ≡ cond b y x
+turns true x y = refl
+turns false x y = refl
 
 abbrev other : List ℕ → List ℕ → Bool
 other key k = not (eq_by_cmp (slice_cmp nat_cmp) key k)
@@ -30,6 +30,6 @@ module _ {V : Type 0} (pairs : List (List ℕ × V)) (rise : KeysRise pairs) whe
       same_map nat_list_cmp_total (slice_cmp-IsAntisymmetric nat_cmp-IsAntisymmetric) _ _
       (λ q. get-from_sorted (slice_cmp nat_cmp) (without_key key pairs) q (is_sorted-where_key (slice_cmp nat_cmp) (other key) pairs rise)
       ∙ find-where_key (slice_cmp nat_cmp) (other key) q (λ x t. ap (λ r. not (is_eq r)) (sym (alike_right nat_list_cmp_total q x key t))) pairs
-      ∙ turned (eq_by_cmp (slice_cmp nat_cmp) key q) _ _
+      ∙ turns (eq_by_cmp (slice_cmp nat_cmp) key q) _ _
       ∙ (λ i. cond ((eq_by_cmp_equiv nat_list_cmp_total).symm key q i) None (sym (get-from_sorted (slice_cmp nat_cmp) pairs q rise) i))
       ∙ sym (get-remove nat_list_cmp_total (from_sorted pairs) key q))

@@ -193,7 +193,7 @@ fn put_at(
 }
 
 /// The tree with each number below the count put in at its key, each so far from the one before.
-fn filled(alloc: Global, tree: Tree<u64>, count: u64, step: u64) -> Result<Tree<u64>, NoMemory> {
+fn fill(alloc: Global, tree: Tree<u64>, count: u64, step: u64) -> Result<Tree<u64>, NoMemory> {
     let mut steps = Counts::new();
     let mut tree = tree;
     for place in 0..count {
@@ -208,10 +208,10 @@ fn puts_agree_with_sorted_lists(rt: HostRuntime) -> Result<(), Fail> {
     let alloc = rt.alloc();
     // Ascending, descending and mixed, into the empty tree and then over what is there.
     for (count, step) in [(2_000, 1), (2_000, 1_999), (2_000, 1_319), (0, 1)] {
-        let tree = filled(alloc, Tree::new(), count, step)?;
+        let tree = fill(alloc, Tree::new(), count, step)?;
         let numbers = numbers_below(alloc, count)?;
         assert!(rt; agrees(alloc, &tree, &numbers)?, "{count} by {step}");
-        let tree = filled(alloc, tree, count, 1)?;
+        let tree = fill(alloc, tree, count, 1)?;
         assert!(rt; agrees(alloc, &tree, &numbers)?, "{count} by {step}");
     }
     Ok(())
@@ -220,9 +220,9 @@ fn puts_agree_with_sorted_lists(rt: HostRuntime) -> Result<(), Fail> {
 #[test]
 fn puts_leave_other_versions(rt: HostRuntime) -> Result<(), Fail> {
     let alloc = rt.alloc();
-    let tree = filled(alloc, Tree::new(), 100, 37)?;
+    let tree = fill(alloc, Tree::new(), 100, 37)?;
     let older = tree.version()?;
-    let tree = filled(alloc, tree, 120, 1)?;
+    let tree = fill(alloc, tree, 120, 1)?;
     let tree = put_at(alloc, tree, 7, 0, &mut Counts::new())?;
     assert!(rt; agrees(alloc, &older, &numbers_below(alloc, 100)?)?);
     assert_eq!(rt; tree.len(), 120);

@@ -8,8 +8,7 @@ ghost use Rattle.relay_model.specs.Events as model;
 ghost use Rattle.relay_run.specs.Lines.{event_shown, line_shown};
 
 use crate::interim::members::{member_at, text_at};
-use crate::lines::MAX_LINE;
-use gql_plain::NoMemory;
+use gql_plain::{MAX_LINE, NoMemory};
 use serde_json::{Map, Value};
 use std::alloc::Global;
 

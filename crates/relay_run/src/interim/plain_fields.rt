@@ -59,8 +59,8 @@ fn is_leaf_type(schema: &Schema, of: &TypeTree) -> bool
 fn needs_none(arguments: &InputDefs) -> bool
     ensures { result ≡ parts.none_is_needed arguments.now }
 {
-    'arguments: for argument in &arguments.items {
-        if matches!(argument.of, TypeTree::NonNull(_)) && argument.default.is_none() {
+    'arguments: for argument in arguments.items() {
+        if argument.is_required() {
             return false;
         }
     }

@@ -2,7 +2,7 @@ use Rattle.std.proofs.Common.{◌≡◌, ◌+◌, ◌++◌, ◌||◌, true, [], 
 use Rattle.std.proofs.lemmas.Bool.{true≢false, eqb-true}
 use Rattle.relay_io.specs.Streams.{append}
 use Rattle.relay_io.proofs.Streaming.{append-none, append-append}
-use Rattle.relay_model.specs.Events.{max_line}
+use Rattle.gql_plain.specs.Limits.{max_line}
 use Rattle.relay_model.specs.Keys.{Text}
 use Rattle.relay_model.specs.Machine.{beginning, step, refused_from}
 use Rattle.relay_model.specs.Script.{lines_of, cut}

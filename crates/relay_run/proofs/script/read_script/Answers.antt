@@ -10,11 +10,11 @@ use Rattle.relay_run.specs.declared.script.ScriptFault.TheVariants.{Failed, TooL
 use Rattle.relay_run.specs.Output.{max_script}
 use Rattle.relay_run.proofs.script.read_script.Goals as goal
 
-abbrev failed : ScriptFault → Result ℕ ScriptFault
-failed fault = Err fault
+abbrev fault_result : ScriptFault → Result ℕ ScriptFault
+fault_result fault = Err fault
 
 gives_no_script : (bytes more : Text) (fault : ScriptFault) → length bytes ≤ max_script → length bytes + length more ≤ max_script + 1
-    → (IsErrOf (failed fault) Failed ⊎ IsErrOf (failed fault) NoMemory) → (IsErrOf (failed fault) Failed → more ≡ []) → GivesNoScript (bytes ++ more) fault
+    → (IsErrOf (fault_result fault) Failed ⊎ IsErrOf (fault_result fault) NoMemory) → (IsErrOf (fault_result fault) Failed → more ≡ []) → GivesNoScript (bytes ++ more) fault
 gives_no_script bytes more Failed within most form none = omega (arith, length-append bytes more, ap length (none refl), within)
 gives_no_script bytes more NoMemory within most form none = omega (arith, length-append bytes more, most)
 gives_no_script bytes more TooLong within most form none = absurd (elim form [ inl h ↦ cc | inr h ↦ cc ])

@@ -1,15 +1,15 @@
 use Rattle.std.proofs.Common.{◌+◌, ◌++◌, string_bytes, false, sym, ap, ◌∙◌}
 use Rattle.gql_plain.specs.Shown.{shown_members}
-use Rattle.store_record.proofs.KeyTexts.{left, left_from, key_with-left, left_from-null, left_from-pair}
+use Rattle.store_record.proofs.KeyTexts.{rest_of_key, left_from, key_with-left, left_from-null, left_from-pair}
 use Rattle.store_record.proofs.keys.field_key.Goals as goal
 use Rattle.store_record.proofs.keys.field_key.Goals.{then-not-is_null+in_ok-write_pair, else-not-is_null}
-use Rattle.store_record.specs.Keys.{given}
+use Rattle.store_record.specs.Keys.{without_nulls}
 
 pub arguments-init : goal.arguments-init
 arguments-init c =
     ap (λ text. text ++ left_from false c.deref-argument-items.result.now 0) (c.in_ok-text.ensures.ok ∙ c.as_str.ensures)
-    ∙ ap (λ pairs. c.args.name.now ++ left false (given pairs)) (ap shown_members c.deref-argument-items.ensures.value ∙ c.arguments-2.view_is)
-    ∙ key_with-left c.args.name.now (given c.args.arguments.now)
+    ∙ ap (λ pairs. c.args.name.now ++ rest_of_key false (without_nulls pairs)) (ap shown_members c.deref-argument-items.ensures.value ∙ c.arguments-2.view_is)
+    ∙ key_with-left c.args.name.now (without_nulls c.args.arguments.now)
 
 pub arguments-preserved : goal.arguments-preserved
 arguments-preserved c =

@@ -1,7 +1,7 @@
 use Rattle.std.proofs.Common.{◌++◌, ◌∷◌, [], map, ap, ◌∙◌}
 use Rattle.gql_plain.specs.Tree.{text}
 use Rattle.relay_run.specs.Stored.{texts_of}
-use Rattle.relay_run.proofs.PrintingLaws.{listed, listed-step}
+use Rattle.relay_run.proofs.PrintingLaws.{lists, listed-step}
 use Rattle.relay_run.proofs.interim.print_reading.distinct_texts.Goals as goal
 
 pub keys-preserved : goal.keys-preserved
@@ -12,6 +12,6 @@ keys-preserved c =
 
 pub returns : goal.returns
 returns c =
-    listed c.keys.trees c.keys.key-iterator _ c.in-None.ensures.steps.0 c.keys.invariant
+    lists c.keys.trees c.keys.key-iterator _ c.in-None.ensures.steps.0 c.keys.invariant
     ∙ ap (λ es. map text (texts_of es)) c.into_iter-key-iterator.ensures.into_iter_gives.0
     ∙ ap (map text) c.in_ok-keys.ensures

@@ -8,8 +8,8 @@ use Rattle.gql_plain.specs.Order.{AreInOrder}
 use Rattle.store_record.proofs.Puts.{AreInOrder-put, put-in_place, put-searched}
 use Rattle.store_record.proofs.field.Fields.put_shared.Goals as goal
 
-found : (c : goal.After-drop-index_mut) → set c.self.inside.entries.items c.in-Ok.at c.args.entry ≡ put (slice_cmp nat_cmp) c.args.entry.0 c.args.entry.1 c.self.inside.entries.items
-found c =
+put_at : (c : goal.After-drop-index_mut) → set c.self.inside.entries.items c.in-Ok.at c.args.entry ≡ put (slice_cmp nat_cmp) c.args.entry.0 c.args.entry.1 c.self.inside.entries.items
+put_at c =
     let es = c.self.inside.entries.items in
     let at = c.in-Ok.at in
     let key = c.args.entry.0 in
@@ -33,13 +33,13 @@ absent c =
     ∙ ap (put (slice_cmp nat_cmp) key c.args.entry.1) c.deref.ensures.value
 
 pub invariant_of-self : goal.invariant_of-self
-invariant_of-self c = rw (found c) (AreInOrder-put c.args.entry.0 c.args.entry.1 c.self.inside.entries.items c.self.invariant)
+invariant_of-self c = rw (put_at c) (AreInOrder-put c.args.entry.0 c.args.entry.1 c.self.inside.entries.items c.self.invariant)
 
 pub invariant_of-self-in-Continue-1 : goal.invariant_of-self-in-Continue-1
 invariant_of-self-in-Continue-1 c = rw (absent c) (AreInOrder-put c.args.entry.0 c.args.entry.1 c.self.inside.entries.items c.self.invariant)
 
 pub returns-in-Ok-clause-ok : goal.returns-in-Ok-clause-ok
-returns-in-Ok-clause-ok c = found c ∙ ap (put (slice_cmp nat_cmp) c.args.entry.0 c.args.entry.1) c.self.view_is
+returns-in-Ok-clause-ok c = put_at c ∙ ap (put (slice_cmp nat_cmp) c.args.entry.0 c.args.entry.1) c.self.view_is
 
 pub returns-in_ok-insert-in-Err-clause-ok : goal.returns-in_ok-insert-in-Err-clause-ok
 returns-in_ok-insert-in-Err-clause-ok c = absent c ∙ ap (put (slice_cmp nat_cmp) c.args.entry.0 c.args.entry.1) c.self.view_is

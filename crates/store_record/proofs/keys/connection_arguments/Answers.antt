@@ -3,8 +3,8 @@ use Rattle.std.specs.Map.{keys_of}
 use Rattle.gql_plain.specs.Order.{AreInOrder}
 use Rattle.gql_plain.specs.Shown.{tree_of}
 use Rattle.store_record.proofs.Kept.{kept-pair, kept-not, IsAfter-kept}
-use Rattle.store_record.proofs.keys.filtered.Goals as goal
-use Rattle.store_record.proofs.keys.filtered.Goals.{then-is_kept+in_ok-copy+in_ok-copy-2+in_ok-push, else-is_kept}
+use Rattle.store_record.proofs.keys.connection_arguments.Goals as goal
+use Rattle.store_record.proofs.keys.connection_arguments.Goals.{then-is_kept+in_ok-copy+in_ok-copy-2+in_ok-push, else-is_kept}
 use Rattle.store_record.specs.Keys.{is_kept}
 
 pub push-requires : goal.push-requires
