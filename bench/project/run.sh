@@ -29,6 +29,12 @@ def refused(count):
     for n in range(count):
         yield f"input I{n}{{a:Int=1 more:I{min(n + 1, count - 1)}!}}\n"
 
+def lacking(count):
+    """Types of one field each against an interface of as many fields: refused at the first type."""
+    yield "type Query{me:Int}\n" + "interface I{" + " ".join(f"f{n}:Int" for n in range(count)) + "}\n"
+    for n in range(count):
+        yield f"type T{n} implements I{{f{n}:Int}}\n"
+
 def abstract(count):
     yield "type Query{me:T0}\n"
     for n in range(count):
@@ -44,7 +50,8 @@ def run(words, status):
 program = sys.argv[1]
 print("project               types   MiB    ms  times the first  peak MiB")
 for name, make, document, status in [("objects", objects, "query Q{me{name next{id name}}}", 0), ("inputs in a chain", inputs, "query Q{me}", 0),
-                                     ("the last needs itself", refused, "query Q{me}", 3), ("interfaces, unions", abstract, "query Q{me{a b{a}}}", 0)]:
+                                     ("the last needs itself", refused, "query Q{me}", 3),
+                                     ("one field of many", lacking, "query Q{me}", 3), ("interfaces, unions", abstract, "query Q{me{a b{a}}}", 0)]:
     first = None
     for count in [10_000, 20_000, 40_000]:
         with open("s.graphql", "w") as file:

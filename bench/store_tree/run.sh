@@ -1,6 +1,6 @@
 #!/bin/bash
 # Times inserts into a Tree, by `insert` and by `put`, and gets from it, and the same of std's
-# BTreeMap in the same run, at 1, 2 and 4 times 100,000 keys in mixed order. Each figure is the least
+# BTreeMap in the same run, at 1, 2 and 4 times 131,072 keys in mixed order. Each figure is the least
 # of three rounds. The program is made and run in a folder of its own outside the repository.
 set -eu
 repository=$(cd "$(dirname "$0")/../.." && pwd)
@@ -33,10 +33,18 @@ use std::rc::Rc;
 use std::time::{Duration, Instant};
 use store_tree::Tree;
 
+/// The number that stands at a place of the mixed order: each number up to the mask, one less than
+/// a power of two, stands once, and neighbours lie far apart.
+fn mixed(place: u64, mask: u64) -> u64 {
+    let once = place.wrapping_mul(0x9e37_79b1) & mask;
+    let twice = (once ^ (once >> 7)).wrapping_mul(0x85eb_ca6b) & mask;
+    twice ^ (twice >> 9)
+}
+
 fn key_texts(alloc: Global, count: u64) -> Result<Vec<String>, NoMemory> {
     let mut keys = Vec::new(alloc);
     for place in 0..count {
-        let number = place.wrapping_mul(7_919) % count;
+        let number = mixed(place, count.wrapping_sub(1));
         keys.push(format!(in alloc; "client:node:{number}")?)?;
     }
     Ok(keys)
@@ -164,7 +172,7 @@ fn print_ratio(rt: &HostRuntime, count: u64, what: &str, tree: u64, map: u64) ->
 
 fn main(rt: HostRuntime) -> io::Result<()> {
     println!(rt; "keys    what    tree ns  map ns  tree / map")?;
-    for count in [100_000, 200_000, 400_000] {
+    for count in [131_072, 262_144, 524_288] {
         let mut times = Times {
             insert: u64::MAX,
             put: u64::MAX,
