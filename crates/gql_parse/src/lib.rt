@@ -62,5 +62,6 @@ fn read_definitions(alloc: Global, cursor: &mut Cursor<'_>) -> Result<Definition
     'definitions: while !cursor.is_at_end() {
         definitions.push(read_definition(alloc, 0, cursor)?)?;
     }
+    definitions.items.shrink_to_fit();
     Ok(definitions)
 }

@@ -43,14 +43,6 @@ pub(crate) fn read_set(
     read_selections(alloc, room - 1, cursor)
 }
 
-/// Returns the selections without spare room; takes no memory.
-fn fit(mut selections: Selections) -> Selections
-    ensures { result ≡ selections }
-{
-    selections.items.shrink_to_fit();
-    selections
-}
-
 /// Reads the selections of a set, after its `{`, and its `}`.
 #[cycle(selections)]
 fn read_selections(alloc: Global, room: u32, cursor: &mut Cursor<'_>) -> Result<Selections, Fault>
@@ -69,7 +61,8 @@ fn read_selections(alloc: Global, room: u32, cursor: &mut Cursor<'_>) -> Result<
         selections.push(selection)?;
         if cursor.next_is(b'}') {
             cursor.skip(0)?;
-            return Ok(fit(selections));
+            selections.items.shrink_to_fit();
+            return Ok(selections);
         }
     }
 }

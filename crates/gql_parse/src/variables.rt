@@ -30,6 +30,7 @@ pub(crate) fn read_variables(alloc: Global, cursor: &mut Cursor<'_>) -> Result<V
         variables.push(variable)?;
         if cursor.next_is(b')') {
             cursor.skip(0)?;
+            variables.items.shrink_to_fit();
             return Ok(variables);
         }
     }

@@ -25,6 +25,7 @@ pub(crate) fn read_definitions(alloc: Global, cursor: &mut Cursor<'_>) -> Result
         let definition = read_definition(alloc, 1, cursor)?;
         definitions.push(definition)?;
     }
+    definitions.items.shrink_to_fit();
     Ok(definitions)
 }
 

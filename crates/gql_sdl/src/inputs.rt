@@ -64,6 +64,7 @@ pub(crate) fn read_inputs(
         inputs.push(input)?;
         if cursor.next_is(closing) {
             cursor.skip(0)?;
+            inputs.items.shrink_to_fit();
             return Ok(inputs);
         }
     }

@@ -38,6 +38,7 @@ fn read_led_names(alloc: Global, separator: u8, cursor: &mut Cursor<'_>) -> Resu
         let name = read_name(alloc, cursor, 1)?;
         names.push(name)?;
     }
+    names.items.shrink_to_fit();
     Ok(names)
 }
 
@@ -108,6 +109,7 @@ fn read_led_locations(alloc: Global, cursor: &mut Cursor<'_>) -> Result<Location
         let location = read_location(cursor)?;
         locations.push(location)?;
     }
+    locations.items.shrink_to_fit();
     Ok(locations)
 }
 

@@ -51,6 +51,7 @@ pub(crate) fn read_fields(alloc: Global, cursor: &mut Cursor<'_>) -> Result<Fiel
         fields.push(field)?;
         if cursor.next_is(b'}') {
             cursor.skip(0)?;
+            fields.items.shrink_to_fit();
             return Ok(fields);
         }
     }
@@ -113,6 +114,7 @@ pub(crate) fn read_enum_values(alloc: Global, cursor: &mut Cursor<'_>) -> Result
         values.push(value)?;
         if cursor.next_is(b'}') {
             cursor.skip(0)?;
+            values.items.shrink_to_fit();
             return Ok(values);
         }
     }
@@ -152,6 +154,7 @@ pub(crate) fn read_roots(alloc: Global, cursor: &mut Cursor<'_>) -> Result<Roots
         roots.push(root)?;
         if cursor.next_is(b'}') {
             cursor.skip(0)?;
+            roots.items.shrink_to_fit();
             return Ok(roots);
         }
     }

@@ -35,6 +35,7 @@ pub fn read_arguments(
         arguments.push(argument)?;
         if cursor.next_is(b')') {
             cursor.skip(0)?;
+            arguments.items.shrink_to_fit();
             return Ok(arguments);
         }
     }

@@ -7,18 +7,12 @@ ghost use Rattle.gql_syntax.specs.Answers.{wrong_at};
 ghost use Rattle.gql_syntax.specs.Nexts.{behind, IsLast, next_is, next_is_text, next_word, repeat, stopped_at, too_deep_at};
 ghost use Rattle.gql_syntax.specs.Places.{lay};
 
-use crate::fault::Fault;
+use crate::fault::{Fault, TOO_DEEP, UNEXPECTED};
 use gql_ast::{FilePlace, FilePlaces};
 use gql_lex::{LexFault, Lexer, Locator, Token, TokenKind};
 use gql_plain::NoMemory;
 use std::alloc::Global;
 use std::marker::Model;
-
-/// The code of a token that may not stand where it stands, and of an end that comes too early.
-pub const UNEXPECTED: u8 = 6;
-
-/// The code of a token that nests one deeper than it may.
-pub const TOO_DEEP: u8 = 8;
 
 /// The text of a file, of which the next token has been read.
 ///
@@ -211,7 +205,9 @@ impl<'a> Cursor<'a> {
     pub fn into_places(self) -> FilePlaces
         ensures { result ≡ self.entry.places }
     {
-        self.places
+        let mut places = self.places;
+        places.items.shrink_to_fit();
+        places
     }
 }
 

@@ -33,6 +33,7 @@ pub fn read_directives(
         let directive = read_directive(alloc, constant, cursor)?;
         directives.push(directive)?;
     }
+    directives.items.shrink_to_fit();
     Ok(directives)
 }
 

@@ -9,8 +9,15 @@ use gql_lex::place;
 use gql_plain::NoMemory;
 use std::alloc::{AllocError, AllocFailed};
 
+/// The code of a token that may not stand where it stands, and of an end that comes too early. Codes
+/// 1 to 5 are those of `LexFault`.
+pub const UNEXPECTED: u8 = 6;
+
 /// The code of bytes that are no UTF-8.
 pub const NOT_UTF8: u8 = 7;
+
+/// The code of a token that nests one deeper than it may.
+pub const TOO_DEEP: u8 = 8;
 
 /// The text that the bytes of the file with this number are. Bytes that are not UTF-8 are a fault at
 /// the first line and column; that these are refused is this project's own.

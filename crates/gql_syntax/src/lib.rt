@@ -1,5 +1,5 @@
 //! What documents and schemas share: a text read token by token with places, and values, arguments,
-//! directives and types (GraphQL, October 2021, section 2).
+//! directives and types (GraphQL, October 2021, section 2). Lists that were read keep no spare room.
 #![tactic(auto)]
 
 pub mod arguments;

@@ -213,6 +213,7 @@ fn read_items(
         values.push(value)?;
     }
     cursor.skip(0)?;
+    values.items.shrink_to_fit();
     Ok(values)
 }
 
@@ -235,6 +236,7 @@ fn read_fields(
         fields.push(field)?;
     }
     cursor.skip(0)?;
+    fields.items.shrink_to_fit();
     Ok(fields)
 }
 

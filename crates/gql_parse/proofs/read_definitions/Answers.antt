@@ -1,4 +1,5 @@
-use Rattle.std.proofs.Common.{length, ap, ◌∙◌}
+use Rattle.std.proofs.Common.{◌≡◌, length, ap, ◌∙◌, arith}
+use Rattle.std.proofs.lemmas.Grind.{common_steps}
 use Rattle.gql_parse.proofs.SoFar.{further_read, all_read}
 use Rattle.gql_parse.proofs.read_definitions.Goals as goal
 
@@ -10,4 +11,6 @@ definitions-preserved c = record {
 }
 
 pub returns-clause-found : goal.returns-clause-found
-returns-clause-found c = all_read (length c.args.cursor.now.text) c.args.cursor.now c.definitions.cursor c.definitions.definitions c.definitions.invariant.read (c.is_at_end.ensures.is c.definitions-test.false)
+returns-clause-found c =
+    let fitted : c.shrink_to_fit.new.self.items ≡ c.definitions.definitions = grind (arith, common_steps) in
+    rw fitted (all_read (length c.args.cursor.now.text) c.args.cursor.now c.definitions.cursor c.definitions.definitions c.definitions.invariant.read (c.is_at_end.ensures.is c.definitions-test.false))

@@ -1,7 +1,7 @@
 use Rattle.std.proofs.Common.{◌≡◌, ◌+◌, ◌∷◌, [], Err, true, false, length, None, bytes_eq, refl, sym, ap, subst, ◌∙◌, arith}
 use Rattle.std.proofs.lemmas.Grind.{common_steps}
 use Rattle.std.proofs.lemmas.Result.{err_from_is_err_and}
-use Rattle.gql_ast.specs.SelectionView.{sel_of}
+use Rattle.gql_ast.specs.SelectionView.{sel_of, sels_of}
 use Rattle.gql_ast.specs.Sels.{end, field, sels_append}
 use Rattle.gql_parse.specs.Documents.{spell_selections, SomeSelection}
 use Rattle.gql_parse.specs.Going.{run_on, after_set}
@@ -116,7 +116,8 @@ read_selections-returns-then-next_is-2-clause-reads t c =
     let size = length c.args.cursor.now.text in
     let b = c.selections.selections in
     let x = c.in_ok-selection.selection in
-    let pushed : c.fit.result ≡ sels_append b (sel_of x) = c.fit.ensures ∙ c.in_ok-push.ensures.ok in
+    let fitted : sels_of c.shrink_to_fit.new.self.items ≡ c.push.new.self = grind (arith, common_steps) in
+    let pushed : sels_of c.shrink_to_fit.new.self.items ≡ sels_append b (sel_of x) = fitted ∙ c.in_ok-push.ensures.ok in
     let n : next_is 125 c.read_selection.new.cursor.source ≡ true = grind (arith, common_steps) in
     λ up. c.selections.invariant.reads up
     ∙ same_course _ size (set (record { room = c.args.room; before = b; up = up })) (set (record { room = c.args.room; before = sels_append b (sel_of x); up = up })) c.selections.cursor.source c.read_selection.new.cursor.source
@@ -127,14 +128,16 @@ read_selections-returns-then-next_is-2-clause-reads t c =
 
 pub read_selections-returns-then-next_is-2-clause-some : goal.read_selections-returns-then-next_is-2-clause-some
 read_selections-returns-then-next_is-2-clause-some t c =
-    let pushed : c.fit.result ≡ sels_append c.selections.selections (sel_of c.in_ok-selection.selection) = c.fit.ensures ∙ c.in_ok-push.ensures.ok in
+    let fitted : sels_of c.shrink_to_fit.new.self.items ≡ c.push.new.self = grind (arith, common_steps) in
+    let pushed : sels_of c.shrink_to_fit.new.self.items ≡ sels_append c.selections.selections (sel_of c.in_ok-selection.selection) = fitted ∙ c.in_ok-push.ensures.ok in
     subst SomeSelection (sym pushed) (some_selection c.selections.selections c.in_ok-selection.selection)
 
 pub read_selections-returns-then-next_is-2-clause-places : goal.read_selections-returns-then-next_is-2-clause-places
 read_selections-returns-then-next_is-2-clause-places t c =
     let b = c.selections.selections in
     let x = c.in_ok-selection.selection in
-    let pushed : c.fit.result ≡ sels_append b (sel_of x) = c.fit.ensures ∙ c.in_ok-push.ensures.ok in
+    let fitted : sels_of c.shrink_to_fit.new.self.items ≡ c.push.new.self = grind (arith, common_steps) in
+    let pushed : sels_of c.shrink_to_fit.new.self.items ≡ sels_append b (sel_of x) = fitted ∙ c.in_ok-push.ensures.ok in
     λ level ns. ap (λ s. lay (spell_selections node_count s level (0 ∷ ns)) c.args.cursor.now) pushed
     ∙ ap (λ r. lay r c.args.cursor.now) (spell_selections-followed node_count b (sel_of x) level (0 ∷ ns))
     ∙ c.selections.invariant.places level (spell_selections node_count (sel_of x) level (0 ∷ ns))

@@ -18,17 +18,19 @@ returns-then-next_is-clause-reads c =
     let vs = c.variables.variables in
     let v = c.in_ok-variable.variable in
     let n : next_is 41 c.read_variable.new.cursor.source ≡ true = grind (arith, common_steps) in
+    let fitted : c.shrink_to_fit.new.self.items ≡ c.push.new.self = grind (arith, common_steps) in
     λ o. c.variables.invariant.reads o
     ∙ same_course _ size (variables o vs) (variables o (vs ++ v ∷ [])) c.variables.cursor.source c.read_variable.new.cursor.source (ap length c.variables.invariant.same) (c.in_ok-variable.ensures.reads o vs c.variables.invariant.unclosed)
     ∙ variables_close size o vs v c.read_variable.new.cursor.source n
     ∙ ap (λ s. run_on size (in_directives (further false [] (on_operation o (vs ++ v ∷ [])))) s) (sym c.in_ok-skip-2.ensures.source)
-    ∙ ap (λ ws. run_on size (in_directives (further false [] (on_operation o ws))) c.skip-then-next_is.new.self.source) (sym c.in_ok-push.ensures.ok)
+    ∙ ap (λ ws. run_on size (in_directives (further false [] (on_operation o ws))) c.skip-then-next_is.new.self.source) (sym (fitted ∙ c.in_ok-push.ensures.ok))
 
 pub returns-then-next_is-clause-places : goal.returns-then-next_is-clause-places
 returns-then-next_is-clause-places c =
     let vs = c.variables.variables in
     let v = c.in_ok-variable.variable in
-    λ ns. ap (λ r. lay r c.args.cursor.now) (variables_part node_count c.push.new.self vs v ns c.in_ok-push.ensures.ok)
+    let fitted : c.shrink_to_fit.new.self.items ≡ c.push.new.self = grind (arith, common_steps) in
+    λ ns. ap (λ r. lay r c.args.cursor.now) (variables_part node_count c.shrink_to_fit.new.self.items vs v ns (fitted ∙ c.in_ok-push.ensures.ok))
     ∙ c.variables.invariant.places (spell_variables node_count (v ∷ []) (0 ∷ ns))
     ∙ c.in_ok-variable.ensures.places (0 ∷ ns) ∙ c.in_ok-skip-2.ensures.places ns
 

@@ -30,4 +30,6 @@ returns-in_err-definition c =
     record { reads = rw (e.1, e.2) (next-fails c.args.cursor.now c.definitions.cursor c.definitions.definitions c.in_err-definition.field-0.0 c.definitions.invariant.reads (c.is_at_end.ensures.not c.definitions-test.true) c.in_err-definition.ensures.reads) }
 
 pub returns : goal.returns
-returns c = record { reads = schema-read c.args.cursor.now c.definitions.cursor c.definitions.definitions c.definitions.invariant.reads c.definitions.invariant.some (c.is_at_end.ensures.is c.definitions-test.false) }
+returns c =
+    let fitted : c.shrink_to_fit.new.self.items ≡ c.definitions.definitions = cc in
+    record { reads = rw fitted (schema-read c.args.cursor.now c.definitions.cursor c.definitions.definitions c.definitions.invariant.reads c.definitions.invariant.some (c.is_at_end.ensures.is c.definitions-test.false)) }

@@ -1,4 +1,4 @@
-use Rattle.std.proofs.Common.{◌≡◌, true, false, refl, sym, subst, arith}
+use Rattle.std.proofs.Common.{◌≡◌, true, false, refl, sym, subst, ◌∙◌, arith}
 use Rattle.std.proofs.lemmas.Result.{err_from_is_err_and}
 use Rattle.gql_syntax.specs.Nexts.{next_is}
 use Rattle.gql_sdl.specs.Reads.{MayInput}
@@ -37,11 +37,13 @@ returns-in_err-input c =
     }
 
 pub returns-then-next_is-2 : goal.returns-then-next_is-2
-returns-then-next_is-2 c = record {
-  reads = opened-closed (inputs_list c.args.opening c.args.closing) (inputs_laws c.args.opening c.args.closing) c.args.cursor.now c.inputs.cursor c.read_input.new.cursor c.skip-then-next_is-2.new.self c.inputs.inputs c.push.new.self c.in_ok-input.input MayInput
-      (inputs-may c.args.opening c.args.closing c.args.cursor.now.source c.inputs.cursor.source c.inputs.invariant.unclosed) c.inputs.invariant.reads c.in_ok-input.ensures.reads c.in_ok-push.ensures.ok (cc)
-      c.in_ok-skip-2.ensures.source c.in_ok-skip-2.ensures.places c.skip-then-next_is-2.ensures.same;
-}
+returns-then-next_is-2 c =
+    let fitted : c.shrink_to_fit.new.self.items ≡ c.push.new.self = cc in
+    record {
+      reads = opened-closed (inputs_list c.args.opening c.args.closing) (inputs_laws c.args.opening c.args.closing) c.args.cursor.now c.inputs.cursor c.read_input.new.cursor c.skip-then-next_is-2.new.self c.inputs.inputs c.shrink_to_fit.new.self.items c.in_ok-input.input MayInput
+          (inputs-may c.args.opening c.args.closing c.args.cursor.now.source c.inputs.cursor.source c.inputs.invariant.unclosed) c.inputs.invariant.reads c.in_ok-input.ensures.reads (fitted ∙ c.in_ok-push.ensures.ok) (cc)
+          c.in_ok-skip-2.ensures.source c.in_ok-skip-2.ensures.places c.skip-then-next_is-2.ensures.same;
+    }
 
 pub inputs-preserved : goal.inputs-preserved
 inputs-preserved c = record {

@@ -42,4 +42,6 @@ locations-smaller c =
     omega (arith, behind-fewer c.locations.cursor.source (punctuator_of 124) (comes_at 124 c.locations.cursor.source (cc)), ap token_count c.in_ok-skip.ensures.source, behind-count c.skip.new.self.source, ap token_count c.in_ok-location.ensures.source)
 
 pub returns-clause-reads : goal.returns-clause-reads
-returns-clause-reads c = listed-ended locations_separated locations_laws c.args.cursor.now c.locations.cursor c.locations.locations c.locations.invariant.reads (cc)
+returns-clause-reads c =
+    let fitted : c.shrink_to_fit.new.self.items ≡ c.locations.locations = cc in
+    rw fitted (listed-ended locations_separated locations_laws c.args.cursor.now c.locations.cursor c.locations.locations c.locations.invariant.reads (cc))

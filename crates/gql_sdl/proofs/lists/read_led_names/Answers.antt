@@ -42,4 +42,6 @@ names-smaller c =
     omega (arith, behind-fewer c.names.cursor.source (punctuator_of c.args.separator) (comes_at c.args.separator c.names.cursor.source (cc)), ap token_count c.in_ok-skip.ensures.source, behind-count c.skip.new.self.source, ap token_count c.in_ok-name.ensures.source)
 
 pub returns-clause-reads : goal.returns-clause-reads
-returns-clause-reads c = listed-ended (names_separated c.args.separator) (names_laws c.args.separator) c.args.cursor.now c.names.cursor c.names.names c.names.invariant.reads (cc)
+returns-clause-reads c =
+    let fitted : c.shrink_to_fit.new.self.items ≡ c.names.names = cc in
+    rw fitted (listed-ended (names_separated c.args.separator) (names_laws c.args.separator) c.args.cursor.now c.names.cursor c.names.names c.names.invariant.reads (cc))

@@ -1,4 +1,4 @@
-use Rattle.std.proofs.Common.{◌≡◌, true, false, refl, sym, subst, arith}
+use Rattle.std.proofs.Common.{◌≡◌, true, false, refl, sym, subst, ◌∙◌, arith}
 use Rattle.std.proofs.lemmas.Result.{err_from_is_err_and}
 use Rattle.gql_syntax.specs.Nexts.{next_is}
 use Rattle.gql_sdl.specs.Reads.{MayField}
@@ -37,11 +37,13 @@ returns-in_err-value c =
     }
 
 pub returns-then-next_is-2 : goal.returns-then-next_is-2
-returns-then-next_is-2 c = record {
-  reads = opened-closed values_list values_laws c.args.cursor.now c.values.cursor c.read_enum_value.new.cursor c.skip-then-next_is-2.new.self c.values.values c.push.new.self c.in_ok-value.value MayField
-      (values-may c.args.cursor.now.source c.values.cursor.source c.values.invariant.unclosed) c.values.invariant.reads c.in_ok-value.ensures.reads c.in_ok-push.ensures.ok (cc)
-      c.in_ok-skip-2.ensures.source c.in_ok-skip-2.ensures.places c.skip-then-next_is-2.ensures.same;
-}
+returns-then-next_is-2 c =
+    let fitted : c.shrink_to_fit.new.self.items ≡ c.push.new.self = cc in
+    record {
+      reads = opened-closed values_list values_laws c.args.cursor.now c.values.cursor c.read_enum_value.new.cursor c.skip-then-next_is-2.new.self c.values.values c.shrink_to_fit.new.self.items c.in_ok-value.value MayField
+          (values-may c.args.cursor.now.source c.values.cursor.source c.values.invariant.unclosed) c.values.invariant.reads c.in_ok-value.ensures.reads (fitted ∙ c.in_ok-push.ensures.ok) (cc)
+          c.in_ok-skip-2.ensures.source c.in_ok-skip-2.ensures.places c.skip-then-next_is-2.ensures.same;
+    }
 
 pub values-preserved : goal.values-preserved
 values-preserved c = record {

@@ -1,4 +1,4 @@
-use Rattle.std.proofs.Common.{◌≡◌, true, false, refl, sym, subst, arith}
+use Rattle.std.proofs.Common.{◌≡◌, true, false, refl, sym, subst, ◌∙◌, arith}
 use Rattle.std.proofs.lemmas.Result.{err_from_is_err_and}
 use Rattle.gql_syntax.specs.Nexts.{next_is}
 use Rattle.gql_sdl.specs.Reads.{MayField}
@@ -37,11 +37,13 @@ returns-in_err-field c =
     }
 
 pub returns-then-next_is-2 : goal.returns-then-next_is-2
-returns-then-next_is-2 c = record {
-  reads = opened-closed fields_list fields_laws c.args.cursor.now c.fields.cursor c.read_field.new.cursor c.skip-then-next_is-2.new.self c.fields.fields c.push.new.self c.in_ok-field.field MayField
-      (fields-may c.args.cursor.now.source c.fields.cursor.source c.fields.invariant.unclosed) c.fields.invariant.reads c.in_ok-field.ensures.reads c.in_ok-push.ensures.ok (cc)
-      c.in_ok-skip-2.ensures.source c.in_ok-skip-2.ensures.places c.skip-then-next_is-2.ensures.same;
-}
+returns-then-next_is-2 c =
+    let fitted : c.shrink_to_fit.new.self.items ≡ c.push.new.self = cc in
+    record {
+      reads = opened-closed fields_list fields_laws c.args.cursor.now c.fields.cursor c.read_field.new.cursor c.skip-then-next_is-2.new.self c.fields.fields c.shrink_to_fit.new.self.items c.in_ok-field.field MayField
+          (fields-may c.args.cursor.now.source c.fields.cursor.source c.fields.invariant.unclosed) c.fields.invariant.reads c.in_ok-field.ensures.reads (fitted ∙ c.in_ok-push.ensures.ok) (cc)
+          c.in_ok-skip-2.ensures.source c.in_ok-skip-2.ensures.places c.skip-then-next_is-2.ensures.same;
+    }
 
 pub fields-preserved : goal.fields-preserved
 fields-preserved c = record {

@@ -1,4 +1,4 @@
-use Rattle.std.proofs.Common.{◌≡◌, true, false, sym, subst, arith}
+use Rattle.std.proofs.Common.{◌≡◌, true, false, sym, subst, ◌∙◌, arith}
 use Rattle.std.proofs.lemmas.Result.{err_from_is_err_and}
 use Rattle.gql_syntax.specs.Nexts.{next_is}
 use Rattle.gql_sdl.specs.Reads.{MayField, NoDirective, unopened_roots, closed_roots}
@@ -37,11 +37,13 @@ returns-in_err-root c =
     }
 
 pub returns-then-next_is-2 : goal.returns-then-next_is-2
-returns-then-next_is-2 c = record {
-  reads = as_written NoDirective unopened_roots closed_roots roots_list.whole c.args.cursor.now c.skip-then-next_is-2.new.self c.push.new.self (opened-closed roots_list roots_laws c.args.cursor.now c.roots.cursor c.read_root.new.cursor c.skip-then-next_is-2.new.self c.roots.roots c.push.new.self c.in_ok-root.root MayField
-      (roots-may c.args.cursor.now.source c.roots.cursor.source c.roots.invariant.unclosed) c.roots.invariant.reads c.in_ok-root.ensures.reads c.in_ok-push.ensures.ok (cc)
-      c.in_ok-skip-2.ensures.source c.in_ok-skip-2.ensures.places c.skip-then-next_is-2.ensures.same);
-}
+returns-then-next_is-2 c =
+    let fitted : c.shrink_to_fit.new.self.items ≡ c.push.new.self = cc in
+    record {
+      reads = as_written NoDirective unopened_roots closed_roots roots_list.whole c.args.cursor.now c.skip-then-next_is-2.new.self c.shrink_to_fit.new.self.items (opened-closed roots_list roots_laws c.args.cursor.now c.roots.cursor c.read_root.new.cursor c.skip-then-next_is-2.new.self c.roots.roots c.shrink_to_fit.new.self.items c.in_ok-root.root MayField
+          (roots-may c.args.cursor.now.source c.roots.cursor.source c.roots.invariant.unclosed) c.roots.invariant.reads c.in_ok-root.ensures.reads (fitted ∙ c.in_ok-push.ensures.ok) (cc)
+          c.in_ok-skip-2.ensures.source c.in_ok-skip-2.ensures.places c.skip-then-next_is-2.ensures.same);
+    }
 
 pub roots-preserved : goal.roots-preserved
 roots-preserved c = record {

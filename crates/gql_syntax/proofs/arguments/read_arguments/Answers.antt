@@ -1,7 +1,7 @@
-use Rattle.std.proofs.Common.{◌≡◌, ◌∷◌, [], ◌++◌, false, length, sym, ap, ◌∙◌, subst, arith}
+use Rattle.std.proofs.Common.{◌≡◌, ◌∷◌, [], ◌++◌, false, length, map, sym, ap, ◌∙◌, subst, arith}
 use Rattle.std.proofs.lemmas.Grind.{common_steps}
 use Rattle.gql_ast.specs.Value.{members_of}
-use Rattle.gql_ast.specs.ValueView.{value_of}
+use Rattle.gql_ast.specs.ValueView.{argument_of, value_of}
 use Rattle.gql_syntax.specs.Answers.{node_count}
 use Rattle.gql_syntax.specs.Machine.{members_then, more}
 use Rattle.gql_syntax.specs.Nexts.{next_is}
@@ -19,7 +19,8 @@ returns-then-next_is-clause-places c =
     let n = c.in_ok-argument.argument.name in
     let v = value_of c.in_ok-argument.argument.value in
     let pushed : members_of c.push.new.self ≡ members_then (members_of c.arguments.arguments) n v = ap members_of c.in_ok-push.ensures.ok ∙ members_of-behind c.arguments.arguments n v in
-    λ d h ns. ap (λ xs. lay (spell_arguments node_count xs ns) d) c.in_ok-push.ensures.ok
+    let fitted : map argument_of c.shrink_to_fit.new.self.items ≡ c.push.new.self = grind (arith, common_steps) in
+    λ d h ns. ap (λ xs. lay (spell_arguments node_count xs ns) d) (fitted ∙ c.in_ok-push.ensures.ok)
     ∙ ap (λ xs. lay xs d) (arguments_some node_count c.arguments.arguments (n, v) ns)
     ∙ h (spell_members node_count (members_of (c.arguments.arguments ++ (n, v) ∷ [])) 0 (0 ∷ ns))
     ∙ ap (λ ms. lay (spell_members node_count ms 0 (0 ∷ ns)) c.args.cursor.now) (members_of-behind c.arguments.arguments n v)

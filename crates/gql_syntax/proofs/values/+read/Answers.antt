@@ -1,8 +1,8 @@
-use Rattle.std.proofs.Common.{◌≡◌, ◌<◌, ◌-◌, true, false, ◌∷◌, length, sym, ap, ◌∙◌, arith}
+use Rattle.std.proofs.Common.{◌≡◌, ◌<◌, ◌-◌, true, false, ◌∷◌, length, map, sym, ap, ◌∙◌, arith}
 use Rattle.std.proofs.lemmas.Grind.{common_steps}
 use Rattle.std.proofs.lemmas.Result.{err_from_is_err_and}
 use Rattle.gql_ast.specs.Value.{vals_of, members_of, no_vals, no_members, list, object}
-use Rattle.gql_ast.specs.ValueView.{value_of}
+use Rattle.gql_ast.specs.ValueView.{argument_of, value_of}
 use Rattle.gql_syntax.specs.Answers.{node_count}
 use Rattle.gql_syntax.specs.Machine.{item, of_member, want, items, members, named, vals_then, members_then}
 use Rattle.gql_syntax.specs.Nexts.{next_is}
@@ -53,8 +53,10 @@ pub read_fields-returns-clause-reads : goal.read_fields-returns-clause-reads
 read_fields-returns-clause-reads t c =
     let size = length c.args.cursor.now.text in
     let n : next_is 125 c.fields.cursor.source ≡ true = grind (arith, common_steps) in
+    let fitted : map argument_of c.shrink_to_fit.new.self.items ≡ c.fields.fields = grind (arith, common_steps) in
     λ p. c.fields.invariant.reads p ∙ object_ends size c.args.constant c.fields.cursor.source c.args.room (members_of c.fields.fields) p n
     ∙ ap (λ s. value_on size (put_alone (object (members_of c.fields.fields)) p) s) (sym c.in_ok-skip.ensures.source)
+    ∙ ap (λ fs. value_on size (put_alone (object (members_of fs)) p) c.skip.new.self.source) (sym fitted)
 
 pub read_items-returns-in_err-value-clause-reads : goal.read_items-returns-in_err-value-clause-reads
 read_items-returns-in_err-value-clause-reads t c =
@@ -86,8 +88,10 @@ pub read_items-returns-clause-reads : goal.read_items-returns-clause-reads
 read_items-returns-clause-reads t c =
     let size = length c.args.cursor.now.text in
     let n : next_is 93 c.items.cursor.source ≡ true = grind (arith, common_steps) in
+    let fitted : map value_of c.shrink_to_fit.new.self.items ≡ c.items.values = grind (arith, common_steps) in
     λ p. c.items.invariant.reads p ∙ list_ends size c.args.constant c.items.cursor.source c.args.room (vals_of c.items.values) p n
     ∙ ap (λ s. value_on size (put_alone (list (vals_of c.items.values)) p) s) (sym c.in_ok-skip.ensures.source)
+    ∙ ap (λ vs. value_on size (put_alone (list (vals_of vs)) p) c.skip.new.self.source) (sym fitted)
 
 pub read_punctuated-returns-in_err-read_items-clause-reads : goal.read_punctuated-returns-in_err-read_items-clause-reads
 read_punctuated-returns-in_err-read_items-clause-reads t c =
