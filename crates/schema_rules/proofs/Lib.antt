@@ -5,3 +5,4 @@ pub mod WantedSteps
 pub mod WantedPlaces
 pub mod SettledSteps
 pub mod RulePlaces
+pub mod InheritedSteps

@@ -4,3 +4,4 @@ pub mod First
 pub mod Kinds
 pub mod NamedAt
 pub mod Needing
+pub mod Inherited

@@ -1,4 +1,4 @@
-//! What is wrong with a project.
+//! The rules of projects, and why a check of them fails.
 use gql_plain::NoMemory;
 use std::alloc::{AllocError, AllocFailed};
 
@@ -54,20 +54,17 @@ pub enum Rule {
     E2,
 }
 
-/// A rule that a project does not meet, and the line and the column, both from 1, of the file where
-/// it does not.
+/// A rule that a schema or documents do not meet, and the number of the node where they do not.
 #[derive(Clone, Copy, Debug, PartialEq, Eq)]
-pub struct ProjectFault {
-    pub file: u32,
-    pub line: u32,
-    pub column: u32,
+pub struct NodeFault {
     pub rule: Rule,
+    pub node: usize,
 }
 
 /// Why a check of rules fails.
 #[derive(Clone, Copy, Debug, PartialEq, Eq)]
 pub enum RuleFault {
-    Rule(ProjectFault),
+    Rule(NodeFault),
     NoMemory,
 }
 

@@ -14,7 +14,6 @@ use crate::rules::names::{members_not_unique, names_reserved};
 use crate::rules::needs::inputs_need_themselves;
 use crate::rules::roots::{names_not_unique, root_types_wrong};
 use crate::rules::types::{composites_in_lists, kinds_wrong, types_not_defined};
-use gql_ast::SchemaTree;
 use gql_graph::first::First;
 use gql_graph::least::Least;
 use gql_plain::NoMemory;
@@ -25,17 +24,12 @@ use schema_trees::located::{DefAt, locate};
 use std::alloc::Global;
 
 /// The first rule that a schema does not meet, and the number of the node where it does not.
-pub fn first_fault(
-    alloc: Global,
-    tables: &Tables,
-    schema: &SchemaTree,
-) -> Result<Option<(Rule, usize)>, NoMemory>
-    requires { tables.now ≡ schema.now.definitions }
+pub fn first_fault(alloc: Global, tables: &Tables) -> Result<Option<(Rule, usize)>, NoMemory>
     ensures { IfOk result (λ found. found ≡ checked.first_fault tables.now) }
 {
-    let mut definitions = locate(alloc, schema)?;
+    let mut definitions = locate(alloc, tables.definitions())?;
     keep_with_effect(&mut definitions);
-    first_broken(alloc, tables, schema.definitions.len(), &definitions)
+    first_broken(alloc, tables, tables.definitions().len(), &definitions)
 }
 
 /// Keeps the definitions that have an effect.

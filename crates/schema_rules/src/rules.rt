@@ -1,5 +1,7 @@
 //! The rules that a schema has to meet.
 pub(crate) mod fields;
+pub(crate) mod index;
+pub(crate) mod inherited;
 pub(crate) mod interfaces;
 pub(crate) mod members;
 pub(crate) mod names;

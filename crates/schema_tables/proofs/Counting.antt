@@ -16,7 +16,7 @@ use Rattle.gql_graph.specs.Texts.{Text}
 use Rattle.gql_plain.proofs.Booleans.{both_ways}
 use Rattle.gql_plain.proofs.SortedTexts.{AreInOrder-sorted_texts}
 use Rattle.gql_plain.specs.Order.{AreInOrder, has_text, with_text, sorted_texts}
-use Rattle.schema_tables.specs.declared.definitions.InputDef.{InputDef}
+use Rattle.schema_tables.specs.Views.{InputDef}
 use Rattle.schema_tables.specs.Fits.{has_member}
 use Rattle.schema_tables.specs.Given.{gives_each}
 use Rattle.schema_tables.specs.Inputs.{must_be_given}

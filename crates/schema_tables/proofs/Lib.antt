@@ -2,5 +2,10 @@ pub mod Finding
 pub mod Named
 pub mod Literals
 pub mod Grouping
-pub mod InputKept
 pub mod Counting
+pub mod Indexing
+pub mod Pairs
+pub mod Naming
+pub mod InputsFound
+pub mod FieldsFound
+pub mod PartsFound

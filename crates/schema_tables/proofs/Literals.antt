@@ -7,7 +7,7 @@ use Rattle.gql_ast.specs.Value.{Val, Members, object, member, members_of}
 use Rattle.gql_ast.specs.ValueView.{value_of, argument_of}
 use Rattle.gql_ast.specs.declared.member.InputTree.{InputTree}
 use Rattle.gql_ast.specs.declared.value.Argument.{Argument}
-use Rattle.schema_tables.specs.declared.definitions.InputDef.{InputDef}
+use Rattle.schema_tables.specs.Views.{InputDef}
 use Rattle.schema_tables.specs.Fits.{literal_fits, members_fit, meaning_of, takes_object, gives_required, is_required, has_member, input_type, fields}
 use Rattle.schema_tables.specs.Given.{gives_each}
 use Rattle.schema_tables.specs.Members.{input_among}

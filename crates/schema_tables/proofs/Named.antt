@@ -10,15 +10,13 @@ use Rattle.gql_ast.specs.declared.directive.Directive.{Directive}
 use Rattle.gql_ast.specs.declared.schema.Root.{Root}
 use Rattle.gql_ast.specs.declared.schema.SchemaDef.{SchemaDef}
 use Rattle.gql_ast.specs.declared.schema.SchemaDef.TheVariants as S
-use Rattle.schema_tables.specs.declared.definitions.DirectiveDef.{DirectiveDef}
-use Rattle.schema_tables.specs.declared.definitions.FieldDef.{FieldDef}
+use Rattle.schema_tables.specs.Views.{DirectiveDef}
+use Rattle.schema_tables.specs.Views.{InputDef}
 use Rattle.schema_tables.specs.declared.kind.TypeKind.{TypeKind}
 use Rattle.schema_tables.specs.declared.kind.TypeKind.TheVariants as K
-use Rattle.schema_tables.specs.declared.part.Part.{Part}
-use Rattle.schema_tables.specs.declared.part.Part.TheVariants as P
-use Rattle.schema_tables.specs.BuiltIn.{directives_of, directive_named}
+use Rattle.schema_tables.specs.BuiltIn.{defined_directive, directives_of, directive_named}
 use Rattle.schema_tables.specs.Members.{field_among, input_among}
-use Rattle.schema_tables.specs.Parts.{is_type, is_directive, is_schema, part_of}
+use Rattle.schema_tables.specs.Parts.{is_type, is_directive, is_schema}
 use Rattle.schema_tables.specs.Places.{first_that}
 use Rattle.schema_tables.specs.Types.{Text, Defs, type_named, type_of, is_of, field_named, fields_of, input_named, field_def, input_def, interfaces_named, union_members_named, is_composite, is_composite_kind, is_kind, is_built_in_scalar, roots_of}
 
@@ -38,41 +36,10 @@ pub input_among-defs : (is : List InputTree) (n : Text) → input_among (map inp
 input_among-defs [] n = refl
 input_among-defs (i ∷ is) n = ap (cond (bytes_eq i.name n) (Some (input_def i))) (input_among-defs is n) ∙ map_cond input_def (bytes_eq i.name n) i (input_named is n)
 
--- ---- what is kept of a definition
-
-pub field_kept : (d : Option SchemaDef) (is : List Text) (fs : List FieldDef) (n : Text) → Some (P.Fields is fs) ≡ option_map part_of d
-    → field_among fs n ≡ option_map field_def (option_and_then (λ one. field_named (fields_of one) n) d)
-field_kept None is fs n e = cc
-field_kept (Some (S.Schema ds rs)) is fs n e = cc
-field_kept (Some (S.Scalar m ds)) is fs n e = cc
-field_kept (Some (S.Object m js ds gs)) is fs n e = let same : fs ≡ map field_def gs = cc in ap (λ hs. field_among hs n) same ∙ field_among-defs gs n
-field_kept (Some (S.Interface m js ds gs)) is fs n e = let same : fs ≡ map field_def gs = cc in ap (λ hs. field_among hs n) same ∙ field_among-defs gs n
-field_kept (Some (S.Union m ds ms)) is fs n e = cc
-field_kept (Some (S.Enum m ds vs)) is fs n e = cc
-field_kept (Some (S.Input m ds gs)) is fs n e = cc
-field_kept (Some (S.Directive m xs r ls)) is fs n e = cc
-
-pub interfaces_kept : (d : Option SchemaDef) (is : List Text) (fs : List FieldDef) (n : Text) → Some (P.Fields is fs) ≡ option_map part_of d → has_text is n ≡ has_text (interfaces_named d) n
-interfaces_kept None is fs n e = cc
-interfaces_kept (Some (S.Schema ds rs)) is fs n e = cc
-interfaces_kept (Some (S.Scalar m ds)) is fs n e = cc
-interfaces_kept (Some (S.Object m js ds gs)) is fs n e = let same : is ≡ sorted_texts js = cc in ap (λ hs. has_text hs n) same ∙ has_text-sorted_texts js n
-interfaces_kept (Some (S.Interface m js ds gs)) is fs n e = let same : is ≡ sorted_texts js = cc in ap (λ hs. has_text hs n) same ∙ has_text-sorted_texts js n
-interfaces_kept (Some (S.Union m ds ms)) is fs n e = cc
-interfaces_kept (Some (S.Enum m ds vs)) is fs n e = cc
-interfaces_kept (Some (S.Input m ds gs)) is fs n e = cc
-interfaces_kept (Some (S.Directive m xs r ls)) is fs n e = cc
-
-pub union_kept : (d : Option SchemaDef) (ms : List Text) (n : Text) → Some (P.Members ms) ≡ option_map part_of d → has_text ms n ≡ has_text (union_members_named d) n
-union_kept None ms n e = cc
-union_kept (Some (S.Schema ds rs)) ms n e = cc
-union_kept (Some (S.Scalar m ds)) ms n e = cc
-union_kept (Some (S.Object m js ds gs)) ms n e = cc
-union_kept (Some (S.Interface m js ds gs)) ms n e = cc
-union_kept (Some (S.Union m ds ns)) ms n e = let same : ms ≡ sorted_texts ns = cc in ap (λ hs. has_text hs n) same ∙ has_text-sorted_texts ns n
-union_kept (Some (S.Enum m ds vs)) ms n e = cc
-union_kept (Some (S.Input m ds gs)) ms n e = cc
-union_kept (Some (S.Directive m xs r ls)) ms n e = cc
+pub inputs_kept : (o : Option (List InputTree)) (is : List InputDef) (n : Text) → Some is ≡ option_map (map input_def) o
+    → input_among is n ≡ option_map input_def (option_and_then (λ fields. input_named fields n) o)
+inputs_kept None is n e = cc
+inputs_kept (Some fields) is n e = let same : is ≡ map input_def fields = cc in ap (λ hs. input_among hs n) same ∙ input_among-defs fields n
 
 -- ---- names of types
 
@@ -113,12 +80,6 @@ not_schema (S.Enum m ds vs) h = refl
 not_schema (S.Input m ds gs) h = refl
 not_schema (S.Directive m xs r ls) h = refl
 
--- ---- directives
-
-abbrev pub directive_in : Part → Option DirectiveDef
-directive_in (P.Directive d) = Some d
-directive_in p = None
-
 pub roots_found : (defs : Defs) → roots_of defs ≡ option_and_then roots_in_def (first_that is_schema defs)
 roots_found [] = refl
 roots_found (S.Schema ds rs ∷ defs) = refl
@@ -130,13 +91,15 @@ roots_found (S.Enum m ds vs ∷ defs) = roots_found defs
 roots_found (S.Input m ds gs ∷ defs) = roots_found defs
 roots_found (S.Directive m xs r ls ∷ defs) = roots_found defs
 
+-- ---- directives
+
 directive_or : (b : Bool) (d : SchemaDef) (one : DirectiveDef) (rest : Option DirectiveDef) (more : Option SchemaDef)
-    → part_of d ≡ P.Directive one → rest ≡ option_and_then directive_in (option_map part_of more)
-    → cond b (Some one) rest ≡ option_and_then directive_in (option_map part_of (cond b (Some d) more))
-directive_or true d one rest more is e = sym (ap directive_in is)
+    → defined_directive d ≡ Some one → rest ≡ option_and_then defined_directive more
+    → cond b (Some one) rest ≡ option_and_then defined_directive (cond b (Some d) more)
+directive_or true d one rest more is e = sym is
 directive_or false d one rest more is e = e
 
-pub directive_found : (defs : Defs) (n : Text) → directive_named (directives_of defs) n ≡ option_and_then directive_in (option_map part_of (first_that (is_directive n) defs))
+pub directive_found : (defs : Defs) (n : Text) → directive_named (directives_of defs) n ≡ option_and_then defined_directive (first_that (is_directive n) defs)
 directive_found [] n = refl
 directive_found (S.Schema ds rs ∷ defs) n = directive_found defs n
 directive_found (S.Scalar m ds ∷ defs) n = directive_found defs n
@@ -146,14 +109,6 @@ directive_found (S.Union m ds ns ∷ defs) n = directive_found defs n
 directive_found (S.Enum m ds vs ∷ defs) n = directive_found defs n
 directive_found (S.Input m ds gs ∷ defs) n = directive_found defs n
 directive_found (S.Directive m xs r ls ∷ defs) n = directive_or (bytes_eq m n) (S.Directive m xs r ls) _ _ _ refl (directive_found defs n)
-
-pub not_directive : (p : Part) → ((d : DirectiveDef) → p ≡ P.Directive d → ⊥) → directive_in p ≡ None
-not_directive P.Bare h = refl
-not_directive (P.Fields is fs) h = refl
-not_directive (P.Members ms) h = refl
-not_directive (P.Values vs) h = refl
-not_directive (P.Inputs is) h = refl
-not_directive (P.Directive d) h = absurd (h d refl)
 
 has_known : (ds : List DirectiveDef) (n : Text) → has_text (map (λ (d : DirectiveDef). d.name) ds) n ≡ is_some (directive_named ds n)
 has_known [] n = refl

@@ -11,8 +11,8 @@ use Rattle.gql_ast.specs.declared.type_tree.TypeTree.{TypeTree}
 use Rattle.gql_ast.specs.declared.type_tree.TypeTree.TheVariants as T
 use Rattle.gql_ast.specs.declared.value.ValueTree.{ValueTree}
 use Rattle.gql_ast.specs.declared.value.ValueTree.TheVariants as V
-use Rattle.schema_tables.specs.declared.definitions.DirectiveDef.{DirectiveDef}
-use Rattle.schema_tables.specs.declared.definitions.InputDef.{InputDef}
+use Rattle.schema_tables.specs.Views.{DirectiveDef}
+use Rattle.schema_tables.specs.Views.{InputDef}
 use Rattle.schema_tables.specs.Types.{Text, Defs, input_def}
 
 -- `name!`, `name`, and `[name!]`

@@ -1,7 +1,7 @@
 -- The required fields of an input object, by what is kept of its definition.
 use Rattle.std.specs.Prelude.{Bool, true, not, ◌&&◌, ◌||◌, List, [], ◌∷◌}
 use Rattle.gql_ast.specs.Value.{Members}
-use Rattle.schema_tables.specs.declared.definitions.InputDef.{InputDef}
+use Rattle.schema_tables.specs.Views.{InputDef}
 use Rattle.schema_tables.specs.Fits.{has_member}
 pub use Rattle.schema_tables.specs.Inputs.{must_be_given}
 

@@ -2,7 +2,7 @@
 use Rattle.std.specs.Prelude.{Bool, not, ◌&&◌, List, Option, is_some, bytes_eq}
 use Rattle.gql_ast.specs.TypeView.{ty_of}
 use Rattle.gql_graph.specs.Texts.{Text}
-use Rattle.schema_tables.specs.declared.definitions.InputDef.{InputDef}
+use Rattle.schema_tables.specs.Views.{InputDef}
 use Rattle.schema_tables.specs.Places.{first_that}
 use Rattle.schema_tables.specs.TypeForms.{is_non_null}
 

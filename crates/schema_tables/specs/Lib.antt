@@ -1,11 +1,15 @@
 pub mod TypeForms
+pub mod Views
 pub mod Inputs
 pub mod Types
 pub mod BuiltIn
 pub mod Fits
 pub mod Places
 pub mod Members
+pub mod Indexes
+pub mod InputPlaces
 pub mod Parts
+pub mod TableParts
 pub mod Kept
 pub mod Means
 pub mod Given

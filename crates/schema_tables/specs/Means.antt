@@ -11,5 +11,5 @@ use Rattle.schema_tables.specs.Types.{Text, Defs, input_def}
 abbrev pub Means : Defs → Text → Meaning → Type 0
 Means defs n M.BuiltIn = meaning_of defs n ≡ built_in n
 Means defs n (M.OneOf names) = (ns : List Text) × (meaning_of defs n ≡ one_of ns) × (names.now ≡ sorted_texts ns)
-Means defs n (M.Fields inputs) = (is : List InputTree) × (meaning_of defs n ≡ fields is) × (inputs.now ≡ map input_def is)
+Means defs n (M.Fields inputs) = (is : List InputTree) × (meaning_of defs n ≡ fields is) × (inputs ≡ map input_def is)
 Means defs n M.Anything = meaning_of defs n ≡ anything

@@ -1,6 +1,6 @@
 -- Fields, inputs and directives by their names.
 use Rattle.std.specs.Prelude.{Bool, List, Option, bytes_eq}
-use Rattle.schema_tables.specs.declared.definitions.FieldDef.{FieldDef}
+use Rattle.schema_tables.specs.Views.{FieldDef}
 use Rattle.schema_tables.specs.Places.{first_that}
 use Rattle.gql_graph.specs.Texts.{Text}
 pub use Rattle.schema_tables.specs.Inputs.{is_input, input_among}

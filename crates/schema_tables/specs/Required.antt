@@ -4,7 +4,7 @@ use Rattle.gql_ast.specs.Value.{Val}
 use Rattle.gql_graph.specs.Rules.{each}
 use Rattle.gql_graph.specs.Texts.{Text}
 use Rattle.gql_plain.specs.Order.{has_text, sorted_texts}
-use Rattle.schema_tables.specs.declared.definitions.InputDef.{InputDef}
+use Rattle.schema_tables.specs.Views.{InputDef}
 use Rattle.schema_tables.specs.Inputs.{must_be_given}
 
 -- the name of an input that has to be given

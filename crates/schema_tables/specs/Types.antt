@@ -12,8 +12,8 @@ use Rattle.gql_ast.specs.declared.member.InputTree.{InputTree}
 use Rattle.gql_ast.specs.declared.schema.Root.{Root}
 use Rattle.gql_ast.specs.declared.schema.SchemaDef.{SchemaDef}
 use Rattle.gql_ast.specs.declared.schema.SchemaDef.TheVariants as S
-use Rattle.schema_tables.specs.declared.definitions.FieldDef.{FieldDef}
-use Rattle.schema_tables.specs.declared.definitions.InputDef.{InputDef}
+use Rattle.schema_tables.specs.Views.{FieldDef}
+use Rattle.schema_tables.specs.Views.{InputDef}
 use Rattle.schema_tables.specs.declared.kind.TypeKind.{TypeKind}
 use Rattle.schema_tables.specs.declared.kind.TypeKind.TheVariants.{Scalar, Object, Interface, Union, Enum, Input}
 pub use Rattle.gql_graph.specs.Texts.{Text}

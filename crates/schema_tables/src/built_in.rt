@@ -5,16 +5,17 @@ ghost use Rattle.gql_ast.specs.declared.location.Location.TheVariants as L;
 ghost use Rattle.schema_tables.specs.BuiltIn as known;
 ghost use Rattle.schema_tables.specs.Known as single;
 
-use crate::definitions::{DirectiveDef, InputDef, InputDefs};
-use gql_ast::{Location, Locations, TypeBox, TypeTree, ValueTree};
+use gql_ast::{
+    Directives, InputTree, InputTrees, Location, Locations, SchemaDef, TypeBox, TypeTree, ValueTree,
+};
 use gql_plain::{NoMemory, Words};
 use std::alloc::Global;
 
 /// The known directives.
-pub(crate) fn built_in_directives(alloc: Global) -> Result<Vec<DirectiveDef>, NoMemory>
-    ensures { IfOk result (λ directives. directives.items ≡ known.built_in_directives) }
+pub(crate) fn built_in_directives(alloc: Global) -> Result<Vec<SchemaDef>, NoMemory>
+    ensures { IfOk result (λ directives. directives.items ≡ single.built_in_trees) }
 {
-    let mut directives = Vec::new(alloc);
+    let mut directives = Vec::with_capacity(alloc, 9)?;
     directives.push(conditional(alloc, "skip")?)?;
     directives.push(conditional(alloc, "include")?)?;
     put_notes(alloc, &mut directives)?;
@@ -55,7 +56,7 @@ pub fn is_built_in_directive(name: &str) -> bool
 }
 
 /// `@deprecated` and `@specifiedBy` (sections 3.13.3 and 3.13.4).
-fn put_notes(alloc: Global, directives: &mut Vec<DirectiveDef>) -> Result<(), NoMemory>
+fn put_notes(alloc: Global, directives: &mut Vec<SchemaDef>) -> Result<(), NoMemory>
     ensures { OnOk result (directives.new.items ≡ directives.old.items ++ (single.deprecated ∷ single.specified_by ∷ [])) }
 {
     directives.push(deprecated(alloc)?)?;
@@ -64,9 +65,9 @@ fn put_notes(alloc: Global, directives: &mut Vec<DirectiveDef>) -> Result<(), No
 }
 
 /// `@connection`, `@arguments` and `@relay`.
-fn put_relay(alloc: Global, directives: &mut Vec<DirectiveDef>) -> Result<(), NoMemory>
+fn put_relay(alloc: Global, directives: &mut Vec<SchemaDef>) -> Result<(), NoMemory>
     ensures { OnOk result (directives.new.items ≡ directives.old.items
-        ++ (single.connection ∷ known.directive_of (codes "arguments") [] (L.FragmentSpread ∷ []) ∷ single.relay ∷ [])) }
+        ++ (single.connection ∷ single.directive_tree (codes "arguments") [] (L.FragmentSpread ∷ []) ∷ single.relay ∷ [])) }
 {
     directives.push(connection(alloc)?)?;
     directives.push(bare(alloc, "arguments", Location::FragmentSpread)?)?;
@@ -75,10 +76,10 @@ fn put_relay(alloc: Global, directives: &mut Vec<DirectiveDef>) -> Result<(), No
 }
 
 /// `@argumentDefinitions` and `@inline`.
-fn put_definitions(alloc: Global, directives: &mut Vec<DirectiveDef>) -> Result<(), NoMemory>
+fn put_definitions(alloc: Global, directives: &mut Vec<SchemaDef>) -> Result<(), NoMemory>
     ensures { OnOk result (directives.new.items ≡ directives.old.items
-        ++ (known.directive_of (codes "argumentDefinitions") [] (L.FragmentDefinition ∷ [])
-        ∷ known.directive_of (codes "inline") [] (L.FragmentDefinition ∷ []) ∷ [])) }
+        ++ (single.directive_tree (codes "argumentDefinitions") [] (L.FragmentDefinition ∷ [])
+        ∷ single.directive_tree (codes "inline") [] (L.FragmentDefinition ∷ []) ∷ [])) }
 {
     directives.push(bare(alloc, "argumentDefinitions", Location::FragmentDefinition)?)?;
     directives.push(bare(alloc, "inline", Location::FragmentDefinition)?)?;
@@ -86,8 +87,8 @@ fn put_definitions(alloc: Global, directives: &mut Vec<DirectiveDef>) -> Result<
 }
 
 /// A directive of selections with a condition: `if: Boolean!`.
-fn conditional(alloc: Global, name: &str) -> Result<DirectiveDef, NoMemory>
-    ensures { IfOk result (λ d. d ≡ known.directive_of name.now known.condition known.selection_locations) }
+fn conditional(alloc: Global, name: &str) -> Result<SchemaDef, NoMemory>
+    ensures { IfOk result (λ d. d ≡ single.directive_tree name.now single.condition known.selection_locations) }
 {
     let of = required(alloc, "Boolean")?;
     let condition = input(alloc, "if", of, None)?;
@@ -101,7 +102,7 @@ fn conditional(alloc: Global, name: &str) -> Result<DirectiveDef, NoMemory>
 }
 
 /// `@deprecated(reason: String = "No longer supported")`.
-fn deprecated(alloc: Global) -> Result<DirectiveDef, NoMemory>
+fn deprecated(alloc: Global) -> Result<SchemaDef, NoMemory>
     ensures { IfOk result (λ d. d ≡ single.deprecated) }
 {
     let reason = deprecation_reason(alloc)?;
@@ -116,7 +117,7 @@ fn deprecated(alloc: Global) -> Result<DirectiveDef, NoMemory>
 }
 
 /// The argument of `@deprecated`.
-fn deprecation_reason(alloc: Global) -> Result<InputDef, NoMemory>
+fn deprecation_reason(alloc: Global) -> Result<InputTree, NoMemory>
     ensures { IfOk result (λ i. i ≡ single.deprecation_reason) }
 {
     let of = TypeTree::Named(Words::new(alloc, "String")?);
@@ -125,7 +126,7 @@ fn deprecation_reason(alloc: Global) -> Result<InputDef, NoMemory>
 }
 
 /// `@specifiedBy(url: String!)`.
-fn specified_by(alloc: Global) -> Result<DirectiveDef, NoMemory>
+fn specified_by(alloc: Global) -> Result<SchemaDef, NoMemory>
     ensures { IfOk result (λ d. d ≡ single.specified_by) }
 {
     let of = required(alloc, "String")?;
@@ -136,7 +137,7 @@ fn specified_by(alloc: Global) -> Result<DirectiveDef, NoMemory>
 }
 
 /// `@connection(key: String!, filters: [String!])`.
-fn connection(alloc: Global) -> Result<DirectiveDef, NoMemory>
+fn connection(alloc: Global) -> Result<SchemaDef, NoMemory>
     ensures { IfOk result (λ d. d ≡ single.connection) }
 {
     let of = required(alloc, "String")?;
@@ -148,7 +149,7 @@ fn connection(alloc: Global) -> Result<DirectiveDef, NoMemory>
 }
 
 /// The second argument of `@connection`.
-fn connection_filters(alloc: Global) -> Result<InputDef, NoMemory>
+fn connection_filters(alloc: Global) -> Result<InputTree, NoMemory>
     ensures { IfOk result (λ i. i ≡ single.connection_filters) }
 {
     let item = required(alloc, "String")?;
@@ -157,7 +158,7 @@ fn connection_filters(alloc: Global) -> Result<InputDef, NoMemory>
 }
 
 /// `@relay(mask: Boolean!)`.
-fn relay(alloc: Global) -> Result<DirectiveDef, NoMemory>
+fn relay(alloc: Global) -> Result<SchemaDef, NoMemory>
     ensures { IfOk result (λ d. d ≡ single.relay) }
 {
     let of = required(alloc, "Boolean")?;
@@ -168,8 +169,8 @@ fn relay(alloc: Global) -> Result<DirectiveDef, NoMemory>
 }
 
 /// A directive at one location, without arguments of its own.
-fn bare(alloc: Global, name: &str, location: Location) -> Result<DirectiveDef, NoMemory>
-    ensures { IfOk result (λ d. d ≡ known.directive_of name.now [] (location ∷ [])) }
+fn bare(alloc: Global, name: &str, location: Location) -> Result<SchemaDef, NoMemory>
+    ensures { IfOk result (λ d. d ≡ single.directive_tree name.now [] (location ∷ [])) }
 {
     let locations = vec![in alloc; location]?;
     directive(alloc, name, Vec::new(alloc), locations)
@@ -179,14 +180,14 @@ fn bare(alloc: Global, name: &str, location: Location) -> Result<DirectiveDef, N
 fn directive(
     alloc: Global,
     name: &str,
-    arguments: Vec<InputDef>,
+    arguments: Vec<InputTree>,
     locations: Vec<Location>,
-) -> Result<DirectiveDef, NoMemory>
-    ensures { IfOk result (λ d. d ≡ known.directive_of name.now arguments.items locations.items) }
+) -> Result<SchemaDef, NoMemory>
+    ensures { IfOk result (λ d. d ≡ single.directive_tree name.now arguments.items locations.items) }
 {
-    Ok(DirectiveDef {
+    Ok(SchemaDef::Directive {
         name: Words::new(alloc, name)?,
-        arguments: InputDefs::new(alloc, arguments)?,
+        arguments: InputTrees { items: arguments },
         repeatable: false,
         locations: Locations { items: locations },
     })
@@ -198,13 +199,14 @@ fn input(
     name: &str,
     of: TypeTree,
     default: Option<ValueTree>,
-) -> Result<InputDef, NoMemory>
-    ensures { IfOk result (λ i. i ≡ known.input_of name.now of default) }
+) -> Result<InputTree, NoMemory>
+    ensures { IfOk result (λ i. i ≡ single.input_tree name.now of default) }
 {
-    Ok(InputDef {
+    Ok(InputTree {
         name: Words::new(alloc, name)?,
         of,
         default,
+        directives: Directives::new(alloc),
     })
 }
 

@@ -1,93 +1,110 @@
-//! What a schema says of fields, inputs and directives.
-ghost use Rattle.std.specs.Prelude.{◌≡◌, ◌++◌, ℕ, List, length, option_copied, IfOk, OnOk};
-ghost use Rattle.std.specs.BTreeMap.{get_by_text};
+//! What a schema says of fields, inputs and directives, as views of its trees.
+ghost use Rattle.std.specs.Prelude.{◌≡◌, length, map};
 ghost use Rattle.gql_plain.specs.Order.{has_text};
-ghost use Rattle.schema_tables.specs.Inputs.{is_input, input_among, must_be_given};
-ghost use Rattle.schema_tables.specs.Places.{first_at};
-ghost use Rattle.schema_tables.specs.Required.{required_name, required_names};
+ghost use Rattle.schema_tables.specs.Inputs.{input_among, must_be_given};
+ghost use Rattle.schema_tables.specs.Required.{required_names};
+ghost use Rattle.schema_tables.specs.Types.{input_def};
 
-use crate::index::Index;
+use crate::index::find_place;
 use crate::type_forms::is_non_null;
-use gql_ast::{Locations, TypeTree, ValueTree};
-use gql_plain::{Ids, Name, NoMemory, Words};
-use std::alloc::Global;
+use gql_ast::{FieldTree, InputTree, Locations, TypeTree, ValueTree};
+use gql_plain::Name;
 use std::marker::Model;
 
 /// An argument or an input field.
-#[derive(Debug, Drop)]
-pub struct InputDef {
-    pub name: Name,
-    pub of: TypeTree,
-    pub default: Option<ValueTree>,
+#[derive(Drop)]
+pub struct InputDef<'a> {
+    pub(crate) tree: &'a InputTree,
 }
 
-impl InputDef {
+impl<'a> Model for InputDef<'a> {
+    ghost use Rattle.schema_tables.specs.Views as views;
+    ghost use Rattle.schema_tables.specs.Types.{input_def};
+
+    ghost Value = { views.InputDef };
+
+    ghost coded = { views.input_code };
+
+    ghost view = { λ i. input_def i.tree.now };
+}
+
+impl<'a> InputDef<'a> {
+    /// The name.
+    pub fn name(&self) -> &'a Name
+        ensures { result.now ≡ self.now.name }
+    {
+        &self.tree.name
+    }
+
+    /// The type.
+    pub fn of(&self) -> &'a TypeTree
+        ensures { result.now ≡ self.now.of }
+    {
+        &self.tree.of
+    }
+
+    /// The default, where there is one.
+    pub fn default(&self) -> &'a Option<ValueTree>
+        ensures { result.now ≡ self.now.default }
+    {
+        &self.tree.default
+    }
+
     /// Whether it has to be given: its type is not null, and it has no default (GraphQL, October
     /// 2021, sections 3.10 and 5.4.2.1).
     pub fn is_required(&self) -> bool
         ensures { result ≡ must_be_given self.now }
     {
-        is_non_null(&self.of) && self.default.is_none()
+        is_required(self.tree)
     }
 }
 
-/// Arguments or input fields in written order, with the places of their names and the names of
-/// those that have to be given.
-#[derive(Debug, Drop)]
-pub struct InputDefs {
-    items: Vec<InputDef>,
-    names: Index,
-    required: Ids,
+/// Whether an input has to be given.
+pub fn is_required(input: &InputTree) -> bool
+    ensures { result ≡ must_be_given (input_def input.now) }
+{
+    is_non_null(&input.of) && input.default.is_none()
 }
 
-impl Model for InputDefs {
-    ghost use Rattle.std.specs.Prelude.{◌≡◌, ℕ, List};
-    ghost use Rattle.std.specs.BTreeMap.{get_by_text};
+/// Arguments or input fields in written order, which are found by their names.
+#[derive(Drop)]
+pub struct InputDefs<'a> {
+    pub(crate) trees: &'a [InputTree],
+    pub(crate) names: &'a [usize],
+    pub(crate) required: &'a [usize],
+}
+
+impl<'a> Model for InputDefs<'a> {
+    ghost use Rattle.std.specs.Prelude.{List, map};
     ghost use Rattle.std.specs.Coded.{coded_list};
-    ghost use Rattle.schema_tables.specs.declared.definitions.InputDef.{InputDef};
-    ghost use Rattle.schema_tables.specs.contracts.definitions.InputDef as input_row;
-    ghost use Rattle.schema_tables.specs.Inputs.{is_input};
-    ghost use Rattle.schema_tables.specs.Places.{first_at};
-    ghost use Rattle.schema_tables.specs.Required.{required_names};
+    ghost use Rattle.schema_tables.specs.Views as views;
+    ghost use Rattle.schema_tables.specs.Types.{input_def};
+    ghost use Rattle.schema_tables.specs.InputPlaces.{ArePlaced};
 
-    ghost Value = { List InputDef };
+    ghost Value = { List views.InputDef };
 
-    ghost coded = { coded_list input_row.the_row.coded };
+    ghost coded = { coded_list views.input_code };
 
-    ghost view = { λ t. t.items.items };
+    ghost view = { λ t. map input_def t.trees.now };
 
-    ghost invariant = { λ t. ((n : List ℕ) → get_by_text t.names.places n ≡ first_at (is_input n) t.items.items)
-        × (t.required ≡ required_names t.items.items) };
+    ghost invariant = { λ t. ArePlaced t.trees.now t.names.now t.required.now };
 }
 
-impl InputDefs {
-    /// These inputs; names may repeat.
-    pub fn new(alloc: Global, items: Vec<InputDef>) -> Result<InputDefs, NoMemory>
-        ensures { IfOk result (λ inputs. inputs ≡ items.items) }
+impl<'a> InputDefs<'a> {
+    /// The trees of the inputs in written order; takes no memory.
+    pub fn items(&self) -> &'a [InputTree]
+        ensures { map input_def result.now ≡ self.now }
     {
-        let names = places_of_inputs(alloc, &items)?;
-        let required = required_among(alloc, &items)?;
-        Ok(InputDefs {
-            items,
-            names,
-            required,
-        })
-    }
-
-    /// The inputs in written order; takes no memory.
-    pub fn items(&self) -> &[InputDef]
-        ensures { result.now ≡ self.now }
-    {
-        &self.items
+        self.trees
     }
 
     /// The first input of a name; takes no memory.
-    pub fn find(&self, name: &str) -> Option<&InputDef>
-        ensures { option_copied result ≡ input_among self.now name.now }
+    pub fn find(&self, name: &str) -> Option<InputDef<'a>>
+        ensures { result ≡ input_among self.now name.now }
     {
-        let items = &self.items;
-        match self.names.find(name) {
-            Some(at) => Some(&items[at]),
+        let trees = self.trees;
+        match find_place(trees, self.names, name) {
+            Some(at) => Some(InputDef { tree: &trees[at] }),
             None => None,
         }
     }
@@ -103,56 +120,115 @@ impl InputDefs {
     pub fn needs(&self, name: &str) -> bool
         ensures { result ≡ has_text (required_names self.now) name.now }
     {
-        self.required.contains(name)
+        find_place(self.trees, self.required, name).is_some()
     }
-}
-
-/// The places of the names of inputs.
-fn places_of_inputs(alloc: Global, inputs: &[InputDef]) -> Result<Index, NoMemory>
-    ensures { IfOk result (λ names. (n : List ℕ) → get_by_text names.places n ≡ first_at (is_input n) inputs.now) }
-{
-    let mut names = Index::new(alloc);
-    'inputs: for (at, input) in inputs.iter().enumerate() {
-        names.put(alloc, input.name.as_str(), at)?;
-    }
-    Ok(names)
-}
-
-/// The names of inputs that have to be given, distinct and in byte order.
-fn required_among(alloc: Global, inputs: &[InputDef]) -> Result<Ids, NoMemory>
-    ensures { IfOk result (λ names. names ≡ required_names inputs.now) }
-{
-    let mut words = Vec::new(alloc);
-    'inputs: for input in inputs {
-        put_required(&mut words, input)?;
-    }
-    Ids::sorted(words)
-}
-
-/// Puts the name of an input that has to be given.
-fn put_required(words: &mut Vec<Words>, input: &InputDef) -> Result<(), NoMemory>
-    ensures { OnOk result (words.new.items ≡ words.old.items ++ required_name input.now) }
-{
-    if !input.is_required() {
-        return Ok(());
-    }
-    words.push(input.name.copy()?)?;
-    Ok(())
 }
 
 /// A field of an object or an interface.
-#[derive(Debug, Drop)]
-pub struct FieldDef {
-    pub name: Name,
-    pub arguments: InputDefs,
-    pub of: TypeTree,
+#[derive(Drop)]
+pub struct FieldDef<'a> {
+    pub(crate) tree: &'a FieldTree,
+    pub(crate) names: &'a [usize],
+    pub(crate) required: &'a [usize],
+}
+
+impl<'a> Model for FieldDef<'a> {
+    ghost use Rattle.schema_tables.specs.Views as views;
+    ghost use Rattle.schema_tables.specs.Types.{field_def};
+    ghost use Rattle.schema_tables.specs.InputPlaces.{ArePlaced};
+
+    ghost Value = { views.FieldDef };
+
+    ghost coded = { views.field_code };
+
+    ghost view = { λ f. field_def f.tree.now };
+
+    ghost invariant = { λ f. ArePlaced f.tree.now.arguments f.names.now f.required.now };
+}
+
+impl<'a> FieldDef<'a> {
+    /// The name.
+    pub fn name(&self) -> &'a Name
+        ensures { result.now ≡ self.now.name }
+    {
+        &self.tree.name
+    }
+
+    /// The arguments.
+    pub fn arguments(&self) -> InputDefs<'a>
+        ensures { result ≡ self.now.arguments }
+    {
+        InputDefs {
+            trees: self.tree.arguments.as_slice(),
+            names: self.names,
+            required: self.required,
+        }
+    }
+
+    /// The type.
+    pub fn of(&self) -> &'a TypeTree
+        ensures { result.now ≡ self.now.of }
+    {
+        &self.tree.of
+    }
 }
 
 /// A directive, its name without `@`.
-#[derive(Debug, Drop)]
-pub struct DirectiveDef {
-    pub name: Name,
-    pub arguments: InputDefs,
-    pub repeatable: bool,
-    pub locations: Locations,
+#[derive(Drop)]
+pub struct DirectiveDef<'a> {
+    pub(crate) name: &'a Name,
+    pub(crate) trees: &'a [InputTree],
+    pub(crate) names: &'a [usize],
+    pub(crate) required: &'a [usize],
+    pub(crate) repeatable: bool,
+    pub(crate) locations: &'a Locations,
+}
+
+impl<'a> Model for DirectiveDef<'a> {
+    ghost use Rattle.std.specs.Prelude.{map};
+    ghost use Rattle.schema_tables.specs.Views as views;
+    ghost use Rattle.schema_tables.specs.Types.{input_def};
+    ghost use Rattle.schema_tables.specs.InputPlaces.{ArePlaced};
+
+    ghost Value = { views.DirectiveDef };
+
+    ghost coded = { views.directive_code };
+
+    ghost view = { λ d. record { name = d.name.now; arguments = map input_def d.trees.now; repeatable = d.repeatable; locations = d.locations.now } };
+
+    ghost invariant = { λ d. ArePlaced d.trees.now d.names.now d.required.now };
+}
+
+impl<'a> DirectiveDef<'a> {
+    /// The name.
+    pub fn name(&self) -> &'a Name
+        ensures { result.now ≡ self.now.name }
+    {
+        self.name
+    }
+
+    /// The arguments.
+    pub fn arguments(&self) -> InputDefs<'a>
+        ensures { result ≡ self.now.arguments }
+    {
+        InputDefs {
+            trees: self.trees,
+            names: self.names,
+            required: self.required,
+        }
+    }
+
+    /// Whether it may stand several times at one place.
+    pub fn is_repeatable(&self) -> bool
+        ensures { result ≡ self.now.repeatable }
+    {
+        self.repeatable
+    }
+
+    /// Where it may stand.
+    pub fn locations(&self) -> &'a Locations
+        ensures { result.now ≡ self.now.locations }
+    {
+        self.locations
+    }
 }

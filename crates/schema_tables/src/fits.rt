@@ -13,7 +13,6 @@ ghost use Rattle.schema_tables.specs.Required.{all_differ, count_among, member_n
 ghost use Rattle.schema_tables.specs.Types as types;
 
 use crate::definitions::InputDefs;
-use crate::part::Part;
 use crate::tables::Tables;
 use crate::type_forms::{base_of, is_built_in_scalar, is_non_null, item_of};
 use gql_ast::{Argument, Arguments, TypeTree, ValueTree, ValueTrees, VariableDef};
@@ -28,7 +27,7 @@ pub(crate) enum Meaning<'a> {
     /// One of the names of an enum.
     OneOf(&'a Ids),
     /// An object with these fields.
-    Fields(&'a InputDefs),
+    Fields(InputDefs<'a>),
     Anything,
 }
 
@@ -40,10 +39,12 @@ impl Tables {
         if is_built_in_scalar(name) {
             return Meaning::BuiltIn;
         }
-        match self.part(name) {
-            Some(Part::Values(names)) => Meaning::OneOf(names),
-            Some(Part::Inputs(inputs)) => Meaning::Fields(inputs),
-            _ => Meaning::Anything,
+        match self.enum_names(name) {
+            Some(names) => Meaning::OneOf(names),
+            None => match self.inputs(name) {
+                Some(inputs) => Meaning::Fields(inputs),
+                None => Meaning::Anything,
+            },
         }
     }
 
@@ -70,10 +71,10 @@ impl Tables {
             },
             ValueTree::Object(fields) => match self.meaning(base_of(of)) {
                 Meaning::Fields(inputs) => {
-                    if !names_fit(alloc, inputs, fields)? {
+                    if !names_fit(alloc, &inputs, fields)? {
                         return Ok(false);
                     }
-                    let fit = self.members_fit(alloc, fields, inputs)?;
+                    let fit = self.members_fit(alloc, fields, &inputs)?;
                     Ok(fit)
                 }
                 Meaning::Anything => Ok(true),
@@ -114,7 +115,7 @@ impl Tables {
         &self,
         alloc: Global,
         fields: &Arguments,
-        inputs: &InputDefs,
+        inputs: &InputDefs<'_>,
     ) -> Result<bool, NoMemory>
         requires { all_differ (member_names fields.now) ≡ true }
         ensures { IfOk result (λ b. (is : List InputTree) → inputs.now ≡ map types.input_def is
@@ -124,7 +125,7 @@ impl Tables {
             let Some(input) = inputs.find(field.name.as_str()) else {
                 return Ok(false);
             };
-            if !self.literal_fits(alloc, &field.value, &input.of)? {
+            if !self.literal_fits(alloc, &field.value, input.of())? {
                 return Ok(false);
             }
         }
@@ -253,7 +254,7 @@ fn is_among(value: &ValueTree, names: &Ids) -> bool
 }
 
 /// Whether the names of fields differ, and each input that has to be given is among them.
-fn names_fit(alloc: Global, inputs: &InputDefs, fields: &Arguments) -> Result<bool, NoMemory>
+fn names_fit(alloc: Global, inputs: &InputDefs<'_>, fields: &Arguments) -> Result<bool, NoMemory>
     ensures { IfOk result (λ b. b ≡ (all_differ (member_names fields.now) && gives_each inputs.now (members_of fields.now))) }
 {
     if !names_differ(alloc, fields)? {
@@ -286,7 +287,7 @@ fn are_both(first: bool, second: bool) -> bool
 }
 
 /// Whether each input that has to be given is among the fields, whose names differ.
-fn gives_required(inputs: &InputDefs, fields: &Arguments) -> bool
+fn gives_required(inputs: &InputDefs<'_>, fields: &Arguments) -> bool
     requires { all_differ (member_names fields.now) ≡ true }
     ensures { result ≡ gives_each inputs.now (members_of fields.now) }
 {
@@ -294,7 +295,7 @@ fn gives_required(inputs: &InputDefs, fields: &Arguments) -> bool
 }
 
 /// How many fields have the names of inputs that have to be given.
-fn count_required(inputs: &InputDefs, fields: &[Argument]) -> usize
+fn count_required(inputs: &InputDefs<'_>, fields: &[Argument]) -> usize
     ensures { result ≡ count_among (required_names inputs.now) (member_names (map argument_of fields.now)) }
 {
     let mut count = 0;

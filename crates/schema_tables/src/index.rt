@@ -1,43 +1,109 @@
-//! The places of names.
-ghost use Rattle.std.specs.Prelude.{◌≡◌, ℕ, List, bytes_eq, OnOk};
-ghost use Rattle.std.specs.BTreeMap.{get_by_text};
-ghost use Rattle.schema_tables.specs.Places.{first_place};
+//! The places of names in lists.
+ghost use Rattle.std.specs.Prelude.{◌≡◌, ℕ, List, map, IfOk};
+ghost use Rattle.gql_plain.specs.Order.{AreInOrder};
+ghost use Rattle.schema_tables.specs.Indexes.{IsSortedFrom, name_at, pair_of, place_of};
 
-use gql_plain::NoMemory;
+use gql_ast::{EnumValue, FieldTree, InputTree, SchemaDef};
+use gql_plain::{Name, NoMemory};
 use std::alloc::Global;
-use std::collections::BTreeMap;
 
-/// The first place of each name in a list.
+/// A part of a schema that has a name.
+pub trait Named {
+    ghost name: { Self → List ℕ };
+
+    /// The name; empty for a `schema` definition.
+    fn name(&self) -> &str
+        ensures { result.now ≡ name self.now };
+}
+
+impl Named for Name {
+    ghost name = { λ n. n };
+
+    fn name(&self) -> &str {
+        self.as_str()
+    }
+}
+
+impl Named for FieldTree {
+    ghost name = { λ f. f.name };
+
+    fn name(&self) -> &str {
+        self.name.as_str()
+    }
+}
+
+impl Named for InputTree {
+    ghost name = { λ i. i.name };
+
+    fn name(&self) -> &str {
+        self.name.as_str()
+    }
+}
+
+impl Named for SchemaDef {
+    ghost use Rattle.schema_tables.specs.Indexes.{definition_name};
+
+    ghost name = { definition_name };
+
+    fn name(&self) -> &str {
+        match self {
+            SchemaDef::Schema { .. } => "",
+            SchemaDef::Scalar { name, .. } => name.as_str(),
+            SchemaDef::Object { name, .. } => name.as_str(),
+            SchemaDef::Interface { name, .. } => name.as_str(),
+            SchemaDef::Union { name, .. } => name.as_str(),
+            SchemaDef::Enum { name, .. } => name.as_str(),
+            SchemaDef::Input { name, .. } => name.as_str(),
+            SchemaDef::Directive { name, .. } => name.as_str(),
+        }
+    }
+}
+
+/// A name and its place in a list.
+#[derive(Clone, Copy)]
+pub struct NamePlace<'a> {
+    pub name: &'a str,
+    pub at: usize,
+}
+
+/// The places of the first element of each name in a list, in the byte order of the names.
 #[derive(Debug, Drop)]
 pub struct Index {
-    pub(crate) places: BTreeMap<String, usize>,
+    pub(crate) places: Vec<usize>,
 }
 
 impl Index {
-    /// No name; takes no memory.
-    pub fn new(alloc: Global) -> Index
-        ensures { (other : List ℕ) → get_by_text result.places other ≡ None }
+    /// The places of the names; of one that stands several times, the first that is given.
+    pub fn sorted(alloc: Global, mut pairs: Vec<NamePlace<'_>>) -> Result<Index, NoMemory>
+        ensures { IfOk result (λ index. IsSortedFrom (map pair_of pairs.entry.items) index.places.items) }
     {
-        Index {
-            places: BTreeMap::new(alloc),
+        pairs.sort_by_key(|pair| pair.name)?;
+        pairs.dedup_by_key(|pair| pair.name);
+        let mut places = Vec::with_capacity(alloc, pairs.len())?;
+        'pairs: for pair in &pairs {
+            places.push(pair.at)?;
         }
+        Ok(Index { places })
     }
+}
 
-    /// Puts a name with its place, unless the name is there.
-    pub fn put(&mut self, alloc: Global, name: &str, at: usize) -> Result<(), NoMemory>
-        ensures { OnOk result ((other : List ℕ) → get_by_text self.new.places other
-            ≡ first_place (get_by_text self.old.places other) (bytes_eq name.now other) at) }
-    {
-        if !self.places.contains_key(name) {
-            drop(self.places.insert(String::from_str(alloc, name)?, at)?);
-        }
-        Ok(())
+/// The place of a name in a list; takes no memory.
+pub fn find_place<T: Named>(items: &[T], places: &[usize], name: &str) -> Option<usize>
+    requires { AreInOrder (map (name_at T.name items.now) places.now) }
+    ensures { result ≡ place_of T.name items.now places.now name.now }
+{
+    match places.binary_search_by(|at| name_at(items, *at).cmp(name)) {
+        Ok(found) => Some(places[found]),
+        Err(_) => None,
     }
+}
 
-    /// The place of a name; takes no memory.
-    pub fn find(&self, name: &str) -> Option<usize>
-        ensures { result ≡ get_by_text self.now.places name.now }
-    {
-        self.places.get(name).copied()
+/// The name at a place; empty where the list ends before it.
+fn name_at<T: Named>(items: &[T], at: usize) -> &str
+    ensures { result.now ≡ name_at T.name items.now at }
+{
+    match items.get(at) {
+        Some(item) => item.name(),
+        None => "",
     }
 }

@@ -4,13 +4,13 @@
 
 mod building;
 pub mod built_in;
-mod copies;
 pub mod definitions;
 pub mod fits;
 pub mod index;
 pub mod kind;
 mod members;
 mod part;
+mod places;
 mod possible;
 pub mod tables;
 pub mod type_forms;

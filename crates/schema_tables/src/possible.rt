@@ -1,14 +1,16 @@
 //! The object types that each type may be.
 ghost use Rattle.std.specs.Prelude.{◌≡◌, ℕ, List, ◌<◌, ◌&&◌, ◌||◌, ◌++◌, [], ◌∷◌, length, slice_index_or, nat_eq, Some, is_some, IfOk, OnOk, bytes_eq};
-ghost use Rattle.std.specs.BTreeMap.{get_by_text};
 ghost use Rattle.std.specs.List.{filter, list_any};
 ghost use Rattle.gql_plain.specs.Order.{has_text, sorted_texts};
 ghost use Rattle.schema_tables.specs.Objects.{adds, reaches, is_among, is_place, names_object};
 ghost use Rattle.schema_tables.specs.Parts.{is_type};
-ghost use Rattle.schema_tables.specs.Places.{first_at, first_place};
+ghost use Rattle.schema_tables.specs.Indexes.{IsIndexOf, definition_name};
+ghost use Rattle.schema_tables.specs.Places.{first_at};
 ghost use Rattle.schema_tables.specs.Types as says;
 
 use crate::index::Index;
+use crate::part::interfaces_of;
+use crate::places::{find_type, is_object_type, places_of_objects};
 use gql_ast::{Names, SchemaDef};
 use gql_plain::{Ids, Name, NoMemory};
 use std::alloc::Global;
@@ -19,79 +21,82 @@ pub(crate) fn possible_of(
     definitions: &[SchemaDef],
     types: &Index,
 ) -> Result<Vec<Ids>, NoMemory>
-    requires { (n : List ℕ) → get_by_text types.now.places n ≡ first_at (is_type n) definitions.now }
+    requires { IsIndexOf definition_name is_type definitions.now types.now.places.items }
     ensures all { IfOk result (λ possible. length possible.items ≡ length definitions.now) }
     ensures found { IfOk result (λ possible. (n : List ℕ) (at : ℕ) → first_at (is_type n) definitions.now ≡ Some at
         → slice_index_or possible.items at [] ≡ says.possible definitions.now n) }
 {
     let objects = places_of_objects(alloc, definitions)?;
     let groups = object_groups(alloc, definitions, types)?;
-    let mut possible = Vec::new(alloc);
+    let mut possible = Vec::with_capacity(alloc, definitions.len())?;
     'definitions: for (at, definition) in definitions.iter().enumerate() {
-        possible.push(with_members(&groups[at], definition, &objects)?)?;
+        possible.push(with_members(alloc, &groups[at], definition, definitions, &objects)?)?;
     }
     Ok(possible)
 }
 
-/// The places of the object types.
-fn places_of_objects(alloc: Global, definitions: &[SchemaDef]) -> Result<Index, NoMemory>
-    ensures { IfOk result (λ names. (n : List ℕ) → get_by_text names.places n ≡ first_at (names_object n) definitions.now) }
-{
-    let mut names = Index::new(alloc);
-    'definitions: for (at, definition) in definitions.iter().enumerate() {
-        put_object(alloc, &mut names, definition, at)?;
-    }
-    Ok(names)
-}
-
-/// Puts the place of the object type that a definition defines, where it defines one.
-fn put_object(
-    alloc: Global,
-    names: &mut Index,
-    definition: &SchemaDef,
-    at: usize,
-) -> Result<(), NoMemory>
-    ensures { OnOk result ((n : List ℕ) → get_by_text names.new.places n
-        ≡ first_place (get_by_text names.old.places n) (names_object n definition.now) at) }
-{
-    match definition {
-        SchemaDef::Object { name, .. } => names.put(alloc, name.as_str(), at),
-        _ => Ok(()),
-    }
-}
-
 /// The names in a group and the object types that the definition holds as a union, distinct and in
 /// byte order.
-fn with_members(group: &Names, definition: &SchemaDef, objects: &Index) -> Result<Ids, NoMemory>
+fn with_members(
+    alloc: Global,
+    group: &Names,
+    definition: &SchemaDef,
+    definitions: &[SchemaDef],
+    objects: &Index,
+) -> Result<Ids, NoMemory>
+    requires { IsIndexOf definition_name names_object definitions.now objects.now.places.items }
     ensures { IfOk result (λ ids. ids ≡ sorted_texts (group.now
-        ++ filter (λ n. is_some (get_by_text objects.now.places n)) (says.union_members_of definition.now))) }
+        ++ filter (λ n. is_some (first_at (names_object n) definitions.now)) (says.union_members_of definition.now))) }
 {
     match definition {
-        SchemaDef::Union { members, .. } => with_objects(group, members.as_slice(), objects),
-        _ => with_objects(group, &[], objects),
+        SchemaDef::Union { members, .. } => with_objects(
+            alloc,
+            group,
+            members.as_slice(),
+            definitions,
+            objects,
+        ),
+        _ => with_objects(alloc, group, &[], definitions, objects),
     }
 }
 
 /// The names in a group and those of these that are object types, distinct and in byte order.
-fn with_objects(group: &Names, members: &[Name], objects: &Index) -> Result<Ids, NoMemory>
+fn with_objects(
+    alloc: Global,
+    group: &Names,
+    members: &[Name],
+    definitions: &[SchemaDef],
+    objects: &Index,
+) -> Result<Ids, NoMemory>
+    requires { IsIndexOf definition_name names_object definitions.now objects.now.places.items }
     ensures { IfOk result (λ ids. ids ≡ sorted_texts (group.now
-        ++ filter (λ n. is_some (get_by_text objects.now.places n)) members.now)) }
+        ++ filter (λ n. is_some (first_at (names_object n) definitions.now)) members.now)) }
 {
     let mut names = group.copy()?;
     'members: for member in members {
-        push_object(&mut names, member, objects)?;
+        push_object(&mut names, member, definitions, objects)?;
+    }
+    if names.is_empty() {
+        return Ok(Ids::new(alloc));
     }
     Ids::sorted(names.items)
 }
 
 /// Puts a name at the end, if it is an object type.
-fn push_object(group: &mut Names, member: &Name, objects: &Index) -> Result<(), NoMemory>
+fn push_object(
+    group: &mut Names,
+    member: &Name,
+    definitions: &[SchemaDef],
+    objects: &Index,
+) -> Result<(), NoMemory>
+    requires { IsIndexOf definition_name names_object definitions.now objects.now.places.items }
     ensures { OnOk result (group.new
-        ≡ group.old ++ filter (λ n. is_some (get_by_text objects.now.places n)) (member.now ∷ [])) }
+        ≡ group.old ++ filter (λ n. is_some (first_at (names_object n) definitions.now)) (member.now ∷ [])) }
 {
-    match objects.find(member.as_str()) {
-        Some(_) => group.push(member.copy()?),
-        None => Ok(()),
+    if is_object_type(definitions, objects, member.as_str()) {
+        group.push(member.copy()?)
+    } else {
+        Ok(())
     }
 }
 
@@ -101,7 +106,7 @@ fn object_groups(
     definitions: &[SchemaDef],
     types: &Index,
 ) -> Result<Vec<Names>, NoMemory>
-    requires { (n : List ℕ) → get_by_text types.now.places n ≡ first_at (is_type n) definitions.now }
+    requires { IsIndexOf definition_name is_type definitions.now types.now.places.items }
     ensures all { IfOk result (λ groups. length groups.items ≡ length definitions.now) }
     ensures groups { IfOk result (λ groups. (k : ℕ) (n : List ℕ) → has_text (slice_index_or groups.items k []) n
         ≡ list_any (adds definitions.now k n) definitions.now) }
@@ -133,7 +138,7 @@ fn put_definition(
     types: &Index,
     definition: &SchemaDef,
 ) -> Result<(), NoMemory>
-    requires places { (n : List ℕ) → get_by_text types.now.places n ≡ first_at (is_type n) definitions.now }
+    requires places { IsIndexOf definition_name is_type definitions.now types.now.places.items }
     requires all { length groups.old.items ≡ length definitions.now }
     ensures all { length groups.new.items ≡ length definitions.now }
     ensures put { OnOk result ((k : ℕ) (n : List ℕ) → has_text (slice_index_or groups.new.items k []) n
@@ -152,13 +157,13 @@ fn put_name(
     types: &Index,
     name: &Name,
 ) -> Result<(), NoMemory>
-    requires places { (n : List ℕ) → get_by_text types.now.places n ≡ first_at (is_type n) definitions.now }
+    requires places { IsIndexOf definition_name is_type definitions.now types.now.places.items }
     requires all { length groups.old.items ≡ length definitions.now }
     ensures all { length groups.new.items ≡ length definitions.now }
     ensures put { OnOk result ((k : ℕ) (n : List ℕ) → has_text (slice_index_or groups.new.items k []) n
         ≡ (has_text (slice_index_or groups.old.items k []) n || (reaches definitions.now name.now k && bytes_eq name.now n))) }
 {
-    let Some(at) = types.find(name.as_str()) else {
+    let Some(at) = find_type(definitions, types, name.as_str()) else {
         return Ok(());
     };
     put_at(groups, at, name)?;
@@ -173,7 +178,7 @@ fn put_interfaces(
     at: usize,
     name: &Name,
 ) -> Result<(), NoMemory>
-    requires places { (n : List ℕ) → get_by_text types.now.places n ≡ first_at (is_type n) definitions.now }
+    requires places { IsIndexOf definition_name is_type definitions.now types.now.places.items }
     requires all { length groups.old.items ≡ length definitions.now }
     requires within { at < length definitions.now }
     requires first { first_at (is_type name.now) definitions.now ≡ Some at }
@@ -186,17 +191,6 @@ fn put_interfaces(
     put_at_each(groups, definitions, types, interfaces, name)
 }
 
-/// The interfaces that a definition says it implements.
-fn interfaces_of(definition: &SchemaDef) -> &[Name]
-    ensures { result.now ≡ says.interfaces_of definition.now }
-{
-    match definition {
-        SchemaDef::Object { implements, .. } => implements.as_slice(),
-        SchemaDef::Interface { implements, .. } => implements.as_slice(),
-        _ => &[],
-    }
-}
-
 /// Puts a name into the groups of types.
 fn put_at_each(
     groups: &mut Vec<Names>,
@@ -205,7 +199,7 @@ fn put_at_each(
     interfaces: &[Name],
     name: &Name,
 ) -> Result<(), NoMemory>
-    requires places { (n : List ℕ) → get_by_text types.now.places n ≡ first_at (is_type n) definitions.now }
+    requires places { IsIndexOf definition_name is_type definitions.now types.now.places.items }
     requires all { length groups.old.items ≡ length definitions.now }
     ensures all { length groups.new.items ≡ length definitions.now }
     ensures put { OnOk result ((k : ℕ) (n : List ℕ) → has_text (slice_index_or groups.new.items k []) n
@@ -225,13 +219,13 @@ fn put_at_type(
     of: &Name,
     name: &Name,
 ) -> Result<(), NoMemory>
-    requires places { (n : List ℕ) → get_by_text types.now.places n ≡ first_at (is_type n) definitions.now }
+    requires places { IsIndexOf definition_name is_type definitions.now types.now.places.items }
     requires all { length groups.old.items ≡ length definitions.now }
     ensures all { length groups.new.items ≡ length definitions.now }
     ensures put { OnOk result ((k : ℕ) (n : List ℕ) → has_text (slice_index_or groups.new.items k []) n
         ≡ (has_text (slice_index_or groups.old.items k []) n || (is_place (first_at (is_type of.now) definitions.now) k && bytes_eq name.now n))) }
 {
-    match types.find(of.as_str()) {
+    match find_type(definitions, types, of.as_str()) {
         Some(at) => put_at(groups, at, name),
         None => Ok(()),
     }

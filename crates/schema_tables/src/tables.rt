@@ -1,19 +1,23 @@
 //! Definitions with the tables that their look-ups need.
-ghost use Rattle.std.specs.Prelude.{◌≡◌, ℕ, List, map, true, Some, None, option_map, option_and_then, option_copied, IfOk};
+ghost use Rattle.std.specs.Prelude.{◌≡◌, ◌&&◌, ℕ, List, map, true, Some, None, option_map, option_and_then, option_copied, IfOk, IfSome};
 ghost use Rattle.gql_ast.specs.TypeView.{ty_of};
 ghost use Rattle.gql_plain.specs.Order.{has_text, sorted_texts};
 ghost use Rattle.schema_tables.specs.Types as types;
 ghost use Rattle.schema_tables.specs.declared.kind.TypeKind.{TypeKind};
 ghost use Rattle.schema_tables.specs.BuiltIn as known;
-ghost use Rattle.schema_tables.specs.Parts.{is_schema, part_of};
+ghost use Rattle.schema_tables.specs.Parts.{is_directive, is_schema};
+ghost use Rattle.schema_tables.specs.TableParts.{AreParts, IsPartOf};
 ghost use Rattle.schema_tables.specs.Places.{first_at};
 
-use crate::building::{parts_of, place_of_schema, places_of_directives, places_of_types};
+use crate::building::place_of_schema;
 use crate::built_in::built_in_directives;
 use crate::definitions::{DirectiveDef, FieldDef, InputDef, InputDefs};
 use crate::index::Index;
 use crate::kind::TypeKind;
-use crate::part::Part;
+use crate::part::{
+    Part, directive_in, field_in, holds_in, implements_in, inputs_in, parts_of, values_in,
+};
+use crate::places::{find_directive, find_type, places_of_directives, places_of_types};
 use crate::possible::possible_of;
 use crate::type_forms::is_built_in_scalar;
 use gql_ast::{Kind, Root, SchemaDef, SchemaDefs, TypeTree};
@@ -31,7 +35,15 @@ pub struct Tables {
     types: Index,
     directives: Index,
     schema: Option<usize>,
-    built_in: Vec<DirectiveDef>,
+    built_in: Vec<SchemaDef>,
+    built_in_parts: Vec<Part>,
+}
+
+/// A definition and what is kept of it.
+#[derive(Clone, Copy)]
+pub(crate) struct Entry<'a> {
+    pub(crate) definition: &'a SchemaDef,
+    pub(crate) part: &'a Part,
 }
 
 impl Model for Tables {
@@ -61,6 +73,7 @@ impl Tables {
         let directives = places_of_directives(alloc, definitions.as_slice())?;
         let possible = possible_of(alloc, definitions.as_slice(), &types)?;
         let built_in = built_in_directives(alloc)?;
+        let built_in_parts = parts_of(alloc, &built_in)?;
         let schema = place_of_schema(definitions.as_slice());
         Ok(Tables {
             definitions,
@@ -70,6 +83,7 @@ impl Tables {
             directives,
             schema,
             built_in,
+            built_in_parts,
         })
     }
 
@@ -84,19 +98,24 @@ impl Tables {
     pub fn definition(&self, name: &str) -> Option<&SchemaDef>
         ensures { option_copied result ≡ types.type_named self.now name.now }
     {
-        let definitions = &self.definitions;
-        match self.types.find(name) {
-            Some(at) => Some(&definitions.items[at]),
+        let definitions = self.definitions.as_slice();
+        match find_type(definitions, &self.types, name) {
+            Some(at) => Some(&definitions[at]),
             None => None,
         }
     }
 
-    /// What is kept of the definition of a type.
-    pub(crate) fn part(&self, name: &str) -> Option<&Part>
-        ensures { option_copied result ≡ option_map part_of (types.type_named self.now name.now) }
+    /// The definition of a type and what is kept of it.
+    pub(crate) fn entry(&self, name: &str) -> Option<Entry<'_>>
+        ensures found { option_map (λ e. e.definition.now) result ≡ types.type_named self.now name.now }
+        ensures kept { IfSome result (λ e. IsPartOf e.definition.now e.part.now) }
     {
-        match self.types.find(name) {
-            Some(at) => Some(&self.parts[at]),
+        let definitions = self.definitions.as_slice();
+        match find_type(definitions, &self.types, name) {
+            Some(at) => Some(Entry {
+                definition: &definitions[at],
+                part: &self.parts[at],
+            }),
             None => None,
         }
     }
@@ -115,32 +134,32 @@ impl Tables {
     }
 
     /// The field of a name on an object or an interface.
-    pub fn field(&self, of: &str, name: &str) -> Option<&FieldDef>
-        ensures { option_copied result ≡ option_map types.field_def (types.field_on self.now of.now name.now) }
+    pub fn field(&self, of: &str, name: &str) -> Option<FieldDef<'_>>
+        ensures { result ≡ option_map types.field_def (types.field_on self.now of.now name.now) }
     {
-        match self.part(of) {
-            Some(Part::Fields { fields, .. }) => fields.find(name),
-            _ => None,
+        match self.entry(of) {
+            Some(entry) => field_in(entry.definition, entry.part, name),
+            None => None,
         }
     }
 
     /// The input fields of an input object.
-    pub fn inputs(&self, of: &str) -> Option<&InputDefs>
-        ensures { option_copied result ≡ option_map (map types.input_def) (types.inputs_of self.now of.now) }
+    pub fn inputs(&self, of: &str) -> Option<InputDefs<'_>>
+        ensures { result ≡ option_map (map types.input_def) (types.inputs_of self.now of.now) }
     {
-        match self.part(of) {
-            Some(Part::Inputs(inputs)) => Some(inputs),
-            _ => None,
+        match self.entry(of) {
+            Some(entry) => inputs_in(entry.definition, entry.part),
+            None => None,
         }
     }
 
     /// The input field of a name on an input object.
-    pub fn input(&self, of: &str, name: &str) -> Option<&InputDef>
-        ensures { option_copied result ≡ option_map types.input_def (option_and_then (λ is. types.input_named is name.now) (types.inputs_of self.now of.now)) }
+    pub fn input(&self, of: &str, name: &str) -> Option<InputDef<'_>>
+        ensures { result ≡ option_map types.input_def (option_and_then (λ is. types.input_named is name.now) (types.inputs_of self.now of.now)) }
     {
-        match self.part(of) {
-            Some(Part::Inputs(inputs)) => inputs.find(name),
-            _ => None,
+        match self.inputs(of) {
+            Some(inputs) => inputs.find(name),
+            None => None,
         }
     }
 
@@ -148,9 +167,9 @@ impl Tables {
     pub fn enum_names(&self, of: &str) -> Option<&Ids>
         ensures { option_copied result ≡ option_map sorted_texts (types.enum_names self.now of.now) }
     {
-        match self.part(of) {
-            Some(Part::Values(names)) => Some(names),
-            _ => None,
+        match self.entry(of) {
+            Some(entry) => values_in(entry.definition, entry.part),
+            None => None,
         }
     }
 
@@ -158,9 +177,9 @@ impl Tables {
     pub fn implements(&self, name: &str, interface: &str) -> bool
         ensures { result ≡ types.implements self.now name.now interface.now }
     {
-        match self.part(name) {
-            Some(Part::Fields { interfaces, .. }) => interfaces.contains(interface),
-            _ => false,
+        match self.entry(name) {
+            Some(entry) => implements_in(entry.definition, entry.part, interface),
+            None => false,
         }
     }
 
@@ -168,9 +187,9 @@ impl Tables {
     fn holds(&self, union: &str, name: &str) -> bool
         ensures { result ≡ has_text (types.union_members_named (types.type_named self.now union.now)) name.now }
     {
-        match self.part(union) {
-            Some(Part::Members(members)) => members.contains(name),
-            _ => false,
+        match self.entry(union) {
+            Some(entry) => holds_in(entry.definition, entry.part, name),
+            None => false,
         }
     }
 
@@ -186,7 +205,7 @@ impl Tables {
         requires { types.is_composite self.now of.now ≡ true }
         ensures { result.now ≡ types.possible self.now of.now }
     {
-        match self.types.find(of) {
+        match find_type(self.definitions.as_slice(), &self.types, of) {
             Some(at) => &self.possible[at],
             None => unreachable!(),
         }
@@ -204,7 +223,7 @@ impl Tables {
         ensures { result ≡ types.has_id self.now of.now }
     {
         match self.field(of, "id") {
-            Some(field) => is_id_type(&field.of) && field.arguments.items().is_empty(),
+            Some(field) => is_id_field(&field),
             None => false,
         }
     }
@@ -243,39 +262,52 @@ impl Tables {
 
     /// A directive of the specification, of this project, or of the schema (GraphQL, October 2021,
     /// section 3.13).
-    pub fn directive(&self, name: &str) -> Option<&DirectiveDef>
-        ensures { option_copied result ≡ known.directive self.now name.now }
+    pub fn directive(&self, name: &str) -> Option<DirectiveDef<'_>>
+        ensures { result ≡ known.directive self.now name.now }
     {
-        match directive_among(&self.built_in, name) {
+        match directive_among(&self.built_in, &self.built_in_parts, name) {
             Some(directive) => Some(directive),
             None => self.directive_given(name),
         }
     }
 
     /// The first directive of a name that the schema defines.
-    fn directive_given(&self, name: &str) -> Option<&DirectiveDef>
-        ensures { option_copied result ≡ known.directive_named (known.directives_of self.now) name.now }
+    fn directive_given(&self, name: &str) -> Option<DirectiveDef<'_>>
+        ensures { result ≡ known.directive_named (known.directives_of self.now) name.now }
     {
-        match self.directives.find(name) {
-            Some(at) => match &self.parts[at] {
-                Part::Directive(directive) => Some(directive),
-                _ => None,
-            },
+        let definitions = self.definitions.as_slice();
+        match find_directive(definitions, &self.directives, name) {
+            Some(at) => directive_in(&definitions[at], &self.parts[at]),
             None => None,
         }
     }
 }
 
 /// The first directive of a name.
-fn directive_among<'a>(directives: &'a [DirectiveDef], name: &str) -> Option<&'a DirectiveDef>
-    ensures { option_copied result ≡ known.directive_named directives.now name.now }
+fn directive_among<'a>(
+    definitions: &'a [SchemaDef],
+    parts: &'a [Part],
+    name: &str,
+) -> Option<DirectiveDef<'a>>
+    requires { AreParts definitions.now parts.now }
+    ensures { result ≡ known.directive_named (known.directives_of definitions.now) name.now }
 {
-    'directives: for directive in directives {
-        if directive.name.as_str() == name {
-            return Some(directive);
+    'definitions: for (at, definition) in definitions.iter().enumerate() {
+        if defines_directive(definition, name) {
+            return directive_in(definition, &parts[at]);
         }
     }
     None
+}
+
+/// Whether a definition defines the directive of a name.
+fn defines_directive(definition: &SchemaDef, name: &str) -> bool
+    ensures { result ≡ is_directive name.now definition.now }
+{
+    match definition {
+        SchemaDef::Directive { name: defined, .. } => defined.as_str() == name,
+        _ => false,
+    }
 }
 
 /// The root of a kind among those of a `schema` definition.
@@ -315,6 +347,13 @@ pub(crate) fn type_name(definition: &SchemaDef) -> Option<&Name>
         SchemaDef::Input { name, .. } => Some(name),
         SchemaDef::Directive { .. } => None,
     }
+}
+
+/// Whether a field has the type `ID!` and no arguments.
+fn is_id_field(field: &FieldDef<'_>) -> bool
+    ensures { result ≡ (types.is_id_type (ty_of field.now.of) && types.is_empty field.now.arguments) }
+{
+    is_id_type(field.of()) && field.arguments().items().is_empty()
 }
 
 /// Whether it is the type `ID!`.

@@ -11,7 +11,7 @@ ghost use Rattle.schema_trees.specs.LocatedView.{name_of, type_of, input_of, fie
 use gql_ast::document::Kind;
 use gql_ast::{
     Arguments, Directives, EnumValues, FieldTree, FieldTrees, InputTree, InputTrees, Names, Roots,
-    SchemaDef, SchemaTree, TypeTree, ValueTree, ValueTrees,
+    SchemaDef, TypeTree, ValueTree, ValueTrees,
 };
 use gql_plain::{Name, NoMemory};
 use std::alloc::Global;
@@ -517,12 +517,12 @@ fn def_at<'a>(
 }
 
 /// The definitions of a schema with the numbers of the nodes of their names, in text order.
-pub fn locate<'a>(alloc: Global, schema: &'a SchemaTree) -> Result<Vec<DefAt<'a>>, NoMemory>
-    ensures { IfOk result (λ ds. map def_of ds.items ≡ locate schema.now.definitions) }
+pub fn locate<'a>(alloc: Global, schema: &'a [SchemaDef]) -> Result<Vec<DefAt<'a>>, NoMemory>
+    ensures { IfOk result (λ ds. map def_of ds.items ≡ locate schema.now) }
 {
     let mut at = 1;
     let mut definitions = Vec::new(alloc);
-    'definitions: for definition in schema.definitions.as_slice() {
+    'definitions: for definition in schema {
         definitions.push(def_at(alloc, &mut at, definition)?)?;
     }
     Ok(definitions)

@@ -21,8 +21,8 @@ use Rattle.gql_graph.specs.Reached.{any_leads}
 use Rattle.schema_rules.specs.Rules.{each, wrong, repeated_names}
 use Rattle.schema_types.specs.Sites.{ValueAt, ArgumentAt, DirectiveAt, VariableAt, Site, field, spread, inline, OperationAt, FragmentAt, DefinitionAt, operation, fragment, typename}
 use Rattle.schema_tables.specs.Types.{Text, Defs, base_of, kind_of, is_kind, is_input_kind, field_on, inputs_of, input_named}
-use Rattle.schema_tables.specs.declared.definitions.DirectiveDef.{DirectiveDef}
-use Rattle.schema_tables.specs.declared.definitions.InputDef.{InputDef}
+use Rattle.schema_tables.specs.Views.{DirectiveDef}
+use Rattle.schema_tables.specs.Views.{InputDef}
 
 -- ---- arguments as they are given to a field or a directive, and what that takes
 

@@ -1,15 +1,14 @@
--- The rules on documents in their order, in three groups; the first that does not hold, and the least place where it does not.
+-- The rules on documents in their order, in three groups; the first that does not hold, and the number of the least node where it does not.
 use Rattle.std.specs.Prelude.{◌≡◌, ℕ, List, [], ◌∷◌, Some, None}
 use Rattle.gql_ast.specs.declared.document.Document.{Document}
 use Rattle.gql_ast.specs.declared.place.FilePlace.{FilePlace}
 use Rattle.gql_ast.specs.declared.place.Placed.{Placed}
-use Rattle.schema_rules.specs.declared.fault.ProjectFault.{ProjectFault}
+use Rattle.schema_rules.specs.declared.fault.NodeFault.{NodeFault}
 use Rattle.schema_rules.specs.declared.fault.Rule.{Rule}
 use Rattle.schema_rules.specs.declared.fault.Rule.TheVariants as R
 use Rattle.schema_rules.specs.declared.fault.RuleFault.{RuleFault}
 use Rattle.schema_rules.specs.declared.fault.RuleFault.TheVariants as F
 use Rattle.schema_types.specs.ArgumentRules.{arguments_wrong, arguments_missing, literals_unfit, directives_wrong, variables_wrong}
-use Rattle.schema_rules.specs.Checked.{node_place, fault_at}
 use Rattle.schema_types.specs.FieldRules.{fields_undefined, sets_wrong, floats_selected, conditions_never_apply, subscriptions_wrong}
 use Rattle.schema_types.specs.NameRules.{operations_not_named, fragments_not_unique, conditions_wrong, fragments_not_there, spreads_on_cycles, roots_missing}
 use Rattle.gql_graph.specs.Rules.{each, first_broken}
@@ -46,12 +45,9 @@ places_of ps = each (λ (p : Placed Document). p.places) ps
 abbrev pub Meet : (Defs → List DefinitionAt → Rules) → Defs → List (Placed Document) → Type 0
 Meet rules defs ps = first_broken (rules defs (all_definitions defs (trees_of ps))) ≡ None
 
--- the fault of documents that do not meet these rules
-pub record BreakRule (rules : Defs → List DefinitionAt → Rules) (defs : Defs) (ps : List (Placed Document)) (f : ProjectFault) : Type 0 where
-  pub rule : Rule
-  pub node : ℕ
-  pub first : first_broken (rules defs (all_definitions defs (trees_of ps))) ≡ Some (rule, node)
-  pub fault : f ≡ fault_at (node_place (places_of ps) node) rule
+-- the fault of documents that do not meet these rules: the first that they break, at the least of its nodes
+abbrev pub BreakRule : (Defs → List DefinitionAt → Rules) → Defs → List (Placed Document) → NodeFault → Type 0
+BreakRule rules defs ps f = first_broken (rules defs (all_definitions defs (trees_of ps))) ≡ Some (f.rule, f.node)
 
 abbrev pub AreFaulty : (Defs → List DefinitionAt → Rules) → Defs → List (Placed Document) → RuleFault → Type 0
 AreFaulty rules defs ps F.NoMemory = Unit {0}

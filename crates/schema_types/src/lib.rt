@@ -5,6 +5,6 @@
 mod schema;
 
 pub use schema::Schema;
-pub use schema_rules::fault::{ProjectFault, Rule, RuleFault};
+pub use schema_rules::fault::{NodeFault, Rule, RuleFault};
 pub use schema_tables::definitions::{DirectiveDef, FieldDef, InputDef, InputDefs};
 pub use schema_tables::kind::TypeKind;

@@ -4,14 +4,13 @@ ghost use Rattle.gql_plain.specs.Order.{sorted_texts};
 ghost use Rattle.gql_ast.specs.TypeView.{ty_of};
 ghost use Rattle.gql_ast.specs.ValueView.{value_of};
 ghost use Rattle.schema_tables.specs.BuiltIn as known;
-ghost use Rattle.schema_rules.specs.Checked as checked;
 ghost use Rattle.schema_rules.specs.Checked.{IsSound, IsRuleFault};
 ghost use Rattle.schema_tables.specs.Fits as fits;
 ghost use Rattle.schema_tables.specs.Types as types;
 
-use gql_ast::{FilePlaces, Kind, Placed, SchemaTree, TypeTree, ValueTree, VariableDef};
+use gql_ast::{Kind, SchemaDefs, TypeTree, ValueTree, VariableDef};
 use gql_plain::{Ids, Name, NoMemory};
-use schema_rules::fault::{ProjectFault, Rule, RuleFault};
+use schema_rules::fault::{NodeFault, RuleFault};
 use schema_rules::first::first_fault;
 use schema_tables::definitions::{DirectiveDef, FieldDef, InputDef, InputDefs};
 use schema_tables::fits::use_allowed;
@@ -19,26 +18,6 @@ use schema_tables::kind::TypeKind;
 use schema_tables::tables::Tables;
 use std::alloc::Global;
 use std::marker::Model;
-
-/// The place of a node, by its number, where a rule is not met.
-fn fault_at(places: &FilePlaces, node: usize, rule: Rule) -> ProjectFault
-    ensures { result ≡ checked.fault_at (checked.node_place places.now node) rule }
-{
-    match places.as_slice().get(node) {
-        Some(place) => ProjectFault {
-            file: place.file,
-            line: place.line,
-            column: place.column,
-            rule,
-        },
-        None => ProjectFault {
-            file: 0,
-            line: 1,
-            column: 1,
-            rule,
-        },
-    }
-}
 
 /// A schema that meets all rules (GraphQL, October 2021, section 3), seen as its definitions. No
 /// look-up takes memory.
@@ -64,40 +43,40 @@ impl Model for Schema {
 }
 
 impl Schema {
-    /// The schema of a tree.
+    /// The schema of definitions. They are moved into it, and not copied.
     ///
     /// # Errors
     ///
-    /// The first of the rules S1 to S12 that the tree does not meet, at its least place; `NoMemory`.
-    pub fn build(alloc: Global, tree: &Placed<SchemaTree>) -> Result<Schema, RuleFault>
-        ensures built { IfOk result (λ schema. schema ≡ tree.now.tree.definitions) }
+    /// The first of the rules S1 to S12 that they do not meet, at the least of its nodes; `NoMemory`.
+    pub fn build(alloc: Global, definitions: SchemaDefs) -> Result<Schema, RuleFault>
+        ensures built { IfOk result (λ schema. schema ≡ definitions) }
         ensures sound { IfOk result (λ schema. IsSound schema) }
-        ensures fault { IfErr result (IsRuleFault tree.now) }
+        ensures fault { IfErr result (IsRuleFault definitions) }
     {
-        let tables = Tables::new(alloc, tree.tree.definitions.copy()?)?;
-        match first_fault(alloc, &tables, &tree.tree)? {
-            Some((rule, at)) => Err(RuleFault::Rule(fault_at(&tree.places, at, rule))),
+        let tables = Tables::new(alloc, definitions)?;
+        match first_fault(alloc, &tables)? {
+            Some((rule, node)) => Err(RuleFault::Rule(NodeFault { rule, node })),
             None => Ok(Schema { tables }),
         }
     }
 
     /// The field of a name on an object or an interface. `__typename` is none of them.
-    pub fn field(&self, of: &str, name: &str) -> Option<&FieldDef>
-        ensures { option_copied result ≡ option_map types.field_def (types.field_on self.now of.now name.now) }
+    pub fn field(&self, of: &str, name: &str) -> Option<FieldDef<'_>>
+        ensures { result ≡ option_map types.field_def (types.field_on self.now of.now name.now) }
     {
         self.tables.field(of, name)
     }
 
     /// The input fields of an input object.
-    pub fn inputs(&self, of: &str) -> Option<&InputDefs>
-        ensures { option_copied result ≡ option_map (map types.input_def) (types.inputs_of self.now of.now) }
+    pub fn inputs(&self, of: &str) -> Option<InputDefs<'_>>
+        ensures { result ≡ option_map (map types.input_def) (types.inputs_of self.now of.now) }
     {
         self.tables.inputs(of)
     }
 
     /// The input field of a name on an input object.
-    pub fn input(&self, of: &str, name: &str) -> Option<&InputDef>
-        ensures { option_copied result ≡ option_map types.input_def (option_and_then (λ is. types.input_named is name.now) (types.inputs_of self.now of.now)) }
+    pub fn input(&self, of: &str, name: &str) -> Option<InputDef<'_>>
+        ensures { result ≡ option_map types.input_def (option_and_then (λ is. types.input_named is name.now) (types.inputs_of self.now of.now)) }
     {
         self.tables.input(of, name)
     }
@@ -163,8 +142,8 @@ impl Schema {
     }
 
     /// A directive of the specification, of this project, or of the schema (section 3.13).
-    pub fn directive(&self, name: &str) -> Option<&DirectiveDef>
-        ensures { option_copied result ≡ known.directive self.now name.now }
+    pub fn directive(&self, name: &str) -> Option<DirectiveDef<'_>>
+        ensures { result ≡ known.directive self.now name.now }
     {
         self.tables.directive(name)
     }

@@ -9,7 +9,7 @@ use Rattle.gql_plain.specs.Order.{AreInOrder, has_text}
 use Rattle.gql_plain.specs.Shown.{tree_of, shown_members}
 use Rattle.gql_plain.specs.Tree.{Tree, Members, object, member, members_of}
 use Rattle.gql_plain.specs.declared.plain.Plain.{Plain}
-use Rattle.schema_tables.specs.declared.definitions.InputDef.{InputDef}
+use Rattle.schema_tables.specs.Views.{InputDef}
 use Rattle.schema_types.specs.Environments.{fits, members_fit, suits_as_object, gives_each_required, has_key}
 use Rattle.schema_tables.specs.Fits.{meaning_of, is_required, input_type, fields}
 use Rattle.schema_tables.specs.Types.{Text, Defs, base_of, inputs_of, input_def, input_named}

@@ -3,7 +3,7 @@ use Rattle.std.specs.Prelude.{◌≡◌, Bool, true, not, ◌&&◌, ◌||◌, Li
 use Rattle.gql_ast.specs.declared.member.InputTree.{InputTree}
 use Rattle.gql_plain.specs.Order.{sorted_texts}
 use Rattle.gql_plain.specs.Tree.{Members}
-use Rattle.schema_tables.specs.declared.definitions.InputDef.{InputDef}
+use Rattle.schema_tables.specs.Views.{InputDef}
 use Rattle.schema_types.specs.Environments.{has_key}
 use Rattle.schema_tables.specs.Fits.{meaning_of, built_in, one_of, fields, anything}
 use Rattle.schema_tables.specs.Given.{must_be_given}
@@ -15,7 +15,7 @@ use Rattle.schema_values.specs.declared.suited.Meaning.TheVariants as M
 abbrev pub Means : Defs → Text → Meaning → Type 0
 Means defs n M.BuiltIn = meaning_of defs n ≡ built_in n
 Means defs n (M.OneOf names) = (ns : List Text) × (meaning_of defs n ≡ one_of ns) × (names.now ≡ sorted_texts ns)
-Means defs n (M.Fields inputs) = (is : List InputTree) × (meaning_of defs n ≡ fields is) × (inputs.now ≡ map input_def is) × (inputs_of defs n ≡ Some is)
+Means defs n (M.Fields inputs) = (is : List InputTree) × (meaning_of defs n ≡ fields is) × (inputs ≡ map input_def is) × (inputs_of defs n ≡ Some is)
 Means defs n M.Anything = meaning_of defs n ≡ anything
 
 -- each input that has to be given is there

@@ -24,7 +24,7 @@ pub(crate) enum Meaning<'a> {
     /// One of the names of an enum.
     OneOf(&'a Ids),
     /// An object with these fields.
-    Fields(&'a InputDefs),
+    Fields(InputDefs<'a>),
     Anything,
 }
 
@@ -57,7 +57,7 @@ pub fn fits(schema: &Schema, value: &Plain, of: &TypeTree) -> bool
         },
         Plain::Tree(pairs) => match find_meaning(schema, base_of(of)) {
             Meaning::Fields(inputs) => {
-                gives_each_required(inputs, pairs) && members_fit(schema, pairs, base_of(of))
+                gives_each_required(&inputs, pairs) && members_fit(schema, pairs, base_of(of))
             }
             Meaning::Anything => true,
             Meaning::BuiltIn => false,
@@ -95,7 +95,7 @@ fn members_fit(schema: &Schema, pairs: &Pairs, of: &str) -> bool
         let Some(input) = schema.input(of, name.as_str()) else {
             return false;
         };
-        if !fits(schema, value, &input.of) {
+        if !fits(schema, value, input.of()) {
             return false;
         }
     }
@@ -169,14 +169,14 @@ fn is_among(value: &Plain, names: &Ids) -> bool
 }
 
 /// Whether each input that has to be given is among the keys, which differ.
-fn gives_each_required(inputs: &InputDefs, pairs: &Pairs) -> bool
+fn gives_each_required(inputs: &InputDefs<'_>, pairs: &Pairs) -> bool
     ensures { result ≡ gives_each inputs.now (members_of pairs.now) }
 {
     count_required(inputs, &pairs.entries) == inputs.required_count()
 }
 
 /// How many pairs have the names of inputs that have to be given as their keys.
-fn count_required(inputs: &InputDefs, pairs: &[(Words, Plain)]) -> usize
+fn count_required(inputs: &InputDefs<'_>, pairs: &[(Words, Plain)]) -> usize
     ensures { result ≡ count_among (required_names inputs.now) (keys_of pairs.now) }
 {
     let mut count = 0;

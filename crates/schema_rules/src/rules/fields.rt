@@ -17,6 +17,7 @@ ghost use Rattle.schema_rules.specs.Rules as rules;
 ghost use Rattle.schema_tables.specs.Places.{first_at};
 ghost use Rattle.schema_tables.specs.Types as types;
 
+use crate::rules::index::Index;
 use crate::rules::interfaces::is_interface;
 use crate::rules::members::is_object;
 use crate::rules::names::{field_names, input_names};
@@ -24,7 +25,6 @@ use crate::rules::wanted::{field_wanted, fields_wanted, wanted_places};
 use gql_ast::{FieldTree, InputTree, TypeTree};
 use gql_graph::least::Least;
 use gql_plain::NoMemory;
-use schema_tables::index::Index;
 use schema_tables::tables::Tables;
 use schema_tables::type_forms::is_non_null;
 use schema_trees::located::{DefAt, FieldAt, InputAt, NameAt};
@@ -525,7 +525,7 @@ fn is_narrower_name(tables: &Tables, narrow: &str, wide: &str) -> bool
 }
 
 /// Whether two types are the same.
-fn same_type(one: &TypeTree, other: &TypeTree) -> bool
+pub fn same_type(one: &TypeTree, other: &TypeTree) -> bool
     ensures { result ≡ rules.same_type (ty_of one.now) (ty_of other.now) }
 {
     match one {

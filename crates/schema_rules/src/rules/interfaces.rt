@@ -1,25 +1,22 @@
 //! S7, implemented interfaces (GraphQL, October 2021, section 3.6): what is implemented is an
 //! interface, not the type itself, and each interface that it implements is named too.
 //! `type A implements B { x: Int }` breaks it at `B`, where B is an object type.
-ghost use Rattle.std.specs.Prelude.{◌≡◌, [], ◌∷◌, ◌++◌, ◌||◌, not, map, List, IfOk, OnOk};
-ghost use Rattle.std.specs.List.{list_any};
+ghost use Rattle.std.specs.Prelude.{◌≡◌, [], ◌∷◌, ◌++◌, ◌||◌, not, map, List, OnOk};
 ghost use Rattle.std.specs.Str.{bytes_eq};
-ghost use Rattle.gql_plain.specs.Order.{has_text};
 ghost use Rattle.gql_graph.specs.Leasts.{least_from};
 ghost use Rattle.schema_trees.specs.Located as located;
 ghost use Rattle.schema_trees.specs.LocatedView.{name_of, def_of};
+ghost use Rattle.schema_rules.specs.Inherited.{HasNone, is_open};
 ghost use Rattle.schema_rules.specs.Rules as rules;
-ghost use Rattle.gql_graph.specs.Seen.{Knows};
 ghost use Rattle.schema_tables.specs.Types as types;
 
-use gql_ast::SchemaDef;
+use crate::rules::inherited::{closed_types, leave_out};
 use gql_graph::least::Least;
 use gql_graph::seen::Seen;
-use gql_plain::{Name, NoMemory};
+use gql_plain::NoMemory;
 use schema_tables::kind::TypeKind;
 use schema_tables::tables::Tables;
 use schema_trees::located::{DefAt, NameAt};
-use schema_trees::repeats::seen_names;
 use std::alloc::Global;
 
 /// S7: what is implemented is an interface, not the type itself, and every interface that it
@@ -32,8 +29,9 @@ pub(crate) fn interfaces_wrong(
 ) -> Result<(), NoMemory>
     ensures { OnOk result (least.new.at ≡ least_from least.old.at (rules.interfaces_wrong tables.now (map def_of definitions.now))) }
 {
+    let closed = closed_types(alloc, tables, definitions)?;
     'definitions: for definition in definitions {
-        note_implements_in(alloc, tables, least, definition)?;
+        note_implements_in(alloc, tables, &closed, least, definition)?;
     }
     Ok(())
 }
@@ -42,9 +40,11 @@ pub(crate) fn interfaces_wrong(
 fn note_implements_in(
     alloc: Global,
     tables: &Tables,
+    closed: &Seen<'_>,
     least: &mut Least,
     definition: &DefAt<'_>,
 ) -> Result<(), NoMemory>
+    requires { HasNone closed.now.names (is_open tables.now) }
     ensures { OnOk result (least.new.at ≡ least_from least.old.at (rules.implements_wrong_in tables.now (def_of definition.now))) }
 {
     match definition {
@@ -52,12 +52,12 @@ fn note_implements_in(
             name,
             interfaces,
             ..
-        } => note_implements(alloc, tables, least, name, interfaces),
+        } => note_implements(alloc, tables, closed, least, name, interfaces),
         DefAt::Interface {
             name,
             interfaces,
             ..
-        } => note_implements(alloc, tables, least, name, interfaces),
+        } => note_implements(alloc, tables, closed, least, name, interfaces),
         DefAt::Schema { .. } => Ok(()),
         DefAt::Scalar { .. } => Ok(()),
         DefAt::Union { .. } => Ok(()),
@@ -72,14 +72,16 @@ fn note_implements_in(
 fn note_implements(
     alloc: Global,
     tables: &Tables,
+    closed: &Seen<'_>,
     least: &mut Least,
     name: &NameAt<'_>,
     interfaces: &[NameAt<'_>],
 ) -> Result<(), NoMemory>
+    requires { HasNone closed.now.names (is_open tables.now) }
     ensures { OnOk result (least.new.at ≡ least_from least.old.at (rules.implements_wrong tables.now (name_of name.now) (map name_of interfaces.now))) }
 {
     note_cannot_implement(tables, least, name.name, interfaces);
-    let leaves_out = leave_out(alloc, tables, interfaces)?;
+    let leaves_out = leave_out(alloc, tables, closed, interfaces)?;
     least.note_if(leaves_out, name.at);
     Ok(())
 }
@@ -120,62 +122,4 @@ fn is_interface_kind(kind: TypeKind) -> bool
         TypeKind::Scalar | TypeKind::Object | TypeKind::Union => false,
         TypeKind::Enum | TypeKind::Input => false,
     }
-}
-
-/// Whether an interface that one of these implements is not among them.
-fn leave_out(alloc: Global, tables: &Tables, interfaces: &[NameAt<'_>]) -> Result<bool, NoMemory>
-    ensures { IfOk result (λ b. b ≡ list_any (rules.leaves_out tables.now (rules.names_of (map name_of interfaces.now))) (rules.names_of (map name_of interfaces.now))) }
-{
-    let named = seen_names(alloc, interfaces)?;
-    Ok(one_leaves_out(tables, &named, interfaces))
-}
-
-/// Whether one of these implements an interface that is not named.
-fn one_leaves_out(tables: &Tables, named: &Seen<'_>, interfaces: &[NameAt<'_>]) -> bool
-    ensures { (ns : List types.Text) → Knows named.now.names ns → result ≡ list_any (rules.leaves_out tables.now ns) (rules.names_of (map name_of interfaces.now)) }
-{
-    'interfaces: for interface in interfaces {
-        if leaves_out(tables, named, interface.name) {
-            return true;
-        }
-    }
-    false
-}
-
-/// Whether a type implements an interface that is not named.
-fn leaves_out(tables: &Tables, named: &Seen<'_>, name: &str) -> bool
-    ensures { (ns : List types.Text) → Knows named.now.names ns → result ≡ rules.leaves_out tables.now ns name.now }
-{
-    match tables.definition(name) {
-        Some(definition) => lacks_any(named, interfaces_of(definition)),
-        None => false,
-    }
-}
-
-/// The interfaces that a definition names.
-fn interfaces_of(definition: &SchemaDef) -> &[Name]
-    ensures { result.now ≡ types.interfaces_of definition.now }
-{
-    match definition {
-        SchemaDef::Object { implements, .. } => implements.as_slice(),
-        SchemaDef::Interface { implements, .. } => implements.as_slice(),
-        SchemaDef::Schema { .. } => &[],
-        SchemaDef::Scalar { .. } => &[],
-        SchemaDef::Union { .. } => &[],
-        SchemaDef::Enum { .. } => &[],
-        SchemaDef::Input { .. } => &[],
-        SchemaDef::Directive { .. } => &[],
-    }
-}
-
-/// Whether one of the names is none of the set.
-fn lacks_any(named: &Seen<'_>, names: &[Name]) -> bool
-    ensures { (ns : List types.Text) → Knows named.now.names ns → result ≡ list_any (λ one. not (has_text ns one)) names.now }
-{
-    'names: for name in names {
-        if !named.contains(name.as_str()) {
-            return true;
-        }
-    }
-    false
 }

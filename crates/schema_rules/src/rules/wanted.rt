@@ -8,9 +8,9 @@ ghost use Rattle.schema_rules.specs.Rules as rules;
 ghost use Rattle.schema_tables.specs.Places.{first_at};
 ghost use Rattle.schema_tables.specs.Types as types;
 
+use crate::rules::index::Index;
 use gql_ast::{FieldTree, SchemaDef};
 use gql_plain::NoMemory;
-use schema_tables::index::Index;
 use schema_tables::tables::Tables;
 use schema_trees::located::DefAt;
 use std::alloc::Global;

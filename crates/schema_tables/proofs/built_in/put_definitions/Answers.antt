@@ -1,8 +1,8 @@
 use Rattle.std.proofs.Common.{◌≡◌, List, [], ◌∷◌, ◌++◌, append_assoc, ◌∙◌}
 use Rattle.schema_tables.proofs.built_in.put_definitions.Goals as goal
-use Rattle.schema_tables.specs.declared.definitions.DirectiveDef.{DirectiveDef}
+use Rattle.gql_ast.specs.declared.schema.SchemaDef.{SchemaDef}
 
-two : (xs ys zs : List DirectiveDef) (a b x y : DirectiveDef) → ys ≡ xs ++ a ∷ [] → zs ≡ ys ++ b ∷ [] → a ≡ x → b ≡ y → zs ≡ xs ++ (x ∷ y ∷ [])
+two : (xs ys zs : List SchemaDef) (a b x y : SchemaDef) → ys ≡ xs ++ a ∷ [] → zs ≡ ys ++ b ∷ [] → a ≡ x → b ≡ y → zs ≡ xs ++ (x ∷ y ∷ [])
 two xs ys zs a b x y p q e f = q ∙ (λ i. p i ++ b ∷ []) ∙ append_assoc xs (a ∷ []) (b ∷ []) ∙ (λ i. xs ++ (e i ∷ f i ∷ []))
 
 pub returns : goal.returns

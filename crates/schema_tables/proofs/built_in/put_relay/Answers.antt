@@ -1,8 +1,8 @@
 use Rattle.std.proofs.Common.{◌≡◌, List, [], ◌∷◌, ◌++◌, append_assoc, ap, ◌∙◌}
 use Rattle.schema_tables.proofs.built_in.put_relay.Goals as goal
-use Rattle.schema_tables.specs.declared.definitions.DirectiveDef.{DirectiveDef}
+use Rattle.gql_ast.specs.declared.schema.SchemaDef.{SchemaDef}
 
-three : (xs ys zs ws : List DirectiveDef) (a b d x y z : DirectiveDef) → ys ≡ xs ++ a ∷ [] → zs ≡ ys ++ b ∷ [] → ws ≡ zs ++ d ∷ [] → a ≡ x → b ≡ y → d ≡ z → ws ≡ xs ++ (x ∷ y ∷ z ∷ [])
+three : (xs ys zs ws : List SchemaDef) (a b d x y z : SchemaDef) → ys ≡ xs ++ a ∷ [] → zs ≡ ys ++ b ∷ [] → ws ≡ zs ++ d ∷ [] → a ≡ x → b ≡ y → d ≡ z → ws ≡ xs ++ (x ∷ y ∷ z ∷ [])
 three xs ys zs ws a b d x y z p q r e f g =
     r ∙ ap (λ l. l ++ d ∷ []) (q ∙ ap (λ l. l ++ b ∷ []) p) ∙ append_assoc (xs ++ a ∷ []) (b ∷ []) (d ∷ []) ∙ append_assoc xs (a ∷ []) (b ∷ d ∷ [])
     ∙ (λ i. xs ++ (e i ∷ f i ∷ g i ∷ []))

@@ -1,6 +1,7 @@
-use Rattle.std.proofs.Common.{◌≡◌, drop}
+use Rattle.std.proofs.Common.{◌≡◌, None, take}
 use Rattle.schema_tables.proofs.tables.directive_among.Given as goal
-use Rattle.schema_tables.specs.BuiltIn.{directive_named}
+use Rattle.schema_tables.specs.Parts.{is_directive}
+use Rattle.schema_tables.specs.Places.{first_at}
 
-abbrev pub invariant-directives : goal.invariant-directives
-invariant-directives l = directive_named l.directives l.name ≡ directive_named (drop l.directive-index l.directives) l.name
+abbrev pub invariant-definitions : goal.invariant-definitions
+invariant-definitions l = first_at (is_directive l.name) (take l.at l.definitions) ≡ None

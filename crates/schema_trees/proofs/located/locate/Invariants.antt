@@ -5,4 +5,4 @@ use Rattle.schema_trees.specs.LocatedView.{def_of}
 use Rattle.schema_trees.proofs.located.locate.Given as goal
 
 abbrev pub invariant-definitions : goal.invariant-definitions
-invariant-definitions l = map def_of l.definitions.items ++ defs_at l.at (drop l.definition-index l.definition-items) ≡ defs_at 1 l.schema.definitions
+invariant-definitions l = map def_of l.definitions.items ++ defs_at l.at (drop l.definition-index l.schema) ≡ defs_at 1 l.schema

@@ -8,7 +8,7 @@ use Rattle.schema_rules.proofs.WantedSteps.{names, called}
 use Rattle.schema_rules.proofs.WantedPlaces.{IsPlaced, right_found}
 use Rattle.schema_tables.specs.Places.{first_at}
 use Rattle.schema_tables.specs.Types.{Text, type_named}
-use Rattle.schema_tables.specs.declared.index.Index.{Index}
+use Rattle.schema_rules.specs.declared.rules.index.Index.{Index}
 use Rattle.schema_rules.proofs.rules.fields.note_interface.Goals as goal
 
 pub note_by_name-requires-clause-distinct : goal.note_by_name-requires-clause-distinct

@@ -6,7 +6,7 @@ use Rattle.gql_ast.specs.declared.member.FieldTree.{FieldTree}
 use Rattle.schema_rules.specs.Rules.{interface_fields}
 use Rattle.schema_rules.proofs.WantedPlaces.{IsPlaced, right_found, put_right}
 use Rattle.schema_tables.specs.Types.{Text, type_named}
-use Rattle.schema_tables.specs.declared.index.Index.{Index}
+use Rattle.schema_rules.specs.declared.rules.index.Index.{Index}
 use Rattle.schema_rules.proofs.rules.wanted.put_fields.Goals as goal
 
 pub returns-in_ok-insert-in-Some : goal.returns-in_ok-insert-in-Some

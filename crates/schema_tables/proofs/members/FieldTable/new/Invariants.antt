@@ -1,12 +1,6 @@
-use Rattle.std.proofs.Common.{◌≡◌, ℕ, List, map, take}
-use Rattle.std.specs.BTreeMap.{get_by_text}
+use Rattle.std.proofs.Common.{take}
 use Rattle.schema_tables.proofs.members.FieldTable.new.Given as goal
-use Rattle.schema_tables.specs.Members.{is_field}
-use Rattle.schema_tables.specs.Places.{first_at}
-use Rattle.schema_tables.specs.Types.{field_def}
+use Rattle.schema_tables.specs.TableParts.{AreKept}
 
 abbrev pub invariant-fields : goal.invariant-fields
-invariant-fields l = record {
-  items : l.items.items ≡ map field_def (take l.at l.trees);
-  names : (n : List ℕ) → get_by_text l.names.places n ≡ first_at (is_field n) l.items.items;
-}
+invariant-fields l = AreKept (take l.field-index l.fields) l.kept.items l.arguments.items
