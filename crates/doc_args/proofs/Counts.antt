@@ -10,7 +10,7 @@ use Rattle.gql_plain.proofs.SortedTexts.{AreInOrder-sorted_texts, has_text-sorte
 use Rattle.gql_plain.specs.Order.{has_text, sorted_texts}
 use Rattle.schema_rules.specs.Rules.{names_of}
 use Rattle.schema_tables.proofs.Counting.{count_gives, differ_sorted, eq_swap, gives_by, is_not, and_left, and_right}
-use Rattle.schema_tables.specs.declared.definitions.InputDef.{InputDef}
+use Rattle.schema_tables.specs.Views.{InputDef}
 use Rattle.schema_tables.specs.Inputs.{input_among, must_be_given}
 use Rattle.schema_tables.specs.Required.{all_differ, count_among, one_if, required_name, required_names}
 use Rattle.schema_trees.specs.LocatedView.{name_of}

@@ -1,6 +1,5 @@
 pub mod Steps
 pub mod Counts
-pub mod Depths
 pub mod Members
 pub mod Gathering
 pub mod Absorbing

@@ -99,10 +99,6 @@ replaces f o (x ∷ xs) (suc i) y d h g e =
 
 -- ---- a use is put
 
--- it is put behind the others
-pub put_behind : (old new : List Use) (u : Use) → new ≡ old ++ u ∷ [] → Covers new (old ++ u ∷ [])
-put_behind old new u e = λ vs o h. sym (ap (λ (us : List Use). least_from o (each (use_wrong vs []) us)) e) ∙ h
-
 -- a use that is there stands before it
 pub put_later : (all : List code.Use) (one : code.Use) (at : ℕ) → HasNeed all one at → (get_or all at one).name.at ≤ one.name.at → Covers (map use_of all) (map use_of all ++ use_of one ∷ [])
 put_later all one at s h = λ vs o e.

@@ -1,11 +1,9 @@
 -- Steps of loops over lists, and parts of the rules.
 use Rattle.std.proofs.Common.{◌≡◌, ℕ, suc, ◌+◌, ◌<◌, Bool, true, false, not, cond, ◌&&◌, ◌||◌, List, [], ◌∷◌, ◌++◌, map, drop, length, get_or, add-one, Option, Some, option_map, bytes_eq, refl, ap, sym, ◌∙◌}
 use Rattle.std.proofs.Math.Seq.{drop-cons}
-use Rattle.std.proofs.lemmas.List.{append-nil, length-map, map-append}
-use Rattle.std.specs.Prelude.{codes}
-use Rattle.std.specs.List.{list_any}
+use Rattle.std.proofs.lemmas.List.{append-nil, length-map}
 use Rattle.gql_plain.specs.Order.{has_text}
-use Rattle.schema_types.specs.ArgumentRules.{Use, free, unknown, not_taken, argument_unfit, argument_names, input_def_named, is_allowed, is_given, is_null, local_names, locals_in, names_once, stands_once, use_wrong, uses_of, uses_wrong_in, variable_named}
+use Rattle.schema_types.specs.ArgumentRules.{Use, free, unknown, not_taken, argument_unfit, is_allowed, is_given, is_null, local_names, names_once, stands_once, use_wrong, uses_of, uses_wrong_in, variable_named}
 use Rattle.schema_tables.specs.BuiltIn as known
 use Rattle.gql_graph.specs.Leasts.{least_from}
 use Rattle.schema_trees.specs.Located.{Located}
@@ -14,12 +12,10 @@ use Rattle.gql_graph.specs.Reached.{any_leads}
 use Rattle.schema_rules.specs.Rules.{each, wrong, names_of}
 use Rattle.schema_types.specs.Sites.{ArgumentAt, DirectiveAt, FragmentAt, OperationAt, VariableAt, DefinitionAt, operation, fragment}
 use Rattle.schema_tables.specs.Types.{Text, Defs}
-use Rattle.schema_tables.specs.declared.definitions.InputDef.{InputDef}
 use Rattle.gql_graph.proofs.LeastSteps.{noted-append, each-append}
 use Rattle.doc_args.specs.Directives.{once_name}
 use Rattle.doc_args.specs.UsesByName.{named_in, named_uses, uses_named}
 use Rattle.doc_args.specs.GivenNames.{given_names}
-use Rattle.doc_args.specs.Locals.{located_locals}
 use Rattle.doc_args.specs.Parts.{fragment_name, free_use, free_uses, part_for, part_wrong}
 
 -- what is noted for one that is wrong in the same case
@@ -60,17 +56,6 @@ unknown_taken ns = each_none (not_taken unknown) (λ n. refl) ns
 
 pub free_fit : (defs : Defs) (xs : List ArgumentAt) → each (argument_unfit defs free) xs ≡ []
 free_fit defs xs = each_none (argument_unfit defs free) (λ a. refl) xs
-
--- an element that passes, and one that does not
-pub any_here : {X : Type 0} (p : X → Bool) (xs : List X) (i : ℕ) (x : X) → i < length xs → x ≡ get_or xs i x → p x ≡ true → list_any p (drop i xs) ≡ true
-any_here {X = X} p xs i x h is e =
-    let same : drop i xs ≡ get_or xs i x ∷ drop (i + 1) xs = rw add-one (drop-cons xs i x h) in
-    ap (list_any p) same ∙ ap (λ (b : Bool). b || list_any p (drop (i + 1) xs)) (ap p (sym is) ∙ e)
-
-pub any_next : {X : Type 0} (p : X → Bool) (xs : List X) (i : ℕ) (x : X) → i < length xs → x ≡ get_or xs i x → p x ≡ false → list_any p (drop i xs) ≡ list_any p (drop (i + 1) xs)
-any_next {X = X} p xs i x h is e =
-    let same : drop i xs ≡ get_or xs i x ∷ drop (i + 1) xs = rw add-one (drop-cons xs i x h) in
-    ap (list_any p) same ∙ ap (λ (b : Bool). b || list_any p (drop (i + 1) xs)) (ap p (sym is) ∙ e)
 
 drop_and : (c r : Bool) → r ≡ ((c && false) || r)
 drop_and true r = refl
@@ -115,19 +100,6 @@ as_many (fragment f ∷ ds) = ap suc (as_many ds)
 pub count_names : {X : Type 0} (view : X → Text) (xs : List X) (ds : List DefinitionAt) → map view xs ≡ each fragment_name ds → length xs ≡ length (fragments ds)
 count_names view xs ds e = sym (length-map xs view) ∙ ap length e ∙ as_many ds
 
-locals_if : (b : Bool) (ns : List Located) → names_of (cond b ns []) ≡ cond b (names_of_all ns) []
-locals_if true ns = refl
-locals_if false ns = refl
-
--- the names of local variables
-pub locals_names : (ds : List DirectiveAt) → names_of (each located_locals ds) ≡ each locals_in ds
-locals_names [] = refl
-locals_names (d ∷ ds) =
-    map-append (λ (n : Located). n.name) (located_locals d) (each located_locals ds)
-    ∙ (λ k. locals_if (bytes_eq d.name.name (codes "argumentDefinitions")) (argument_names d.arguments) k ++ locals_names ds k)
-
-pub ruleset local_naming = (locals_names)
-
 free_if : (vs : List VariableAt) (b : Bool) (u : Use)
     → wrong (not b && not (is_allowed (variable_named vs u.name.name) u.place)) u.name.at ≡ each (use_wrong vs []) (cond b [] (u ∷ []))
 free_if vs true u = refl
@@ -155,15 +127,7 @@ pub parts_wrong : (defs : Defs) (fs : List FragmentAt) (o : OperationAt) (is_one
 parts_wrong defs fs o is_one h [] = refl
 parts_wrong defs fs o is_one h (g ∷ gs) = λ k. part_is defs fs o is_one h g k ++ parts_wrong defs fs o is_one h gs k
 
--- one more argument or variable is put in front of those that are found by their names
-pub input_next : (is : List InputDef) (i : ℕ) (x : InputDef) (n : Text) (old new : Option InputDef) → i < length is → x ≡ get_or is i x
-    → old ≡ input_def_named (drop (i + 1) is) n → new ≡ cond (bytes_eq x.name n) (Some x) old → new ≡ input_def_named (drop i is) n
-input_next is i x n old new h is_x e put =
-    let same : drop i is ≡ get_or is i x ∷ drop (i + 1) is = rw add-one (drop-cons is i x h) in
-    put ∙ ap (λ (o : Option InputDef). cond (bytes_eq x.name n) (Some x) o) e
-    ∙ ap (λ (y : InputDef). cond (bytes_eq y.name n) (Some y) (input_def_named (drop (i + 1) is) n)) is_x
-    ∙ sym (ap (λ (ys : List InputDef). input_def_named ys n) same)
-
+-- one more variable is put in front of those that are found by their names
 pub variable_next : {X : Type 0} (view : X → VariableAt) (vs : List X) (i : ℕ) (x : X) (n : Text) (old new : Option VariableAt) → i < length vs → x ≡ get_or vs i x
     → old ≡ variable_named (map view (drop (i + 1) vs)) n → new ≡ cond (bytes_eq (view x).name.name n) (Some (view x)) old → new ≡ variable_named (map view (drop i vs)) n
 variable_next {X = X} view vs i x n old new h is_x e put =

@@ -12,7 +12,7 @@ use Rattle.doc_args.specs.declared.call.Takes.TheVariants as T
 use Rattle.doc_args.specs.declared.call.Call.{Call}
 
 abbrev pub takes_of : Takes → spec.Takes
-takes_of (T.Inputs is) = inputs is.now
+takes_of (T.Inputs is) = inputs is
 takes_of T.Nothing = inputs []
 takes_of T.Free = free
 takes_of T.Unknown = unknown

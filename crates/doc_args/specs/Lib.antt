@@ -4,7 +4,6 @@ pub mod GivenNames
 pub mod Literals
 pub mod Directives
 pub mod UseView
-pub mod Locals
 pub mod Parts
 pub mod UsesByName
 pub mod Needs

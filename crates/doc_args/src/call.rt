@@ -11,10 +11,10 @@ use schema_trees::located::NameAt;
 use schema_types::{InputDef, InputDefs, Schema};
 
 /// The arguments that a field or a directive takes.
-#[derive(Clone, Copy)]
+#[derive(Drop)]
 pub(crate) enum Takes<'a> {
     /// These.
-    Inputs(&'a InputDefs),
+    Inputs(InputDefs<'a>),
     /// None.
     Nothing,
     /// Any.
@@ -24,7 +24,7 @@ pub(crate) enum Takes<'a> {
 }
 
 /// A field or a directive with its arguments.
-#[derive(Clone, Copy)]
+#[derive(Drop)]
 pub(crate) struct Call<'d, 'a> {
     pub(crate) name: NameAt<'a>,
     pub(crate) takes: Takes<'a>,
@@ -32,14 +32,14 @@ pub(crate) struct Call<'d, 'a> {
 }
 
 /// The argument of a name among those that are taken; takes no memory.
-pub(crate) fn find_input<'a>(inputs: &'a InputDefs, name: &str) -> Option<&'a InputDef>
-    ensures { option_copied result ≡ rules.input_def_named inputs.now name.now }
+pub(crate) fn find_input<'a>(inputs: &InputDefs<'a>, name: &str) -> Option<InputDef<'a>>
+    ensures { result ≡ rules.input_def_named inputs.now name.now }
 {
     inputs.find(name)
 }
 
 /// Whether an argument of a name is among those that are taken.
-pub(crate) fn has_input(inputs: &InputDefs, name: &str) -> bool
+pub(crate) fn has_input(inputs: &InputDefs<'_>, name: &str) -> bool
     ensures { result ≡ is_some (rules.input_def_named inputs.now name.now) }
 {
     find_input(inputs, name).is_some()
@@ -63,7 +63,7 @@ fn takes_on<'a>(schema: &'a Schema, of: &str, name: &str) -> Takes<'a>
         return Takes::Nothing;
     }
     match schema.field(of, name) {
-        Some(field) => Takes::Inputs(&field.arguments),
+        Some(field) => Takes::Inputs(field.arguments()),
         None => Takes::Unknown,
     }
 }
@@ -83,7 +83,7 @@ fn directive_takes<'a>(schema: &'a Schema, name: &str) -> Takes<'a>
         return Takes::Free;
     }
     match schema.directive(name) {
-        Some(directive) => Takes::Inputs(&directive.arguments),
+        Some(directive) => Takes::Inputs(directive.arguments()),
         None => Takes::Unknown,
     }
 }

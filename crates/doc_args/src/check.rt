@@ -10,12 +10,12 @@ use crate::rules::directives::directives_wrong;
 use crate::rules::literals::literals_unfit;
 use crate::rules::required::arguments_missing;
 use crate::rules::variables::variables_wrong;
-use doc_sites::{DefinitionAt, definitions_at, fault_at};
+use doc_sites::{DefinitionAt, definitions_at};
 use gql_ast::Documents;
 use gql_graph::first::First;
 use gql_graph::least::Least;
 use gql_plain::NoMemory;
-use schema_types::{Rule, RuleFault, Schema};
+use schema_types::{NodeFault, Rule, RuleFault, Schema};
 use std::alloc::Global;
 
 /// Checks the rules on arguments, directives and variables (GraphQL, October 2021, sections 5.4, 5.6,
@@ -30,7 +30,7 @@ use std::alloc::Global;
 ///
 /// # Errors
 ///
-/// The first of these rules that the documents do not meet, at its least place; `NoMemory`.
+/// The first of these rules that the documents do not meet, at its least node; `NoMemory`.
 pub fn check_args(alloc: Global, schema: &Schema, documents: &Documents) -> Result<(), RuleFault>
     ensures met { OnOk result (Meet argument_rules schema.now documents.now) }
     ensures fault { IfErr result (AreFaulty argument_rules schema.now documents.now) }
@@ -43,7 +43,7 @@ pub fn check_args(alloc: Global, schema: &Schema, documents: &Documents) -> Resu
 ///
 /// # Errors
 ///
-/// The first of these rules that the documents do not meet, at its least place; `NoMemory`.
+/// The first of these rules that the documents do not meet, at its least node; `NoMemory`.
 pub fn check_args_of<'a>(
     alloc: Global,
     schema: &'a Schema,
@@ -56,7 +56,7 @@ pub fn check_args_of<'a>(
 {
     let found = first_broken(alloc, schema, definitions)?;
     match found {
-        Some((rule, node)) => Err(RuleFault::Rule(fault_at(documents, node, rule))),
+        Some((rule, node)) => Err(RuleFault::Rule(NodeFault { rule, node })),
         None => Ok(()),
     }
 }

@@ -12,11 +12,10 @@ ghost use Rattle.doc_args.specs.UsesByName.{Gathers, named_in, uses_named};
 ghost use Rattle.doc_args.specs.Parts.{fragment_name, free_use, free_uses, part_for, part_of};
 ghost use Rattle.doc_args.specs.UseView.{use_of};
 
-use crate::locals::locals_in;
 use crate::needs::Needs;
 use crate::uses::{Use, uses_of};
 use crate::uses_by_name::{Part, UsesByName};
-use doc_sites::{DefinitionAt, FragmentAt, spread_graph};
+use doc_sites::{DefinitionAt, FragmentAt, locals_in, spread_graph};
 use gql_graph::graph::Graph;
 use gql_graph::seen::Seen;
 use gql_plain::NoMemory;

@@ -7,7 +7,6 @@ mod calls;
 mod check;
 mod fragments;
 mod index;
-mod locals;
 mod needs;
 mod order;
 mod rules;

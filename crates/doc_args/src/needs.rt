@@ -1,11 +1,9 @@
 //! What fragments need of the operations that reach them: the variables used in a fragment and in all
 //! that it reaches, without local ones. Of uses of one variable at places of one type the first counts.
 ghost use Rattle.std.specs.Prelude.{◌≡◌, ◌<◌, ◌++◌, ◌∷◌, [], true, List, None, map, length, option_map, IfOk, IfSome, IsTrue, OnOk};
-ghost use Rattle.gql_ast.specs.TypeView.{ty_of};
 ghost use Rattle.gql_plain.specs.Order.{has_text};
 ghost use Rattle.schema_types.specs.ArgumentRules as rules;
 ghost use Rattle.gql_graph.specs.Graphs.{Tells};
-ghost use Rattle.schema_rules.specs.Rules.{same_type};
 ghost use Rattle.gql_graph.specs.Texts.{Text};
 ghost use Rattle.doc_args.specs.UsesByName.{Gathers};
 ghost use Rattle.doc_args.specs.Needs.{Covers, CoversKnown, HasNeed, IsSameNeed, SumsUp, uses_needed};
@@ -14,9 +12,9 @@ ghost use Rattle.doc_args.specs.UseView.{place_of, use_of};
 use crate::order::order_of;
 use crate::uses::{Place, Use};
 use crate::uses_by_name::UsesByName;
-use gql_ast::TypeTree;
 use gql_graph::graph::Graph;
 use gql_plain::NoMemory;
+use schema_rules::same_type;
 use std::alloc::Global;
 use std::collections::BTreeMap;
 
@@ -189,28 +187,5 @@ fn is_same_place(one: &Option<Place<'_>>, other: &Option<Place<'_>>) -> bool
             None => false,
         },
         None => other.is_none(),
-    }
-}
-
-/// Whether two types are the same.
-fn same_type(one: &TypeTree, other: &TypeTree) -> bool
-    ensures { result ≡ same_type (ty_of one.now) (ty_of other.now) }
-{
-    match one {
-        TypeTree::Named(a) => match other {
-            TypeTree::Named(b) => a.as_str() == b.as_str(),
-            TypeTree::List(_) => false,
-            TypeTree::NonNull(_) => false,
-        },
-        TypeTree::List(a) => match other {
-            TypeTree::Named(_) => false,
-            TypeTree::List(b) => same_type(a.tree(), b.tree()),
-            TypeTree::NonNull(_) => false,
-        },
-        TypeTree::NonNull(a) => match other {
-            TypeTree::Named(_) => false,
-            TypeTree::List(_) => false,
-            TypeTree::NonNull(b) => same_type(a.tree(), b.tree()),
-        },
     }
 }

@@ -67,13 +67,13 @@ fn field_place<'a>(schema: &'a Schema, of: Option<&'a str>, name: &str) -> Optio
 }
 
 /// The place of an argument or an input field.
-fn place_of_found<'a>(input: Option<&'a InputDef>) -> Option<Place<'a>>
-    ensures { option_map place_of result ≡ rules.place_for (option_copied input.entry) }
+fn place_of_found<'a>(input: Option<InputDef<'a>>) -> Option<Place<'a>>
+    ensures { option_map place_of result ≡ rules.place_for input.entry }
 {
     match input {
         Some(input) => Some(Place {
-            of: &input.of,
-            has_default: input.default.is_some(),
+            of: input.of(),
+            has_default: input.default().is_some(),
         }),
         None => None,
     }
@@ -182,7 +182,7 @@ fn put_unknown<'a>(
 fn put_known<'a>(
     schema: &'a Schema,
     uses: &mut Vec<Use<'a>>,
-    inputs: &'a InputDefs,
+    inputs: &InputDefs<'a>,
     arguments: &[ArgumentAt<'a>],
 ) -> Result<(), NoMemory>
     ensures { OnOk result (map use_of uses.new.items ≡ map use_of uses.old.items ++ each (rules.uses_of_argument schema.now (rules.inputs inputs.now)) (map argument_of arguments.now)) }
@@ -202,7 +202,7 @@ fn put_call<'a>(
 ) -> Result<(), NoMemory>
     ensures { OnOk result (map use_of uses.new.items ≡ map use_of uses.old.items ++ rules.uses_of_call schema.now (call_of call.now)) }
 {
-    match call.takes {
+    match &call.takes {
         Takes::Inputs(inputs) => put_known(schema, uses, inputs, call.arguments),
         Takes::Nothing => put_unknown(schema, uses, call.arguments),
         Takes::Free => put_unknown(schema, uses, call.arguments),

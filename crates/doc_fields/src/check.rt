@@ -10,12 +10,12 @@ use crate::rules::floats::floats_selected;
 use crate::rules::sets::sets_wrong;
 use crate::rules::subscriptions::subscriptions_wrong;
 use crate::rules::undefined::fields_undefined;
-use doc_sites::{DefinitionAt, definitions_at, fault_at};
+use doc_sites::{DefinitionAt, definitions_at};
 use gql_ast::Documents;
 use gql_graph::first::First;
 use gql_graph::least::Least;
 use gql_plain::NoMemory;
-use schema_types::{Rule, RuleFault, Schema};
+use schema_types::{NodeFault, Rule, RuleFault, Schema};
 use std::alloc::Global;
 
 /// Checks the rules on fields. Sections are those of GraphQL, October 2021.
@@ -34,7 +34,7 @@ use std::alloc::Global;
 ///
 /// # Errors
 ///
-/// The first of these rules that the documents do not meet, at its first place in their order;
+/// The first of these rules that the documents do not meet, at its least node in their order;
 /// `NoMemory`.
 pub fn check_fields(alloc: Global, schema: &Schema, documents: &Documents) -> Result<(), RuleFault>
     ensures met { OnOk result (Meet field_rules schema.now documents.now) }
@@ -48,7 +48,7 @@ pub fn check_fields(alloc: Global, schema: &Schema, documents: &Documents) -> Re
 ///
 /// # Errors
 ///
-/// The first of these rules that the documents do not meet, at its first place in their order;
+/// The first of these rules that the documents do not meet, at its least node in their order;
 /// `NoMemory`.
 pub fn check_fields_of(
     alloc: Global,
@@ -62,7 +62,7 @@ pub fn check_fields_of(
 {
     let found = first_broken(alloc, schema, definitions)?;
     match found {
-        Some((rule, node)) => Err(RuleFault::Rule(fault_at(documents, node, rule))),
+        Some((rule, node)) => Err(RuleFault::Rule(NodeFault { rule, node })),
         None => Ok(()),
     }
 }

@@ -11,12 +11,12 @@ use crate::rules::fragments::fragments_not_unique;
 use crate::rules::operations::operations_not_named;
 use crate::rules::roots::roots_missing;
 use crate::rules::spreads::fragments_not_there;
-use doc_sites::{DefinitionAt, definitions_at, fault_at};
+use doc_sites::{DefinitionAt, definitions_at};
 use gql_ast::Documents;
 use gql_graph::first::First;
 use gql_graph::least::Least;
 use gql_plain::NoMemory;
-use schema_types::{Rule, RuleFault, Schema};
+use schema_types::{NodeFault, Rule, RuleFault, Schema};
 use std::alloc::Global;
 
 /// Checks the names of operations and fragments (GraphQL, October 2021). In the order of the rules:
@@ -27,7 +27,7 @@ use std::alloc::Global;
 ///
 /// # Errors
 ///
-/// The first of these rules that the documents do not meet, at its least place; `NoMemory`.
+/// The first of these rules that the documents do not meet, at its least node; `NoMemory`.
 pub fn check_names(alloc: Global, schema: &Schema, documents: &Documents) -> Result<(), RuleFault>
     ensures met { OnOk result (Meet name_rules schema.now documents.now) }
     ensures fault { IfErr result (AreFaulty name_rules schema.now documents.now) }
@@ -40,7 +40,7 @@ pub fn check_names(alloc: Global, schema: &Schema, documents: &Documents) -> Res
 ///
 /// # Errors
 ///
-/// The first of these rules that the documents do not meet, at its least place; `NoMemory`.
+/// The first of these rules that the documents do not meet, at its least node; `NoMemory`.
 pub fn check_names_of(
     alloc: Global,
     schema: &Schema,
@@ -53,7 +53,7 @@ pub fn check_names_of(
 {
     let found = first_broken(alloc, schema, definitions)?;
     match found {
-        Some((rule, node)) => Err(RuleFault::Rule(fault_at(documents, node, rule))),
+        Some((rule, node)) => Err(RuleFault::Rule(NodeFault { rule, node })),
         None => Ok(()),
     }
 }

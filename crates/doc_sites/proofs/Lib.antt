@@ -1,4 +1,4 @@
 pub mod SiteSteps
 pub mod ListSteps
-pub mod PlaceSteps
 pub mod DefinitionSteps
+pub mod LocalNames

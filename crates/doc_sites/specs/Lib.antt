@@ -1,3 +1,4 @@
 pub mod SitesView
 pub mod Firsts
 pub mod Definitions
+pub mod Locals

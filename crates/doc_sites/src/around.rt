@@ -27,7 +27,7 @@ pub fn below_on<'a>(schema: &'a Schema, of: &str, name: &str) -> Option<&'a str>
         return typename_on(schema, of);
     }
     match schema.field(of, name) {
-        Some(field) => Some(base_of(&field.of)),
+        Some(field) => Some(base_of(field.of())),
         None => None,
     }
 }

@@ -8,15 +8,15 @@
 mod among;
 pub mod around;
 mod defining;
+mod locals;
 mod parts;
-mod places;
 mod selecting;
 pub mod site;
 mod spreads;
 
 pub use among::{fragments, operations};
 pub use defining::definitions_at;
-pub use places::fault_at;
+pub use locals::locals_in;
 pub use site::{
     ArgumentAt, DefinitionAt, DirectiveAt, FragmentAt, OperationAt, Site, ValueAt, VariableAt,
 };

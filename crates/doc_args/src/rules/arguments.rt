@@ -109,7 +109,7 @@ fn note_all(least: &mut Least, names: &[NameAt<'_>])
 }
 
 /// Names of arguments that are none of these.
-fn note_not_among(least: &mut Least, inputs: &InputDefs, names: &[NameAt<'_>])
+fn note_not_among(least: &mut Least, inputs: &InputDefs<'_>, names: &[NameAt<'_>])
     ensures { least.new.at ≡ least_from least.old.at (each (rules.not_taken (rules.inputs inputs.now)) (map name_of names.now)) }
 {
     'names: for name in names {

@@ -163,7 +163,7 @@ fn may_stand(schema: &Schema, location: Location, name: &str) -> bool
     ensures { result ≡ rules.may_stand location (known.directive schema.now name.now) }
 {
     match schema.directive(name) {
-        Some(directive) => has_location(&directive.locations, location),
+        Some(directive) => has_location(directive.locations(), location),
         None => false,
     }
 }
@@ -242,7 +242,7 @@ fn stands_once(schema: &Schema, name: &str) -> bool
     ensures { result ≡ rules.stands_once (known.directive schema.now name.now) }
 {
     match schema.directive(name) {
-        Some(directive) => !directive.repeatable,
+        Some(directive) => !directive.is_repeatable(),
         None => false,
     }
 }

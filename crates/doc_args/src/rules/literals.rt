@@ -170,7 +170,7 @@ fn note_unfit_for(
     alloc: Global,
     schema: &Schema,
     least: &mut Least,
-    inputs: &InputDefs,
+    inputs: &InputDefs<'_>,
     arguments: &[ArgumentAt<'_>],
 ) -> Result<(), NoMemory>
     ensures { OnOk result (least.new.at ≡ least_from least.old.at (each (rules.argument_unfit schema.now (rules.inputs inputs.now)) (map argument_of arguments.now))) }
@@ -202,13 +202,13 @@ fn note_repeating(
 fn is_good_for(
     alloc: Global,
     schema: &Schema,
-    input: Option<&InputDef>,
+    input: Option<InputDef<'_>>,
     value: &ValueTree,
 ) -> Result<bool, NoMemory>
-    ensures { IfOk result (λ b. b ≡ rules.is_good_for schema.now (option_copied input.entry) (tree.value_of value.now)) }
+    ensures { IfOk result (λ b. b ≡ rules.is_good_for schema.now input.entry (tree.value_of value.now)) }
 {
     match input {
-        Some(input) => is_good_value(alloc, schema, &input.of, value),
+        Some(input) => is_good_value(alloc, schema, input.of(), value),
         None => names_differ(alloc, value),
     }
 }

@@ -84,7 +84,7 @@ fn is_incomplete(
 /// Whether one of these is left out: fewer names are those of required ones than have to be given.
 fn leaves_out_any(
     alloc: Global,
-    inputs: &InputDefs,
+    inputs: &InputDefs<'_>,
     arguments: &[ArgumentAt<'_>],
 ) -> Result<bool, NoMemory>
     ensures { IfOk result (λ b. b ≡ list_any (rules.leaves_out (map argument_of arguments.now)) inputs.now) }
@@ -99,7 +99,7 @@ fn leaves_out_any(
 /// once.
 fn count_required(
     alloc: Global,
-    inputs: &InputDefs,
+    inputs: &InputDefs<'_>,
     names: &[NameAt<'_>],
 ) -> Result<usize, NoMemory>
     ensures { IfOk result (λ count. count ≡ count_new (required_names inputs.now) [] (names_of (map name_of names.now))) }
@@ -116,7 +116,7 @@ fn count_required(
 }
 
 /// Whether a name is new, and that of an argument that has to be given.
-fn is_counted(inputs: &InputDefs, is_new: bool, name: &str) -> bool
+fn is_counted(inputs: &InputDefs<'_>, is_new: bool, name: &str) -> bool
     ensures { result ≡ (is_new && has_text (required_names inputs.now) name.now) }
 {
     is_new && inputs.needs(name)

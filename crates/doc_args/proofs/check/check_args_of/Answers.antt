@@ -6,12 +6,7 @@ use Rattle.schema_types.specs.Sites.{DefinitionAt}
 use Rattle.doc_args.proofs.check.check_args_of.Goals as goal
 
 pub returns-in-Some-clause-fault : goal.returns-in-Some-clause-fault
-returns-in-Some-clause-fault c = record {
-  rule = c.in-Some.rule;
-  node = c.in-Some.node;
-  first = sym (ap (λ (ds : List DefinitionAt). first_broken (argument_rules c.args.schema.now ds)) c.requires) ∙ sym c.in_ok-found.ensures ∙ c.in-Some.is;
-  fault = c.fault_at.ensures;
-}
+returns-in-Some-clause-fault c = sym (ap (λ (ds : List DefinitionAt). first_broken (argument_rules c.args.schema.now ds)) c.requires) ∙ sym c.in_ok-found.ensures ∙ c.in-Some.is
 
 pub returns-in-None-clause-met : goal.returns-in-None-clause-met
 returns-in-None-clause-met c = sym (ap (λ (ds : List DefinitionAt). first_broken (argument_rules c.args.schema.now ds)) c.requires) ∙ sym c.in_ok-found.ensures ∙ c.in-None.is

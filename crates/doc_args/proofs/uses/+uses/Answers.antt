@@ -2,7 +2,7 @@
 use Rattle.std.proofs.Common.{◌≤◌, arith}
 use Rattle.gql_ast.specs.Value.{val_depth, vals_of, vals_depth, members_of, members_depth}
 use Rattle.gql_ast.specs.ValueView.{value_of}
-use Rattle.doc_args.proofs.Depths.{value_below, member_below}
+use Rattle.schema_trees.proofs.LocatedSteps.{value_below, member_below}
 use Rattle.doc_args.proofs.uses.+uses.Goals as goal
 
 pub put_member_uses-put_uses-requires : goal.put_member_uses-put_uses-requires

@@ -2,7 +2,7 @@
 use Rattle.std.proofs.Common.{Option, ap, ◌∙◌, arith}
 use Rattle.gql_ast.specs.ValueView.{value_of}
 use Rattle.schema_types.specs.ArgumentRules as rules
-use Rattle.schema_tables.specs.declared.definitions.InputDef.{InputDef}
+use Rattle.schema_tables.specs.Views.{InputDef}
 use Rattle.doc_sites.specs.SitesView.{argument_of}
 use Rattle.gql_graph.proofs.LeastSteps.{each_next}
 use Rattle.doc_args.proofs.Steps.{noted_if_not}

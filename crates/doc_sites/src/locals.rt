@@ -5,9 +5,9 @@ ghost use Rattle.schema_trees.specs.LocatedView.{name_of};
 ghost use Rattle.gql_graph.specs.Rules.{each};
 ghost use Rattle.gql_graph.specs.Seen.{Knows};
 ghost use Rattle.doc_sites.specs.SitesView.{argument_of, directive_of};
-ghost use Rattle.doc_args.specs.Locals.{located_locals};
+ghost use Rattle.doc_sites.specs.Locals.{located_locals};
 
-use doc_sites::{ArgumentAt, DirectiveAt};
+use crate::site::{ArgumentAt, DirectiveAt};
 use gql_graph::seen::Seen;
 use gql_plain::NoMemory;
 use schema_trees::located::NameAt;
@@ -47,11 +47,8 @@ fn locals_of<'a>(alloc: Global, directives: &[DirectiveAt<'a>]) -> Result<Vec<Na
 
 /// The set of the local variables that directives define: the names of the arguments of
 /// `@argumentDefinitions`.
-#[tactic(auto, using(crate::proofs::Steps::local_naming))]
-pub(crate) fn locals_in<'a>(
-    alloc: Global,
-    directives: &[DirectiveAt<'a>],
-) -> Result<Seen<'a>, NoMemory>
+#[tactic(auto, using(crate::proofs::LocalNames::naming))]
+pub fn locals_in<'a>(alloc: Global, directives: &[DirectiveAt<'a>]) -> Result<Seen<'a>, NoMemory>
     ensures { IfOk result (λ seen. Knows seen.names (each rules.locals_in (map directive_of directives.now))) }
 {
     let names = locals_of(alloc, directives)?;

@@ -3,8 +3,8 @@ use Rattle.std.proofs.Common.{◌≡◌, ◌++◌, map, drop}
 use Rattle.gql_graph.specs.Rules.{each}
 use Rattle.schema_trees.specs.LocatedView.{name_of}
 use Rattle.doc_sites.specs.SitesView.{directive_of}
-use Rattle.doc_args.specs.Locals.{located_locals}
-use Rattle.doc_args.proofs.locals.locals_of.Given as goal
+use Rattle.doc_sites.specs.Locals.{located_locals}
+use Rattle.doc_sites.proofs.locals.locals_of.Given as goal
 
 abbrev pub invariant-directives : goal.invariant-directives
 invariant-directives l =

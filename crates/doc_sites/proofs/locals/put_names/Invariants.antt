@@ -3,7 +3,7 @@ use Rattle.std.proofs.Common.{◌≡◌, ◌++◌, map, drop}
 use Rattle.schema_types.specs.ArgumentRules as rules
 use Rattle.schema_trees.specs.LocatedView.{name_of}
 use Rattle.doc_sites.specs.SitesView.{argument_of}
-use Rattle.doc_args.proofs.locals.put_names.Given as goal
+use Rattle.doc_sites.proofs.locals.put_names.Given as goal
 
 abbrev pub invariant-arguments : goal.invariant-arguments
 invariant-arguments l =
