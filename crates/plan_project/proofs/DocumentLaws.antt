@@ -11,7 +11,7 @@ use Rattle.plan_project.proofs.Codes.{parse_fault_coded}
 use Rattle.plan_project.specs.Projects.{AreDocuments, IsDocumentsFault}
 use Rattle.plan_project.specs.Verdicts.{Files, texts_of, AreOnlyDocuments, AreNoDocuments}
 use Rattle.gql_graph.specs.Texts.{Text}
-use Rattle.schema_rules.specs.declared.fault.ProjectFault.{ProjectFault}
+use Rattle.plan_project.specs.declared.fault.ProjectFault.{ProjectFault}
 
 -- what an answer is, where it is the one of a tree
 pub only_of : {A E : Type 0} (P : A → Type 0) (r : Result A E) (x : A) (e : E) → ((p : A) → P p → (r ≡ Err e) ⊎ (r ≡ Ok p)) → r ≡ Ok x → (p : A) → P p → p ≡ x

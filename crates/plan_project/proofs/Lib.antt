@@ -1,4 +1,6 @@
 pub mod Codes
+pub mod PlaceSteps
+pub mod PlaceCounts
 pub mod DocumentLaws
 pub mod ProjectLaws
 pub mod RuleLaws

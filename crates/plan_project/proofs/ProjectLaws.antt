@@ -1,9 +1,10 @@
 -- Files are one project at most, or have one fault at most, and not both.
-use Rattle.std.proofs.Common.{◌≡◌, ◌⊎◌, ◌==◌, ℕ, suc, cond, List, [], ◌∷◌, Result, Ok, Err, sym, ap, subst, inl, inr, ◌∙◌}
+use Rattle.std.proofs.Common.{◌≡◌, ◌⊎◌, ◌==◌, ℕ, suc, cond, List, [], ◌∷◌, Option, Some, None, Result, Ok, Err, sym, ap, subst, inl, inr, ◌∙◌}
 use Rattle.gql_ast.specs.declared.document.Document.{Document}
 use Rattle.gql_ast.specs.declared.fault.ParseFault.{ParseFault}
 use Rattle.gql_ast.specs.declared.fault.ParseFault.TheVariants.{Syntax, NoMemory as NoRoom}
 use Rattle.gql_ast.specs.declared.fault.SyntaxFault.{SyntaxFault}
+use Rattle.gql_ast.specs.declared.place.FilePlace.{FilePlace}
 use Rattle.gql_ast.specs.declared.place.Placed.{Placed}
 use Rattle.gql_ast.specs.declared.schema.SchemaTree.{SchemaTree}
 use Rattle.gql_parse.specs.Documents.{documents, nodes_of}
@@ -14,14 +15,15 @@ use Rattle.gql_syntax.proofs.OneFault.{no_parse_fault, one_parse_fault}
 use Rattle.gql_syntax.specs.FirstFault.{Grammar}
 use Rattle.gql_syntax.specs.Texts.{IsParseFault}
 use Rattle.plan_project.proofs.DocumentLaws.{only_of}
-use Rattle.plan_project.specs.Projects.{AreDocuments, AreTrees, IsAcceptedProject, document_rules, syntax_rule, IsSyntaxOf, IsDocumentsFault, IsTextFault}
+use Rattle.plan_project.specs.Faults.{place_at, fault_at, IsFound}
+use Rattle.plan_project.specs.Projects.{AreDocuments, AreTrees, IsAcceptedProject, document_rules, syntax_rule, IsSyntaxOf, IsDocumentsFault, IsTextFault, Breaks, Break}
 use Rattle.plan_project.specs.Verdicts.{IsTheProject, IsTheFault, IsRefusal, Files, texts_of, AreTheProject, HaveTheFault, AreOnlyDocuments, AreNoDocuments, IsFaultOf}
 use Rattle.plan_project.specs.declared.compiling.CompileFault.{CompileFault}
 use Rattle.plan_project.specs.declared.compiling.CompileFault.TheVariants.{Refused, NoMemory}
-use Rattle.schema_rules.specs.Checked.{IsSound, Breaks, node_place, fault_at}
-use Rattle.schema_types.specs.DocumentRules.{Meet, BreakRule, places_of}
+use Rattle.schema_rules.specs.Checked.{IsSound}
+use Rattle.schema_types.specs.DocumentRules.{Meet}
 use Rattle.schema_tables.specs.Types.{Text, Defs}
-use Rattle.schema_rules.specs.declared.fault.ProjectFault.{ProjectFault}
+use Rattle.plan_project.specs.declared.fault.ProjectFault.{ProjectFault}
 use Rattle.schema_rules.specs.declared.fault.Rule.{Rule}
 use Rattle.schema_rules.specs.declared.fault.Rule.TheVariants as R
 
@@ -85,6 +87,21 @@ no_trees schema texts tree ps f t x = elim x [
   | inl a ↦ schema_or_fault 0 schema tree a.0 t.schema_is a.1
   | inr a ↦ no_documents 1 texts ps f t.documents_are a.2
 ]
+
+-- ---- faults of rules
+
+one_found : (found : Option (Rule × ℕ)) (places : List FilePlace) (f h : ProjectFault) → IsFound found places f → IsFound found places h → f ≡ h
+one_found found places f h x y =
+    let first : Some (x.rule, x.node) ≡ Some (y.rule, y.node) = sym x.first ∙ y.first in
+    let e : ◌≡◌ {A = Rule × ℕ} (x.rule, x.node) (y.rule, y.node) = cc first in
+    let rules : x.rule ≡ y.rule = ap (λ (k : Rule × ℕ). k.0) e in
+    let nodes : x.node ≡ y.node = ap (λ (k : Rule × ℕ). k.1) e in
+    let there : Some x.at.place ≡ Some y.at.place = sym x.at.there ∙ ap (place_at places) nodes ∙ y.at.there in
+    let same : x.at.place ≡ y.at.place = cc there in
+    x.at.fault ∙ ap (fault_at x.at.place) rules ∙ ap (λ (p : FilePlace). fault_at p y.rule) same ∙ sym y.at.fault
+
+none_found : (found : Option (Rule × ℕ)) (places : List FilePlace) (f : ProjectFault) → found ≡ None → IsFound found places f → ⊥
+none_found found places f none x = let e = sym none ∙ x.first in cc
 
 -- ---- what is found
 
@@ -153,29 +170,25 @@ module _ (schema : Text) (texts : List Text) (tree : Placed SchemaTree) (ps : Li
       subst (λ (x : Placed SchemaTree). Meet document_rules x.tree.definitions ps) (t.only_schema q a.schema_is)
       (subst (λ xs. Meet document_rules q.tree.definitions xs) (t.only_documents qs a.documents_are) h)
 
-  rule_here : (q : Placed SchemaTree) (qs : List (Placed Document)) (f : ProjectFault) → AreTrees schema texts q qs → BreakRule document_rules q.tree.definitions qs f
-      → BreakRule document_rules defs ps f
+  rule_here : (q : Placed SchemaTree) (qs : List (Placed Document)) (f : ProjectFault) → AreTrees schema texts q qs → Break q.tree.definitions qs f
+      → Break defs ps f
   rule_here q qs f a h =
-      subst (λ (x : Placed SchemaTree). BreakRule document_rules x.tree.definitions ps f) (t.only_schema q a.schema_is)
-      (subst (λ xs. BreakRule document_rules q.tree.definitions xs f) (t.only_documents qs a.documents_are) h)
+      subst (λ (x : Placed SchemaTree). Break x.tree.definitions ps f) (t.only_schema q a.schema_is)
+      (subst (λ xs. Break q.tree.definitions xs f) (t.only_documents qs a.documents_are) h)
 
   -- ---- one verdict at most
 
   no_break : (f : ProjectFault) → IsSound defs → Breaks tree f → ⊥
-  no_break f s b = let e = sym s ∙ b.first in cc
+  no_break f s b = none_found _ tree.places f s b
 
   one_break : (f h : ProjectFault) → Breaks tree f → Breaks tree h → f ≡ h
-  one_break f h x y =
-      let e : (x.rule, x.node) ≡ (y.rule, y.node) = cc (x.first, y.first) in
-      x.fault ∙ ap (λ (k : Rule × ℕ). fault_at (node_place tree.places k.1) k.0) e ∙ sym y.fault
+  one_break f h x y = one_found _ tree.places f h x y
 
-  no_rule : (f : ProjectFault) → Meet document_rules defs ps → BreakRule document_rules defs ps f → ⊥
-  no_rule f m b = let e = sym m ∙ b.first in cc
+  no_rule : (f : ProjectFault) → Meet document_rules defs ps → Break defs ps f → ⊥
+  no_rule f m b = none_found _ _ f m b
 
-  one_rule : (f h : ProjectFault) → BreakRule document_rules defs ps f → BreakRule document_rules defs ps h → f ≡ h
-  one_rule f h x y =
-      let e : (x.rule, x.node) ≡ (y.rule, y.node) = cc (x.first, y.first) in
-      x.fault ∙ ap (λ (k : Rule × ℕ). fault_at (node_place (places_of ps) k.1) k.0) e ∙ sym y.fault
+  one_rule : (f h : ProjectFault) → Break defs ps f → Break defs ps h → f ≡ h
+  one_rule f h x y = one_found _ _ f h x y
 
   -- the schema breaks a rule
   pub found_in_schema : (f : ProjectFault) → Breaks tree f → IsTheFault schema texts f
@@ -191,7 +204,7 @@ module _ (schema : Text) (texts : List Text) (tree : Placed SchemaTree) (ps : Li
     none = λ own qs k. no_break f (sound_here k.tree qs k.trees (subst IsSound k.says k.sound)) breaks;
   }
 
-  found_in_documents : (f : ProjectFault) → IsSound defs → BreakRule document_rules defs ps f → IsTheFault schema texts f
+  found_in_documents : (f : ProjectFault) → IsSound defs → Break defs ps f → IsTheFault schema texts f
   found_in_documents f sound breaks = record {
     is = inr (inr (record { tree = tree; ps = ps; trees = t.trees; sound = sound; breaks = breaks }));
     only = λ other x. elim x [
@@ -205,8 +218,8 @@ module _ (schema : Text) (texts : List Text) (tree : Placed SchemaTree) (ps : Li
   }
 
   -- the documents break a rule, by the definitions that are kept
-  pub found_in_rules : (own : Defs) (f : ProjectFault) → own ≡ defs → IsSound own → BreakRule document_rules own ps f → IsTheFault schema texts f
-  found_in_rules own f same sound breaks = found_in_documents f (subst IsSound same sound) (subst (λ d. BreakRule document_rules d ps f) same breaks)
+  pub found_in_rules : (own : Defs) (f : ProjectFault) → own ≡ defs → IsSound own → Break own ps f → IsTheFault schema texts f
+  found_in_rules own f same sound breaks = found_in_documents f (subst IsSound same sound) (subst (λ d. Break d ps f) same breaks)
 
   -- all rules hold
   pub found_project : (own : Defs) → own ≡ defs → IsSound own → Meet document_rules own ps → IsTheProject schema texts own ps

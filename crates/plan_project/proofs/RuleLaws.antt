@@ -7,7 +7,7 @@ use Rattle.gql_graph.proofs.LeastSteps.{first_before, first_after}
 use Rattle.schema_types.specs.DocumentRules.{Rules, name_rules, field_rules, argument_rules, trees_of, Meet, BreakRule, AreFaulty}
 use Rattle.schema_types.specs.Sites.{DefinitionAt, all_definitions}
 use Rattle.schema_tables.specs.Types.{Defs}
-use Rattle.schema_rules.specs.declared.fault.ProjectFault.{ProjectFault}
+use Rattle.schema_rules.specs.declared.fault.NodeFault.{NodeFault}
 use Rattle.schema_rules.specs.declared.fault.RuleFault.{RuleFault}
 use Rattle.schema_rules.specs.declared.fault.RuleFault.TheVariants as F
 
@@ -19,29 +19,14 @@ module _ (defs : Defs) (ps : List (Placed Document)) where
   abbrev later : Rules
   later = field_rules defs ds ++ argument_rules defs ds
 
-  names_broken : (f : ProjectFault) → BreakRule name_rules defs ps f → BreakRule document_rules defs ps f
-  names_broken f b = record {
-    rule = b.rule;
-    node = b.node;
-    first = first_before (name_rules defs ds) later (b.rule, b.node) b.first;
-    fault = b.fault;
-  }
+  names_broken : (f : NodeFault) → BreakRule name_rules defs ps f → BreakRule document_rules defs ps f
+  names_broken f b = first_before (name_rules defs ds) later (f.rule, f.node) b
 
-  fields_broken : (f : ProjectFault) → Meet name_rules defs ps → BreakRule field_rules defs ps f → BreakRule document_rules defs ps f
-  fields_broken f names b = record {
-    rule = b.rule;
-    node = b.node;
-    first = first_after (name_rules defs ds) later names ∙ first_before (field_rules defs ds) (argument_rules defs ds) (b.rule, b.node) b.first;
-    fault = b.fault;
-  }
+  fields_broken : (f : NodeFault) → Meet name_rules defs ps → BreakRule field_rules defs ps f → BreakRule document_rules defs ps f
+  fields_broken f names b = first_after (name_rules defs ds) later names ∙ first_before (field_rules defs ds) (argument_rules defs ds) (f.rule, f.node) b
 
-  arguments_broken : (f : ProjectFault) → Meet name_rules defs ps → Meet field_rules defs ps → BreakRule argument_rules defs ps f → BreakRule document_rules defs ps f
-  arguments_broken f names fields b = record {
-    rule = b.rule;
-    node = b.node;
-    first = first_after (name_rules defs ds) later names ∙ first_after (field_rules defs ds) (argument_rules defs ds) fields ∙ b.first;
-    fault = b.fault;
-  }
+  arguments_broken : (f : NodeFault) → Meet name_rules defs ps → Meet field_rules defs ps → BreakRule argument_rules defs ps f → BreakRule document_rules defs ps f
+  arguments_broken f names fields b = first_after (name_rules defs ds) later names ∙ first_after (field_rules defs ds) (argument_rules defs ds) fields ∙ b
 
   pub names_faulty : (e : RuleFault) → AreFaulty name_rules defs ps e → AreFaulty document_rules defs ps e
   names_faulty F.NoMemory h = tt

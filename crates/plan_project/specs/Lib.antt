@@ -1,3 +1,4 @@
+pub mod Faults
 pub mod Projects
 pub mod Verdicts
 pub mod Lookups

@@ -11,11 +11,13 @@ use Rattle.gql_parse.specs.Trees.{IsDocument}
 use Rattle.gql_sdl.specs.Schemas.{schemas}
 use Rattle.gql_sdl.specs.Trees.{IsSchema}
 use Rattle.gql_syntax.specs.Texts.{IsParseFault}
-use Rattle.schema_rules.specs.Checked.{IsSound, Breaks}
-use Rattle.schema_types.specs.DocumentRules.{Rules, name_rules, field_rules, argument_rules, Meet, BreakRule}
-use Rattle.schema_types.specs.Sites.{DefinitionAt}
+use Rattle.gql_graph.specs.Rules.{first_broken}
+use Rattle.plan_project.specs.Faults.{IsFound}
+use Rattle.plan_project.specs.declared.fault.ProjectFault.{ProjectFault}
+use Rattle.schema_rules.specs.Checked.{IsSound, first_fault}
+use Rattle.schema_types.specs.DocumentRules.{Rules, name_rules, field_rules, argument_rules, trees_of, places_of, Meet}
+use Rattle.schema_types.specs.Sites.{DefinitionAt, all_definitions}
 use Rattle.schema_tables.specs.Types.{Text, Defs}
-use Rattle.schema_rules.specs.declared.fault.ProjectFault.{ProjectFault}
 use Rattle.schema_rules.specs.declared.fault.Rule.{Rule}
 use Rattle.schema_rules.specs.declared.fault.Rule.TheVariants as R
 
@@ -83,6 +85,14 @@ IsTextFault schema texts f =
     ((s : SyntaxFault) × IsParseFault schemas 0 schema (Syntax s) × IsSyntaxOf s f)
     ⊎ ((p : Placed SchemaTree) × IsSchema 0 schema p × IsDocumentsFault 1 texts f)
 
+-- the schema breaks a rule: the first of them, at the place of the least of its nodes
+abbrev pub Breaks : Placed SchemaTree → ProjectFault → Type 0
+Breaks tree f = IsFound (first_fault tree.tree.definitions) tree.places f
+
+-- the documents break a rule, likewise
+abbrev pub Break : Defs → List (Placed Document) → ProjectFault → Type 0
+Break defs ps f = IsFound (first_broken (document_rules defs (all_definitions defs (trees_of ps)))) (places_of ps) f
+
 -- all are read, and the schema breaks a rule
 pub record IsSchemaFault (schema : Text) (texts : List Text) (f : ProjectFault) : Type 0 where
   pub tree : Placed SchemaTree
@@ -96,7 +106,7 @@ pub record IsDocumentFault (schema : Text) (texts : List Text) (f : ProjectFault
   pub ps : List (Placed Document)
   pub trees : AreTrees schema texts tree ps
   pub sound : IsSound tree.tree.definitions
-  pub breaks : BreakRule document_rules tree.tree.definitions ps f
+  pub breaks : Break tree.tree.definitions ps f
 
 abbrev pub IsFirstFault : (schema : Text) → List Text → ProjectFault → Type 0
 IsFirstFault schema texts f = IsTextFault schema texts f ⊎ (IsSchemaFault schema texts f ⊎ IsDocumentFault schema texts f)

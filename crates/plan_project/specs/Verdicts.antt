@@ -7,8 +7,8 @@ use Rattle.gql_ast.specs.declared.place.Placed.{Placed}
 use Rattle.plan_project.specs.Projects.{AreDocuments, IsAccepted, IsSyntaxOf, IsDocumentsFault, IsFirstFault}
 use Rattle.plan_project.specs.declared.compiling.CompileFault.{CompileFault}
 use Rattle.plan_project.specs.declared.compiling.CompileFault.TheVariants.{Refused, NoMemory}
+use Rattle.plan_project.specs.declared.fault.ProjectFault.{ProjectFault}
 use Rattle.schema_tables.specs.Types.{Text, Defs}
-use Rattle.schema_rules.specs.declared.fault.ProjectFault.{ProjectFault}
 
 -- the texts are this project and no other, and have no fault
 pub record IsTheProject (schema : Text) (texts : List Text) (defs : Defs) (ps : List (Placed Document)) : Type 0 where

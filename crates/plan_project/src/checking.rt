@@ -15,7 +15,7 @@ use std::alloc::Global;
 ///
 /// # Errors
 ///
-/// The first rule that they do not meet, at its least place; `NoMemory`.
+/// The first rule that they do not meet, at its least node; `NoMemory`.
 pub(crate) fn check_documents(
     alloc: Global,
     schema: &Schema,

@@ -3,12 +3,14 @@ ghost use Rattle.std.specs.Prelude.{◌≤◌, ◌<◌, ◌^◌, ◌-◌, length
 ghost use Rattle.plan_project.specs.Verdicts.{AreTheProject, HaveTheFault, IsTheProject, IsRefusal, texts_of};
 
 use crate::checking::check_documents;
+use crate::fault::ProjectFault;
 use crate::file::ProjectFile;
 use crate::parsing::{fault_of, parse_documents};
+use crate::places::{documents_fault, schema_fault};
 use crate::project::Project;
 use gql_plain::NoMemory;
 use gql_sdl::parse_schema;
-use schema_types::{ProjectFault, RuleFault, Schema};
+use schema_types::{RuleFault, Schema};
 use std::alloc::Global;
 
 /// Why there is no project.
@@ -54,9 +56,12 @@ fn compile_files(
         Ok(trees) => trees,
         Err(fault) => return Err(fault_of(fault)),
     };
-    let schema = match Schema::build(alloc, &tree) {
+    let places = tree.places;
+    let schema = match Schema::build(alloc, tree.tree.definitions) {
         Ok(schema) => schema,
-        Err(RuleFault::Rule(fault)) => return Err(CompileFault::Refused(fault)),
+        Err(RuleFault::Rule(fault)) => {
+            return Err(CompileFault::Refused(schema_fault(&places, fault)));
+        }
         Err(RuleFault::NoMemory) => return Err(CompileFault::NoMemory),
     };
     match check_documents(alloc, &schema, &trees) {
@@ -64,7 +69,7 @@ fn compile_files(
             Ok(project) => Ok(project),
             Err(NoMemory) => Err(CompileFault::NoMemory),
         },
-        Err(RuleFault::Rule(fault)) => Err(CompileFault::Refused(fault)),
+        Err(RuleFault::Rule(fault)) => Err(CompileFault::Refused(documents_fault(&trees, fault))),
         Err(RuleFault::NoMemory) => Err(CompileFault::NoMemory),
     }
 }

@@ -4,13 +4,16 @@
 
 mod checking;
 mod compiling;
+pub mod fault;
 pub mod file;
 mod listing;
 pub mod operations;
 mod parsing;
+mod places;
 pub mod project;
 
 pub use compiling::{CompileFault, compile};
+pub use fault::ProjectFault;
 pub use file::ProjectFile;
 pub use operations::{Compiled, CompiledFragment};
 pub use project::Project;

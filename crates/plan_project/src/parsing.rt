@@ -4,10 +4,11 @@ ghost use Rattle.plan_project.specs.Projects.{syntax_rule};
 ghost use Rattle.plan_project.specs.Verdicts.{AreOnlyDocuments, AreNoDocuments, IsCoded, IsFaultOf, texts_of};
 
 use crate::compiling::CompileFault;
+use crate::fault::ProjectFault;
 use crate::file::ProjectFile;
 use gql_ast::{Documents, ParseFault, SyntaxFault};
 use gql_parse::parse_document;
-use schema_types::{ProjectFault, Rule};
+use schema_types::Rule;
 use std::alloc::Global;
 
 /// The trees of documents, which are numbered from 1.

@@ -16,7 +16,7 @@ use Rattle.relay_run.specs.Words.{Form, run}
 use Rattle.relay_run.specs.declared.files.Closed.{Closed}
 use Rattle.relay_run.specs.declared.files.Closed.TheVariants as C
 use Rattle.relay_run.specs.declared.interim.project.ProjectRefusal.TheVariants.{Fault, NotTaken}
-use Rattle.schema_rules.specs.declared.fault.ProjectFault.{ProjectFault}
+use Rattle.plan_project.specs.declared.fault.ProjectFault.{ProjectFault}
 
 -- ---- one file
 

@@ -7,7 +7,7 @@ use Rattle.relay_model.specs.Machine.{Project}
 use Rattle.relay_run.specs.Projects.{IsPlainProject, IsNotTaken}
 use Rattle.relay_run.specs.Rules.{rule_text}
 use Rattle.relay_run.specs.Words.{Form, run, file_names}
-use Rattle.schema_rules.specs.declared.fault.ProjectFault.{ProjectFault}
+use Rattle.plan_project.specs.declared.fault.ProjectFault.{ProjectFault}
 
 abbrev pub Files : Type 0
 Files = List (Text × Text)

@@ -17,8 +17,8 @@ use Rattle.relay_run.specs.Plain.{plain, is_object_type, is_leaf_type, not_taken
 use Rattle.schema_tables.specs.Fits.{is_non_null}
 use Rattle.schema_rules.specs.Rules.{is_object}
 use Rattle.schema_tables.specs.Types.{Defs, field_on}
-use Rattle.schema_tables.specs.declared.definitions.FieldDef.{FieldDef}
-use Rattle.schema_tables.specs.declared.definitions.InputDef.{InputDef}
+use Rattle.schema_tables.specs.Views.{FieldDef}
+use Rattle.schema_tables.specs.Views.{InputDef}
 
 abbrev pub is_named_object : Defs → Ty → Bool
 is_named_object defs (ty.named n) = is_object defs n

@@ -11,9 +11,8 @@ ghost use Rattle.relay_run.specs.Words.{max_documents, run};
 
 use crate::interim::project::{Project, ProjectRefusal, read_project};
 use gql_plain::{NoMemory, Words};
-use plan_project::ProjectFile;
+use plan_project::{ProjectFault, ProjectFile};
 use relay_io::{Vault, VaultFault};
-use schema_types::ProjectFault;
 use std::alloc::Global;
 
 /// The most bytes that a file holds: 4 MiB.

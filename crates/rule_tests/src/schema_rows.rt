@@ -104,6 +104,18 @@ ok interface N { a(x: Int): Int } type Query implements N { a(y: Int, x: Int, z:
 }
 
 #[test]
+fn interfaces_of_towers_are_met(rt: HostRuntime) -> Result<(), Fail> {
+    let rows =
+        "ok interface A { a: Int } interface B implements A { a: Int } interface C implements A & B { a: Int } interface D implements A & B & C { a: Int } interface E implements A & B & C & D { a: Int } interface F implements A & B & C & D & E { a: Int } interface G implements A & B & C & D & E & F { a: Int } interface H implements A & B & C & D & E & F & G { a: Int } interface I implements A & B & C & D & E & F & G & H { a: Int } interface J implements A & B & C & D & E & F & G & H & I { a: Int } interface K implements A & B & C & D & E & F & G & H & I & J { a: Int } type Query implements A & B & C & D & E & F & G & H & I & J & K { a: Int }
+ok type Query implements K & J & I & H & G & F & E & D & C & B & A { a: Int } interface K implements A & B & C & D & E & F & G & H & I & J { a: Int } interface J implements A & B & C & D & E & F & G & H & I { a: Int } interface I implements A & B & C & D & E & F & G & H { a: Int } interface H implements A & B & C & D & E & F & G { a: Int } interface G implements A & B & C & D & E & F { a: Int } interface F implements A & B & C & D & E { a: Int } interface E implements A & B & C & D { a: Int } interface D implements A & B & C { a: Int } interface C implements A & B { a: Int } interface B implements A { a: Int } interface A { a: Int }
+S7 interface A { a: Int } interface B implements A { a: Int } interface C implements A & B { a: Int } interface D implements A & B & C { a: Int } interface E implements A & B & C & D { a: Int } interface F implements A & B & C & D & E { a: Int } interface G implements A & B & C & D & E & F { a: Int } interface H implements A & B & C & D & E & F & G { a: Int } interface I implements A & B & C & D & E & F & G & H { a: Int } interface J implements A & B & C & D & E & F & G & H & I { a: Int } interface K implements A & B & C & D & E & F & G & H & I & J { a: Int } type ^Query implements A & B & D & E & F & G & H & I & J & K { a: Int }
+S7 interface A { a: Int } interface B implements A { a: Int } interface C implements A & B { a: Int } interface D implements A & B & C { a: Int } interface E implements A & B & C & D { a: Int } interface F implements A & B & C & D & E { a: Int } interface G implements A & B & C & D & E & F { a: Int } interface H implements A & B & C & D & E & F & G { a: Int } interface I implements A & B & C & D & E & F & G & H { a: Int } interface J implements A & B & C & D & E & F & G & H & I { a: Int } interface ^K implements A & C & D & E & F & G & H & I & J { a: Int } type Query implements A & B & C & D & E & F & G & H & I & J & K { a: Int }
+S7 type ^Query implements K & A & C & D & E & F & G & H & I & J { a: Int } interface A { a: Int } interface B implements A { a: Int } interface C implements A & B { a: Int } interface D implements A & B & C { a: Int } interface E implements A & B & C & D { a: Int } interface F implements A & B & C & D & E { a: Int } interface G implements A & B & C & D & E & F { a: Int } interface H implements A & B & C & D & E & F & G { a: Int } interface I implements A & B & C & D & E & F & G & H { a: Int } interface J implements A & B & C & D & E & F & G & H & I { a: Int } interface K implements A & C & D & E & F & G & H & I & J { a: Int }";
+    compare(&rt, rt.alloc(), rows)?;
+    Ok(())
+}
+
+#[test]
 fn unions_inputs_and_defaults(rt: HostRuntime) -> Result<(), Fail> {
     let rows = "S9 type Query { a: Int } type ^T
 S9 interface ^N type Query { a: Int }

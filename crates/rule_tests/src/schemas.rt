@@ -1,10 +1,11 @@
 //! What a schema says of its types. That each rule on schemas and each look-up of a rule is kept is
 //! shown over whole projects.
 use crate::texts::{schema, short, text_of_fault};
-use gql_ast::Kind;
+use gql_ast::{FilePlaces, Kind};
 use gql_plain::Ids;
 use gql_sdl::parse_schema;
-use schema_types::{RuleFault, Schema, TypeKind};
+use plan_project::ProjectFault;
+use schema_types::{NodeFault, RuleFault, Schema, TypeKind};
 use std::alloc::Global;
 use std::test::Fail;
 
@@ -28,7 +29,9 @@ fn types_are_found(rt: HostRuntime) -> Result<(), Fail> {
 #[test]
 fn members_are_found(rt: HostRuntime) -> Result<(), Fail> {
     let schema = schema(rt.alloc(), SCHEMA)?;
-    assert!(rt; matches!(schema.field("Query", "me"), Some(field) if field.name.as_str() == "me"));
+    assert!(rt;
+        matches!(schema.field("Query", "me"), Some(field) if field.name().as_str() == "me")
+    );
     assert!(rt; schema.field("Query", "id").is_none());
     assert!(rt; matches!(schema.inputs("Filter"), Some(inputs) if inputs.items().len() == 1));
     assert!(rt; schema.inputs("Tag").is_none());
@@ -63,12 +66,29 @@ fn possible_types_are_sorted(rt: HostRuntime) -> Result<(), Fail> {
     Ok(())
 }
 
+/// The rule of a fault, with the place of its node.
+fn text_at(alloc: Global, places: &FilePlaces, fault: &NodeFault) -> Result<String, Fail> {
+    match places.as_slice().get(fault.node) {
+        Some(place) => text_of_fault(
+            alloc,
+            &ProjectFault {
+                file: place.file,
+                line: place.line,
+                column: place.column,
+                rule: fault.rule,
+            },
+        ),
+        None => Ok(format!(in alloc; "no node")?),
+    }
+}
+
 /// The fault of a text as the file with this number; nothing where the schema meets all rules.
 pub(crate) fn fault_of(alloc: Global, file: u32, text: &str) -> Result<String, Fail> {
     let tree = parse_schema(alloc, file, short(text.as_bytes()))?;
-    match Schema::build(alloc, &tree) {
+    let places = tree.places;
+    match Schema::build(alloc, tree.tree.definitions) {
         Ok(_) => Ok(String::new(alloc)),
-        Err(RuleFault::Rule(fault)) => text_of_fault(alloc, &fault),
+        Err(RuleFault::Rule(fault)) => text_at(alloc, &places, &fault),
         Err(RuleFault::NoMemory) => Ok(format!(in alloc; "no memory")?),
     }
 }

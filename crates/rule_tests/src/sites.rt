@@ -1,9 +1,8 @@
 //! What stands in documents, with the type around it and the numbers of its nodes.
 use crate::texts::{documents, schema};
-use doc_sites::{ArgumentAt, DirectiveAt, Site, definitions_at, fault_at};
+use doc_sites::{ArgumentAt, DirectiveAt, Site, definitions_at};
 use gql_plain::NoMemory;
 use schema_trees::located::NameAt;
-use schema_types::Rule;
 use std::alloc::Global;
 use std::test::Fail;
 
@@ -106,15 +105,5 @@ fn sites_have_types_and_numbers(rt: HostRuntime) -> Result<(), Fail> {
         Query: ...F 21\n\
         User: 0 __typename 28 0 0 false\n";
     assert_eq!(rt; text.as_str(), expected);
-    Ok(())
-}
-
-#[test]
-fn places_go_through_the_documents(rt: HostRuntime) -> Result<(), Fail> {
-    let documents = documents(rt.alloc(), DOCUMENTS)?;
-    assert_eq!(rt; fault_at(&documents, 21, Rule::V1).file, 1);
-    assert_eq!(rt; fault_at(&documents, 22, Rule::V1).file, 2);
-    assert_eq!(rt; fault_at(&documents, 28, Rule::V1).column, 22);
-    assert_eq!(rt; fault_at(&documents, 1000, Rule::V1).column, 1);
     Ok(())
 }

@@ -6,8 +6,8 @@ use gql_parse::parse_document;
 use gql_plain::Words;
 use gql_sdl::parse_schema;
 use gql_syntax::{Cursor, NESTING_LIMIT, read_type, read_value};
-use plan_project::ProjectFile;
-use schema_types::{ProjectFault, Schema};
+use plan_project::{ProjectFault, ProjectFile};
+use schema_types::Schema;
 use std::alloc::Global;
 use std::test::Fail;
 
@@ -24,7 +24,7 @@ pub(crate) fn short(bytes: &[u8]) -> &[u8]
 /// The schema of a text that meets all rules.
 pub(crate) fn schema(alloc: Global, text: &str) -> Result<Schema, Fail> {
     let tree = parse_schema(alloc, 0, short(text.as_bytes()))?;
-    Ok(Schema::build(alloc, &tree)?)
+    Ok(Schema::build(alloc, tree.tree.definitions)?)
 }
 
 /// The documents of texts between `;`, as files from 1 on.

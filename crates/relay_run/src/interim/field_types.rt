@@ -12,7 +12,7 @@ pub fn type_of<'a>(schema: &'a Schema, of: &str, name: &str) -> &'a str
     ensures { result.now ≡ model.type_of schema.now of.now name.now }
 {
     match schema.field(of, name) {
-        Some(field) => base_of(&field.of),
+        Some(field) => base_of(field.of()),
         None => "",
     }
 }

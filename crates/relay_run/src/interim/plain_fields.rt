@@ -14,6 +14,7 @@ ghost use Rattle.schema_tables.specs.Types.{field_on};
 use crate::interim::field_types::type_of;
 use gql_ast::{Arguments, Directives, Selection, Selections, TypeTree};
 use gql_plain::{Name, NoMemory};
+use schema_tables::definitions::is_required;
 use schema_tables::type_forms::base_of;
 use schema_types::{InputDefs, Schema, TypeKind};
 use std::alloc::Global;
@@ -56,11 +57,11 @@ fn is_leaf_type(schema: &Schema, of: &TypeTree) -> bool
 }
 
 /// Whether no argument has to be given.
-fn needs_none(arguments: &InputDefs) -> bool
+fn needs_none(arguments: &InputDefs<'_>) -> bool
     ensures { result ≡ parts.none_is_needed arguments.now }
 {
     'arguments: for argument in arguments.items() {
-        if argument.is_required() {
+        if is_required(argument) {
             return false;
         }
     }
@@ -84,7 +85,7 @@ fn is_plain_field(schema: &Schema, of: &str, name: &str, has_set: bool) -> bool
     ensures { result ≡ plain.is_plain_field schema.now (field_on schema.now of.now name.now) has_set }
 {
     match schema.field(of, name) {
-        Some(field) => suits(schema, &field.of, has_set) && needs_none(&field.arguments),
+        Some(field) => suits(schema, field.of(), has_set) && needs_none(&field.arguments()),
         None => false,
     }
 }

@@ -7,8 +7,8 @@ ghost use Rattle.relay_run.specs.Words.{max_documents};
 use crate::interim::operations::Operations;
 use crate::interim::plain::{PlainFault, plain_operations};
 use gql_plain::NoMemory;
-use plan_project::{CompileFault, ProjectFile, compile};
-use schema_types::{ProjectFault, Schema};
+use plan_project::{CompileFault, ProjectFault, ProjectFile, compile};
+use schema_types::Schema;
 use std::alloc::Global;
 
 /// An accepted project: its schema, and its operations by their names, in order.

@@ -1,14 +1,17 @@
-use Rattle.std.proofs.Common.{List, subst, sym}
+use Rattle.std.proofs.Common.{List, ◌<◌, length, subst, sym}
 use Rattle.gql_ast.specs.declared.document.Document.{Document}
 use Rattle.gql_ast.specs.declared.place.Placed.{Placed}
 use Rattle.gql_sdl.specs.Schemas.{schemas}
 use Rattle.plan_project.proofs.Codes.{parse_fault_coded}
+use Rattle.plan_project.proofs.PlaceCounts.{schema_fault_placed, documents_fault_placed}
 use Rattle.plan_project.proofs.ProjectLaws.{schema_refused, documents_refused, only_trees, found_in_schema, found_in_rules, found_project, accepted_project}
 use Rattle.plan_project.proofs.compiling.compile_files.Goals as goal
+use Rattle.plan_project.specs.Faults.{IsAt}
 use Rattle.plan_project.specs.Projects.{document_rules}
-use Rattle.plan_project.specs.Verdicts.{IsTheProject, IsTheFault, texts_of}
-use Rattle.schema_rules.specs.Checked.{Breaks, IsRuleFault}
-use Rattle.schema_types.specs.DocumentRules.{AreFaulty, BreakRule}
+use Rattle.plan_project.specs.Verdicts.{IsTheProject, texts_of}
+use Rattle.schema_rules.specs.Checked.{IsRuleFault}
+use Rattle.schema_rules.specs.declared.fault.NodeFault.{NodeFault}
+use Rattle.schema_types.specs.DocumentRules.{AreFaulty, BreakRule, places_of}
 use Rattle.schema_tables.specs.Types.{Defs}
 
 pub fault_of-requires : goal.fault_of-requires
@@ -23,13 +26,20 @@ returns-in-Err-parse_documents-clause-fault c =
     documents_refused c.as_bytes.result.now c.args.schema.now.1 (texts_of c.args.documents.now) c.in-Ok.tree c.in-Err-parse_documents.fault c.fault_of-in-Err-parse_documents.result
     c.as_bytes.ensures.value c.in-Ok.ensures.found c.in-Err-parse_documents.ensures.fault c.fault_of-in-Err-parse_documents.ensures
 
+pub schema_fault-requires : goal.schema_fault-requires
+schema_fault-requires c =
+    subst (λ (f : NodeFault). f.node < length c.in-Ok.tree.places) (sym c.in-Err-Rule.fault-is)
+    (schema_fault_placed c.as_bytes.result.now c.in-Ok.tree c.in-Err-Rule.fault c.in-Ok.ensures.found (subst (IsRuleFault c.in-Ok.tree.tree.definitions) c.in-Err-Rule.field-0-is c.in-Err-Rule.ensures.fault))
+
 pub returns-in-Err-Rule-clause-fault : goal.returns-in-Err-Rule-clause-fault
 returns-in-Err-Rule-clause-fault c =
     let trees = only_trees c.as_bytes.result.now c.args.schema.now.1 (texts_of c.args.documents.now) c.parse_schema.result c.in-Ok.tree c.in-Ok-parse_documents.trees
     c.as_bytes.ensures.value c.in-Ok.is c.in-Ok.ensures.found c.parse_schema.ensures.only c.in-Ok-parse_documents.ensures.found in
-    let breaks : Breaks c.in-Ok.tree c.in-Err-Rule.fault = subst (IsRuleFault c.in-Ok.tree) c.in-Err-Rule.field-0-is c.in-Err-Rule.ensures.fault in
-    subst (IsTheFault c.args.schema.now.1 (texts_of c.args.documents.now)) (sym c.in-Err-Rule.fault-is)
-    (found_in_schema c.args.schema.now.1 (texts_of c.args.documents.now) c.in-Ok.tree c.in-Ok-parse_documents.trees trees c.in-Err-Rule.fault breaks)
+    let broken = subst (IsRuleFault c.in-Ok.tree.tree.definitions) c.in-Err-Rule.field-0-is c.in-Err-Rule.ensures.fault in
+    let at : IsAt c.in-Ok.tree.places c.in-Err-Rule.fault.rule c.in-Err-Rule.fault.node c.schema_fault.result =
+    subst (λ (f : NodeFault). IsAt c.in-Ok.tree.places f.rule f.node c.schema_fault.result) c.in-Err-Rule.fault-is c.schema_fault.ensures in
+    found_in_schema c.args.schema.now.1 (texts_of c.args.documents.now) c.in-Ok.tree c.in-Ok-parse_documents.trees trees c.schema_fault.result
+    (record { rule = c.in-Err-Rule.fault.rule; node = c.in-Err-Rule.fault.node; first = broken; at = at })
 
 pub new-requires : goal.new-requires
 new-requires c =
@@ -47,12 +57,21 @@ returns-in-Ok-new-clause-project c =
     (found_project c.args.schema.now.1 (texts_of c.args.documents.now) c.in-Ok.tree c.in-Ok-parse_documents.trees trees c.in-Ok-build.schema
     c.in-Ok-build.ensures.built c.in-Ok-build.ensures.sound c.in-Ok-check_documents.ensures.met)
 
+pub documents_fault-requires : goal.documents_fault-requires
+documents_fault-requires c =
+    let broken : BreakRule document_rules c.in-Ok-build.schema c.in-Ok-parse_documents.trees c.in-Err-Rule-check_documents.fault =
+    subst (AreFaulty document_rules c.in-Ok-build.schema c.in-Ok-parse_documents.trees) c.in-Err-Rule-check_documents.field-0-is c.in-Err-Rule-check_documents.ensures.fault in
+    subst (λ (f : NodeFault). f.node < length (places_of c.in-Ok-parse_documents.trees)) (sym c.in-Err-Rule-check_documents.fault-is)
+    (documents_fault_placed c.in-Ok-build.schema (texts_of c.args.documents.now) c.in-Ok-parse_documents.trees c.in-Err-Rule-check_documents.fault c.in-Ok-parse_documents.ensures.found.are broken)
+
 pub returns-in-Err-Rule-check_documents-clause-fault : goal.returns-in-Err-Rule-check_documents-clause-fault
 returns-in-Err-Rule-check_documents-clause-fault c =
     let trees = only_trees c.as_bytes.result.now c.args.schema.now.1 (texts_of c.args.documents.now) c.parse_schema.result c.in-Ok.tree c.in-Ok-parse_documents.trees
     c.as_bytes.ensures.value c.in-Ok.is c.in-Ok.ensures.found c.parse_schema.ensures.only c.in-Ok-parse_documents.ensures.found in
-    let breaks : BreakRule document_rules c.in-Ok-build.schema c.in-Ok-parse_documents.trees c.in-Err-Rule-check_documents.fault =
+    let broken : BreakRule document_rules c.in-Ok-build.schema c.in-Ok-parse_documents.trees c.in-Err-Rule-check_documents.fault =
     subst (AreFaulty document_rules c.in-Ok-build.schema c.in-Ok-parse_documents.trees) c.in-Err-Rule-check_documents.field-0-is c.in-Err-Rule-check_documents.ensures.fault in
-    subst (IsTheFault c.args.schema.now.1 (texts_of c.args.documents.now)) (sym c.in-Err-Rule-check_documents.fault-is)
-    (found_in_rules c.args.schema.now.1 (texts_of c.args.documents.now) c.in-Ok.tree c.in-Ok-parse_documents.trees trees c.in-Ok-build.schema c.in-Err-Rule-check_documents.fault
-    c.in-Ok-build.ensures.built c.in-Ok-build.ensures.sound breaks)
+    let at : IsAt (places_of c.in-Ok-parse_documents.trees) c.in-Err-Rule-check_documents.fault.rule c.in-Err-Rule-check_documents.fault.node c.documents_fault.result =
+    subst (λ (f : NodeFault). IsAt (places_of c.in-Ok-parse_documents.trees) f.rule f.node c.documents_fault.result) c.in-Err-Rule-check_documents.fault-is c.documents_fault.ensures in
+    found_in_rules c.args.schema.now.1 (texts_of c.args.documents.now) c.in-Ok.tree c.in-Ok-parse_documents.trees trees c.in-Ok-build.schema c.documents_fault.result
+    c.in-Ok-build.ensures.built c.in-Ok-build.ensures.sound
+    (record { rule = c.in-Err-Rule-check_documents.fault.rule; node = c.in-Err-Rule-check_documents.fault.node; first = broken; at = at })

@@ -7,7 +7,7 @@ use Rattle.relay_run.specs.Projects.{trees_of}
 use Rattle.relay_run.specs.Shown.{by_name}
 use Rattle.relay_run.specs.Verdicts.{AreRefusedFiles}
 use Rattle.relay_run.specs.declared.interim.project.ProjectRefusal.TheVariants.{Fault}
-use Rattle.schema_rules.specs.declared.fault.ProjectFault.{ProjectFault}
+use Rattle.plan_project.specs.declared.fault.ProjectFault.{ProjectFault}
 
 pub returns-in-Err-Refused-clause-refused : goal.returns-in-Err-Refused-clause-refused
 returns-in-Err-Refused-clause-refused c =
