@@ -1,6 +1,7 @@
 #!/bin/bash
-# Times the built program on projects of 1, 2 and 4 times 10,000 types with a script of no line: the
-# reading of the files, the rules of the schema and of the documents, and nothing else. Build it first:
+# Times the built program on projects of 1, 2 and 4 times 10,000 types, and on a tower of interfaces of
+# 1, 2 and 4 times 125,000 names, with a script of no line: the reading of the files, the rules of the
+# schema and of the documents, and nothing else. Build it first:
 # cd crates/relay_run && rt run -- run 10 data/schema.graphql data/q.graphql < stdin
 set -eu
 program=${1:-$(cd "$(dirname "$0")/../.." && pwd)/crates/relay_run/out/relay_run}
@@ -9,7 +10,7 @@ trap 'rm -rf "$folder"' EXIT
 cd "$folder"
 
 cat > measure.py <<'END'
-import os, resource, subprocess, sys, time
+import math, os, resource, subprocess, sys, time
 
 def objects(count):
     yield "type Query{me:T0 node:Node} interface Node{id:ID! name:String}\n"
@@ -40,6 +41,15 @@ def abstract(count):
     for n in range(count):
         yield f"interface F{n}{{a:Int}} type T{n} implements F{n}{{a:Int b:T{n}}} union U{n}=T{n}|T{(n + 1) % count}\n"
 
+def tower(count):
+    """So many names of interfaces: each interface implements all before it, and a type implements all."""
+    height = math.isqrt(2 * count)
+    names = [f"I{n}" for n in range(height)]
+    yield "type Query{me:T} interface I0{a:Int}\n"
+    for n in range(1, height):
+        yield f"interface I{n} implements {'&'.join(names[:n])}{{a:Int}}\n"
+    yield f"type T implements {'&'.join(names)}{{a:Int}}\n"
+
 def run(words, status):
     start = time.monotonic()
     child = subprocess.Popen(words, stdin=subprocess.DEVNULL, stdout=subprocess.DEVNULL)
@@ -48,12 +58,12 @@ def run(words, status):
     return time.monotonic() - start, usage.ru_maxrss / 1024
 
 program = sys.argv[1]
-print("project               types   MiB    ms  times the first  peak MiB")
-for name, make, document, status in [("objects", objects, "query Q{me{name next{id name}}}", 0), ("inputs in a chain", inputs, "query Q{me}", 0),
-                                     ("the last needs itself", refused, "query Q{me}", 3),
-                                     ("one field of many", lacking, "query Q{me}", 3), ("interfaces, unions", abstract, "query Q{me{a b{a}}}", 0)]:
+print("project               count   MiB    ms  times the first  peak MiB")
+for name, make, least, document, status in [("objects", objects, 10_000, "query Q{me{name next{id name}}}", 0), ("inputs in a chain", inputs, 10_000, "query Q{me}", 0),
+                                            ("the last needs itself", refused, 10_000, "query Q{me}", 3), ("one field of many", lacking, 10_000, "query Q{me}", 3),
+                                            ("interfaces, unions", abstract, 10_000, "query Q{me{a b{a}}}", 0), ("tower of interfaces", tower, 125_000, "query Q{me{a}}", 0)]:
     first = None
-    for count in [10_000, 20_000, 40_000]:
+    for count in [least, 2 * least, 4 * least]:
         with open("s.graphql", "w") as file:
             for line in make(count):
                 if file.tell() + len(line) > 2**22 - 64: break
