@@ -1,5 +1,5 @@
 -- How the machine goes on in definitions and in variables, by what lies ahead.
-use Rattle.std.proofs.Common.{◌≡◌, ℕ, Bool, true, false, cond, bytes_eq, List, [], ◌∷◌, ◌++◌, Option, Some, None, Result, Ok, Err, option_map, refl, sym, ap, subst, ◌∙◌, arith}
+use Rattle.std.proofs.Common.{◌≡◌, ◌≢◌, ℕ, Bool, true, false, cond, bytes_eq, List, [], ◌∷◌, ◌++◌, Option, Some, None, Result, Ok, Err, option_map, inl, inr, refl, sym, ap, subst, ◌∙◌, arith}
 use Rattle.std.proofs.lemmas.Slice.Eq.{bytes_eq-Decides}
 use Rattle.gql_lex.specs.Sources.{Source, ended, faulty, token}
 use Rattle.gql_lex.specs.Toks as tok
@@ -14,21 +14,22 @@ use Rattle.gql_ast.specs.declared.document.Kind.TheVariants.{Query, Mutation, Su
 use Rattle.gql_ast.specs.declared.value.ValueTree.{ValueTree}
 use Rattle.gql_ast.specs.declared.variable.VariableDef.{VariableDef}
 use Rattle.gql_parse.specs.Documents.{Written, fragment_word, spell_variables, spell_variables_part}
-use Rattle.gql_parse.specs.Going.{run_on, opening}
-use Rattle.gql_parse.specs.Machine.{Opening, Titled, VariableName, Typed, of_bare, of_operation, of_fragment, on_variable, on_operation, on_fragment, between, kinded, called, variables, dollar, variable_named, in_type, typed, in_value, fragment_begun, fragment_named, fragment_on, in_directives, advance, variables_with, with_default, other, word_of, begin_definition, fragment_name, fragment_condition}
+use Rattle.gql_parse.specs.Reads.{run_on, KindedAt, VariablesAt, behind_variables, variable_at}
+use Rattle.gql_parse.specs.Machine.{Opening, Titled, VariableName, Typed, on_variable, on_operation, State, between, kinded, called, variables, dollar, variable_named, in_type, typed, in_value, fragment_begun, fragment_named, fragment_on, in_directives, advance, variables_with, with_default, other, word_of, begin_definition, fragment_name, fragment_condition}
 use Rattle.gql_syntax.specs.Answers.{Tells, default_read, as_default}
 use Rattle.gql_syntax.specs.Machine.{further, want, outer, want_type, whole}
 use Rattle.gql_syntax.specs.Nexts.{behind, is_at, next_is, next_word, Comes, stopped_at}
 use Rattle.gql_syntax.specs.Nexts as next
 use Rattle.gql_syntax.specs.Parts.{value_read, type_read}
+use Rattle.gql_syntax.specs.Reads.{MayDefine}
 use Rattle.gql_syntax.specs.Run.{unexpected, Stopped}
 use Rattle.gql_syntax.specs.Spelling.{Mark}
 use Rattle.gql_syntax.specs.Texts.{nesting_limit}
 use Rattle.gql_syntax.specs.Words.{on_word, kind_word}
 use Rattle.gql_syntax.specs.declared.fault.Fault.{Fault}
+use Rattle.gql_syntax.proofs.Tokens.{comes_at, no_word, not_at}
 use Rattle.gql_syntax.proofs.BuiltTrees.{value_tree-value_of, type_tree-ty_of}
-use Rattle.gql_parse.proofs.Fronts.{spell_variables-push}
-use Rattle.gql_parse.proofs.Courses.{tells-moves, comes_at, comes_word, at_comes, open_paren_at, close_paren_at, dollar_at, colon_at, equals_at, takes, takes_name, refuses, alike, wants_name, wants_at, opens, opens_there, type_ok, type_err, value_ok, value_err, ok_parts}
+use Rattle.gql_parse.proofs.Courses.{tells-moves, comes_word, takes, refuses, alike, wants_name, wants_at, type_ok, type_err, value_ok, value_err, ok_parts}
 
 no_bytes : (n w : List ℕ) → (n ≡ w → ⊥) → bytes_eq n w ≡ false
 no_bytes n w h = by (bytes_eq n w) refl
@@ -37,21 +38,58 @@ no_bytes n w h = by (bytes_eq n w) refl
     by true e = absurd (h (grind (arith, bytes_eq-Decides n w)))
     by false e = e
 
+-- ---- what takes a token
+
+abbrev pub name_of : VariablesAt → List ℕ → VariableName
+name_of k n = record { opening = k.opening; before = k.before; name = n }
+
+abbrev pub typed_of : VariablesAt → List ℕ → Ty → Typed
+typed_of k n t = record { variable = name_of k n; of = t }
+
+abbrev pub variable_read : VariablesAt → VariableDef → State
+variable_read k v = variables k.opening (variables_with (typed_of k v.name (ty_of v.of)) v.default v.directives)
+
+pub variable_whole : (k : VariablesAt) (v : VariableDef) → variable_read k v ≡ variable_at k v
+variable_whole k v = ap (λ t. variables k.opening (k.before ++ record { name = v.name; of = t; default = v.default; directives = v.directives } ∷ [])) (type_tree-ty_of v.of)
+
+pub variables_close : (o : Opening) (vs : List VariableDef) → vs ≢ [] → advance nesting_limit (variables o vs) tok.close_paren ≡ Ok (behind_variables o vs)
+variables_close o [] h = absurd (h refl)
+variables_close o (v ∷ vs) h = refl
+
+pub kind_begins : (ws : List Written) (n : List ℕ) (k : Kind) → n ≡ kind_word k → advance nesting_limit (between ws) (tok.name n) ≡ Ok (kinded ws k)
+kind_begins ws n k e = ap (λ m. begin_definition ws (word_of m)) e ∙ known k
+  where
+    known : (k : Kind) → begin_definition ws (word_of (kind_word k)) ≡ Ok (kinded ws k)
+    known Query = refl
+    known Mutation = refl
+    known Subscription = refl
+
+pub fragment_begins : (ws : List Written) (n : List ℕ) → bytes_eq n fragment_word ≡ true → advance nesting_limit (between ws) (tok.name n) ≡ Ok (fragment_begun ws)
+fragment_begins ws n e = rw e refl
+
+abbrev pub kinded_of : Kind → List Written → KindedAt
+kinded_of kind ws = record { before = ws; kind = kind }
+
+abbrev pub opening_of : Kind → Option (List ℕ) → List Written → Opening
+opening_of kind n ws = record { before = ws; kind = kind; name = n }
+
+abbrev pub titled_of : (name on : List ℕ) → List Written → Titled
+titled_of n o ws = record { before = ws; name = n; on = o }
+
+-- where the text ends, nothing has been read
+pub none_before : (ws : List Written) (src : Source) → MayDefine ws src → src ≡ ended → ws ≡ []
+none_before ws src (inl e) z = e
+none_before ws src (inr n) z = absurd (n z)
+
 module _ (size : ℕ) where
   -- ---- variables
 
   pub called_ends : (o : Opening) (src : Source) → next_is 40 src ≡ false → run_on size (called o) src ≡ run_on size (in_directives (further false [] (on_operation o []))) src
-  called_ends o src e = alike size _ _ src refl (λ t c. on t (comes_at 40 false src t e c))
+  called_ends o src e = alike size _ _ src refl (λ t c. on t (not_at 40 src t c e))
     where
       on : (t : Tok) → is_at 40 t ≡ false → advance nesting_limit (called o) t ≡ advance nesting_limit (in_directives (further false [] (on_operation o []))) t
       on tok.open_paren e = cc
       on t e = refl
-
-  pub called_opens : (o : Opening) (src : Source) → next_is 40 src ≡ true → run_on size (called o) src ≡ run_on size (variables o []) (behind src)
-  called_opens o src e = takes size (called o) (variables o []) tok.open_paren src (at_comes 40 tok.open_paren src open_paren_at e) refl
-
-  pub variable_begins : (o : Opening) (vs : List VariableDef) (src : Source) → next_is 36 src ≡ true → run_on size (variables o vs) src ≡ run_on size (dollar o vs) (behind src)
-  variable_begins o vs src e = takes size (variables o vs) (dollar o vs) tok.dollar src (at_comes 36 tok.dollar src dollar_at e) refl
 
   comes_close : (src : Source) → Comes src tok.close_paren → next_is 41 src ≡ true
   comes_close ended c = absurd c
@@ -60,7 +98,7 @@ module _ (size : ℕ) where
 
   -- no variable stands there, and `)` only where none was read
   pub variable_missed : (o : Opening) (vs : List VariableDef) (src : Source) → (next_is 41 src ≡ true → vs ≡ []) → next_is 36 src ≡ false → run_on size (variables o vs) src ≡ Err (stopped_at size src)
-  variable_missed o vs src h e = refuses size (variables o vs) src refl (λ t c. on vs t h c (comes_at 36 false src t e c))
+  variable_missed o vs src h e = refuses size (variables o vs) src refl (λ t c. on vs t h c (not_at 36 src t c e))
     where
       on : (vs : List VariableDef) (t : Tok) → (next_is 41 src ≡ true → vs ≡ []) → Comes src t → is_at 36 t ≡ false → advance nesting_limit (variables o vs) t ≡ Err unexpected
       on vs tok.dollar h c e = cc
@@ -68,19 +106,12 @@ module _ (size : ℕ) where
       on (v ∷ vs) tok.close_paren h c e = let none : v ∷ vs ≡ [] = h (comes_close src c) in cc
       on (v ∷ vs) t h c e = refl
 
-  pub variable_name : (o : Opening) (vs : List VariableDef) (n : List ℕ) (src : Source) → next_word src ≡ Some n
-      → run_on size (dollar o vs) src ≡ run_on size (variable_named (record { opening = o; before = vs; name = n })) (behind src)
-  variable_name o vs n src w = takes_name size (dollar o vs) (variable_named (record { opening = o; before = vs; name = n })) n src w refl
-
   pub variable_name_missed : (o : Opening) (vs : List VariableDef) (src : Source) → next_word src ≡ None → run_on size (dollar o vs) src ≡ Err (stopped_at size src)
   variable_name_missed o vs src w = wants_name size (dollar o vs) src refl on w
     where
       on : (t : Tok) → next.word_of t ≡ None → advance nesting_limit (dollar o vs) t ≡ Err unexpected
       on (tok.name n) e = cc
       on t e = refl
-
-  pub variable_colon : (v : VariableName) (src : Source) → next_is 58 src ≡ true → run_on size (variable_named v) src ≡ run_on size (in_type (want_type nesting_limit (whole v))) (behind src)
-  variable_colon v src e = takes size (variable_named v) (in_type (want_type nesting_limit (whole v))) tok.colon src (at_comes 58 tok.colon src colon_at e) refl
 
   pub variable_colon_missed : (v : VariableName) (src : Source) → next_is 58 src ≡ false → run_on size (variable_named v) src ≡ Err (stopped_at size src)
   variable_colon_missed v src e = wants_at size 58 (variable_named v) src refl on e
@@ -90,14 +121,14 @@ module _ (size : ℕ) where
       on t e = refl
 
   typed_ends : (v : Typed) (src : Source) → next_is 61 src ≡ false → run_on size (typed v) src ≡ run_on size (in_directives (further true [] (on_variable v None))) src
-  typed_ends v src e = alike size _ _ src refl (λ t c. on t (comes_at 61 false src t e c))
+  typed_ends v src e = alike size _ _ src refl (λ t c. on t (not_at 61 src t c e))
     where
       on : (t : Tok) → is_at 61 t ≡ false → advance nesting_limit (typed v) t ≡ advance nesting_limit (in_directives (further true [] (on_variable v None))) t
       on tok.equals e = cc
       on t e = refl
 
   default_begins : (v : Typed) (src : Source) → next_is 61 src ≡ true → run_on size (typed v) src ≡ run_on size (in_value (want true nesting_limit (outer v))) (behind src)
-  default_begins v src e = takes size (typed v) (in_value (want true nesting_limit (outer v))) tok.equals src (at_comes 61 tok.equals src equals_at e) refl
+  default_begins v src e = takes size (typed v) (in_value (want true nesting_limit (outer v))) tok.equals src (comes_at 61 src e) refl
 
   default_is : (v : Typed) (x : Val) (d : Option ValueTree) → Some x ≡ option_map value_of d → with_default v x ≡ in_directives (further true [] (on_variable v d))
   default_is v x None e = cc
@@ -140,39 +171,13 @@ module _ (size : ℕ) where
 
   pub variable_ends : (v : Typed) (d : Option ValueTree) (ds : List Directive) (src : Source) → next_is 64 src ≡ false
       → run_on size (in_directives (further true ds (on_variable v d))) src ≡ run_on size (variables v.variable.opening (variables_with v d ds)) src
-  variable_ends v d ds src a = alike size _ _ src refl (λ t c. on t (comes_at 64 false src t a c))
+  variable_ends v d ds src a = alike size _ _ src refl (λ t c. on t (not_at 64 src t c a))
     where
       on : (t : Tok) → is_at 64 t ≡ false → advance nesting_limit (in_directives (further true ds (on_variable v d))) t ≡ advance nesting_limit (variables v.variable.opening (variables_with v d ds)) t
       on tok.at_sign a = cc
       on t a = refl
 
-  pub variable_whole : (o : Opening) (vs : List VariableDef) (v : VariableDef) (src : Source)
-      → run_on size (variables o (variables_with (record { variable = record { opening = o; before = vs; name = v.name }; of = ty_of v.of }) v.default v.directives)) src ≡ run_on size (variables o (vs ++ v ∷ [])) src
-  variable_whole o vs v src = ap (λ t. run_on size (variables o (vs ++ record { name = v.name; of = t; default = v.default; directives = v.directives } ∷ [])) src) (type_tree-ty_of v.of)
-
-  close_variables : (o : Opening) (vs : List VariableDef) (v : VariableDef) → advance nesting_limit (variables o (vs ++ v ∷ [])) tok.close_paren ≡ Ok (in_directives (further false [] (on_operation o (vs ++ v ∷ []))))
-  close_variables o [] v = refl
-  close_variables o (w ∷ vs) v = refl
-
-  pub variables_close : (o : Opening) (vs : List VariableDef) (v : VariableDef) (src : Source) → next_is 41 src ≡ true
-      → run_on size (variables o (vs ++ v ∷ [])) src ≡ run_on size (in_directives (further false [] (on_operation o (vs ++ v ∷ [])))) (behind src)
-  variables_close o vs v src e = takes size _ _ tok.close_paren src (at_comes 41 tok.close_paren src close_paren_at e) (close_variables o vs v)
-
   -- ---- definitions
-
-  pub bare_opens : (ws : List Written) (src : Source) → next_is 123 src ≡ true → run_on size (between ws) src ≡ opening size nesting_limit (of_bare ws) src
-  bare_opens ws src e = opens_there size (between ws) nesting_limit (of_bare ws) src refl e
-
-  pub kind_begins : (ws : List Written) (n : List ℕ) (k : Kind) (src : Source) → next_word src ≡ Some n → n ≡ kind_word k → run_on size (between ws) src ≡ run_on size (kinded ws k) (behind src)
-  kind_begins ws n k src w e = takes_name size (between ws) (kinded ws k) n src w (ap (λ m. begin_definition ws (word_of m)) e ∙ known k)
-    where
-      known : (k : Kind) → begin_definition ws (word_of (kind_word k)) ≡ Ok (kinded ws k)
-      known Query = refl
-      known Mutation = refl
-      known Subscription = refl
-
-  pub fragment_begins : (ws : List Written) (n : List ℕ) (src : Source) → next_word src ≡ Some n → bytes_eq n fragment_word ≡ true → run_on size (between ws) src ≡ run_on size (fragment_begun ws) (behind src)
-  fragment_begins ws n src w e = takes_name size (between ws) (fragment_begun ws) n src w (rw e refl)
 
   no_definition : (n : List ℕ) → bytes_eq n fragment_word ≡ false → ((k : Kind) → n ≡ kind_word k → ⊥) → word_of n ≡ other
   no_definition n f h = rw (f, no_bytes n (kind_word Query) (h Query), no_bytes n (kind_word Mutation) (h Mutation), no_bytes n (kind_word Subscription) (h Subscription)) refl
@@ -188,7 +193,7 @@ module _ (size : ℕ) where
       refuses_token e = ap (λ r. Rattle.gql_parse.proofs.Courses.taken size p rest r) e
 
   pub definition_missed : (ws : List Written) (src : Source) → (src ≡ ended → ws ≡ []) → next_is 123 src ≡ false → next_word src ≡ None → run_on size (between ws) src ≡ Err (stopped_at size src)
-  definition_missed ws src e a w = unread ws src e (λ t c. on t (comes_at 123 false src t a c) (comes_word None src t w c))
+  definition_missed ws src e a w = unread ws src e (λ t c. on t (not_at 123 src t c a) (no_word src t c w))
     where
       on : (t : Tok) → is_at 123 t ≡ false → next.word_of t ≡ None → advance nesting_limit (between ws) t ≡ Err unexpected
       on (tok.name n) a w = cc
@@ -204,35 +209,11 @@ module _ (size : ℕ) where
       on t w = cc
 
   pub kinded_ends : (ws : List Written) (k : Kind) (src : Source) → next_word src ≡ None → run_on size (kinded ws k) src ≡ run_on size (called (record { before = ws; kind = k; name = None })) src
-  kinded_ends ws k src e = alike size _ _ src refl (λ t c. on t (comes_word None src t e c))
+  kinded_ends ws k src e = alike size _ _ src refl (λ t c. on t (no_word src t c e))
     where
       on : (t : Tok) → next.word_of t ≡ None → advance nesting_limit (kinded ws k) t ≡ advance nesting_limit (called (record { before = ws; kind = k; name = None })) t
       on (tok.name n) e = cc
       on t e = refl
-
-  pub kinded_named : (ws : List Written) (k : Kind) (n : List ℕ) (src : Source) → next_word src ≡ Some n → run_on size (kinded ws k) src ≡ run_on size (called (record { before = ws; kind = k; name = Some n })) (behind src)
-  kinded_named ws k n src w = takes_name size (kinded ws k) (called (record { before = ws; kind = k; name = Some n })) n src w refl
-
-  pub operation_opens : (o : Opening) (vs : List VariableDef) (ds : List Directive) (src : Source) → next_is 64 src ≡ false
-      → run_on size (in_directives (further false ds (on_operation o vs))) src ≡ opening size nesting_limit (of_operation o vs ds) src
-  operation_opens o vs ds src a = opens size _ nesting_limit (of_operation o vs ds) src refl (λ t c b. on t (comes_at 64 false src t a c) b) refl
-    where
-      on : (t : Tok) → is_at 64 t ≡ false → is_at 123 t ≡ false → advance nesting_limit (in_directives (further false ds (on_operation o vs))) t ≡ Err unexpected
-      on tok.at_sign a b = cc
-      on tok.open_brace a b = cc
-      on t a b = refl
-
-  pub fragment_opens : (f : Titled) (ds : List Directive) (src : Source) → next_is 64 src ≡ false
-      → run_on size (in_directives (further false ds (on_fragment f))) src ≡ opening size nesting_limit (of_fragment f ds) src
-  fragment_opens f ds src a = opens size _ nesting_limit (of_fragment f ds) src refl (λ t c b. on t (comes_at 64 false src t a c) b) refl
-    where
-      on : (t : Tok) → is_at 64 t ≡ false → is_at 123 t ≡ false → advance nesting_limit (in_directives (further false ds (on_fragment f))) t ≡ Err unexpected
-      on tok.at_sign a b = cc
-      on tok.open_brace a b = cc
-      on t a b = refl
-
-  pub fragment_named_so : (ws : List Written) (n : List ℕ) (src : Source) → next_word src ≡ Some n → bytes_eq n on_word ≡ false → run_on size (fragment_begun ws) src ≡ run_on size (fragment_named ws n) (behind src)
-  fragment_named_so ws n src w e = takes_name size (fragment_begun ws) (fragment_named ws n) n src w (ap (λ b. fragment_name ws n b) e)
 
   pub fragment_named_on : (ws : List Written) (n : List ℕ) (src : Source) → next_word src ≡ Some n → bytes_eq n on_word ≡ true → run_on size (fragment_begun ws) src ≡ Err (stopped_at size src)
   fragment_named_on ws n src w e = refuses size (fragment_begun ws) src refl (λ t c. on t (comes_word (Some n) src t w c))
@@ -248,9 +229,6 @@ module _ (size : ℕ) where
       on (tok.name n) e = cc
       on t e = refl
 
-  pub fragment_conditioned : (ws : List Written) (n : List ℕ) (src : Source) → next_word src ≡ Some on_word → run_on size (fragment_named ws n) src ≡ run_on size (fragment_on ws n) (behind src)
-  fragment_conditioned ws n src w = takes_name size (fragment_named ws n) (fragment_on ws n) on_word src w refl
-
   pub fragment_condition_missed : (ws : List Written) (n : List ℕ) (src : Source) → (next_word src ≡ Some on_word → ⊥) → run_on size (fragment_named ws n) src ≡ Err (stopped_at size src)
   fragment_condition_missed ws n src h = refuses size (fragment_named ws n) src refl (λ t c. on t c)
     where
@@ -262,10 +240,6 @@ module _ (size : ℕ) where
       on : (t : Tok) → Comes src t → advance nesting_limit (fragment_named ws n) t ≡ Err unexpected
       on (tok.name m) c = ap (λ b. fragment_condition ws n b) (no_bytes m on_word (λ e. h (words src m c ∙ ap (λ x. Some x) e)))
       on t c = refl
-
-  pub fragment_type : (ws : List Written) (n m : List ℕ) (src : Source) → next_word src ≡ Some m
-      → run_on size (fragment_on ws n) src ≡ run_on size (in_directives (further false [] (on_fragment (record { before = ws; name = n; on = m })))) (behind src)
-  fragment_type ws n m src w = takes_name size (fragment_on ws n) (in_directives (further false [] (on_fragment (record { before = ws; name = n; on = m })))) m src w refl
 
   pub fragment_type_missed : (ws : List Written) (n : List ℕ) (src : Source) → next_word src ≡ None → run_on size (fragment_on ws n) src ≡ Err (stopped_at size src)
   fragment_type_missed ws n src w = wants_name size (fragment_on ws n) src refl on w
@@ -290,11 +264,8 @@ default_goes m n v src d rest e h = default_ok n v src d rest (subst (λ k. defa
 pub default_tells : (m n : ℕ) (v : Typed) (src : Source) (x : Fault) → m ≡ n → Tells x (default_read m src) → Tells x (run_on n (typed v) src)
 default_tells m n v src x e h = tells-moves x (run_on n (typed v) src) (default_read n src) (default_err n v src) (subst (λ k. Tells x (default_read k src)) e h)
 
--- variables with their parentheses, where one comes behind the others
-pub variables_part : {X : Type 0} (mark : Mark X) (ws vs : List VariableDef) (v : VariableDef) (ns : List X) → ws ≡ vs ++ v ∷ []
-    → spell_variables_part mark ws ns ≡ mark tok.open_paren 0 0 ∷ spell_variables mark vs (spell_variables mark (v ∷ []) (mark tok.close_paren 0 0 ∷ ns))
-variables_part mark ws vs v ns e = ap (λ r. spell_variables_part mark r ns) e ∙ some vs ∙ ap (λ r. mark tok.open_paren 0 0 ∷ r) (spell_variables-push mark vs (v ∷ []) (mark tok.close_paren 0 0 ∷ ns))
-  where
-    some : (vs : List VariableDef) → spell_variables_part mark (vs ++ v ∷ []) ns ≡ mark tok.open_paren 0 0 ∷ spell_variables mark (vs ++ v ∷ []) (mark tok.close_paren 0 0 ∷ ns)
-    some [] = refl
-    some (w ∷ vs) = refl
+-- variables with their parentheses, where there are some
+pub variables_part : {X : Type 0} (mark : Mark X) (vs : List VariableDef) (ns : List X) → vs ≢ []
+    → spell_variables_part mark vs ns ≡ mark tok.open_paren 0 0 ∷ spell_variables mark vs (mark tok.close_paren 0 0 ∷ ns)
+variables_part mark [] ns h = absurd (h refl)
+variables_part mark (v ∷ vs) ns h = refl

@@ -9,6 +9,8 @@ pub mod Mapped
 pub mod DocumentLaws
 pub mod Courses
 pub mod Heads
+pub mod Passing
+pub mod Members
 pub mod SoFar
 pub mod Whole
 mod Rows

@@ -70,18 +70,24 @@ abbrev pub spell_variables_part : {X : Type 0} → Mark X → List VariableDef �
 spell_variables_part mark [] ts = ts
 spell_variables_part mark (v ∷ vs) ts = plain mark tok.open_paren 0 ∷ spell_variables mark (v ∷ vs) (plain mark tok.close_paren 0 ∷ ts)
 
--- Kind Name? (`(` Var+ `)`)? Dirs? Set
-abbrev pub spell_operation : {X : Type 0} → Mark X → (first : ℕ) → Operation → List X → List X
-spell_operation mark first o ts =
-    plain mark (tok.name (kind_word o.kind)) (first + 2)
-    ∷ spell_optional_name mark o.name (spell_variables_part mark o.variables (spell_directives mark o.directives (spell_set mark o.selections ts)))
+-- Name? (`(` Var+ `)`)? Dirs? Set
+abbrev pub spell_operation_body : {X : Type 0} → Mark X → Operation → List X → List X
+spell_operation_body mark o ts =
+    spell_optional_name mark o.name (spell_variables_part mark o.variables (spell_directives mark o.directives (spell_set mark o.selections ts)))
 
--- `fragment` SpreadName `on` Name Dirs? Set
-abbrev pub spell_fragment : {X : Type 0} → Mark X → (first : ℕ) → Fragment → List X → List X
-spell_fragment mark first f ts =
-    plain mark (tok.name fragment_word) (first + 2) ∷ plain mark (tok.name f.name) 1
-    ∷ plain mark (tok.name on_word) 0 ∷ plain mark (tok.name f.on) 1
+-- Kind and the body
+abbrev pub spell_operation : {X : Type 0} → Mark X → (first : ℕ) → Operation → List X → List X
+spell_operation mark first o ts = plain mark (tok.name (kind_word o.kind)) (first + 2) ∷ spell_operation_body mark o ts
+
+-- SpreadName `on` Name Dirs? Set
+abbrev pub spell_fragment_body : {X : Type 0} → Mark X → Fragment → List X → List X
+spell_fragment_body mark f ts =
+    plain mark (tok.name f.name) 1 ∷ plain mark (tok.name on_word) 0 ∷ plain mark (tok.name f.on) 1
     ∷ spell_directives mark f.directives (spell_set mark f.selections ts)
+
+-- `fragment` and the body
+abbrev pub spell_fragment : {X : Type 0} → Mark X → (first : ℕ) → Fragment → List X → List X
+spell_fragment mark first f ts = plain mark (tok.name fragment_word) (first + 2) ∷ spell_fragment_body mark f ts
 
 -- a definition as it is written: a selection set alone, or in full
 pub data Written : Type 0 where

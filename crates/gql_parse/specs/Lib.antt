@@ -2,4 +2,4 @@ pub mod Documents
 pub mod Trees
 pub mod Nodes
 pub mod Machine
-pub mod Going
+pub mod Reads

@@ -1,14 +1,11 @@
 //! Operations and fragments (GraphQL, October 2021, sections 2.2, 2.3 and 2.8).
-ghost use Rattle.std.specs.Prelude.{◌≡◌, ◌+◌, ◌<◌, ◌≤◌, ◌∷◌, ◌++◌, [], ℕ, List, Option, Some, true, length, map, IfOk, IfErr, OnOk};
-ghost use Rattle.gql_ast.specs.declared.document.Definition.TheVariants as D;
-ghost use Rattle.gql_ast.specs.declared.document.Kind.{Kind};
-ghost use Rattle.gql_lex.specs.Sources.{ended};
-ghost use Rattle.gql_parse.specs.Documents.{Written, full, fragment_word, spell_operation, spell_fragment, spell_optional_name};
-ghost use Rattle.gql_parse.specs.Going.{run_on, Goes, DefinitionRead};
-ghost use Rattle.gql_parse.specs.Machine.{Opening, between, kinded, called, fragment_begun, fragment_named};
-ghost use Rattle.gql_syntax.specs.Answers.{Tells, node_count};
-ghost use Rattle.gql_syntax.specs.Nexts.{next_is, next_word, token_count};
-ghost use Rattle.gql_syntax.specs.Places.{Ahead, lay};
+ghost use Rattle.std.specs.Prelude.{◌≡◌, ◌<◌, ◌≤◌, ◌∷◌, ℕ, List, OnOk};
+ghost use Rattle.gql_parse.specs.Documents.{definition_of, spell_definition, spell_fragment_body, spell_operation_body, spell_optional_name, Written};
+ghost use Rattle.gql_parse.specs.Machine.{between, fragment_begun, fragment_named, kinded};
+ghost use Rattle.gql_parse.specs.Reads.{BeginsSet, kinded_at, behind_operation_name, Reads, behind_definition, behind_fragment, behind_operation};
+ghost use Rattle.gql_syntax.specs.Answers.{node_count};
+ghost use Rattle.gql_syntax.specs.Nexts.{token_count};
+ghost use Rattle.gql_syntax.specs.Reads.{Anywhere, MayDefine};
 
 use crate::selections::read_set;
 use crate::variables::read_variables;
@@ -24,10 +21,8 @@ pub(crate) fn read_definition(
     cursor: &mut Cursor<'_>,
 ) -> Result<Definition, Fault>
     requires { first ≤ 1 }
-    ensures found { IfOk result (DefinitionRead (length cursor.old.text) first cursor.old cursor.new) }
-    ensures fault { IfErr result (λ f. (ws : List Written) → (cursor.old.source ≡ ended → ws ≡ []) → Tells f (run_on (length cursor.old.text) (between ws) cursor.old.source)) }
+    ensures reads { Reads MayDefine between behind_definition (spell_definition node_count first) definition_of cursor.old cursor.new result }
     ensures taken { OnOk result (token_count cursor.new.source < token_count cursor.old.source) }
-    ensures same { OnOk result (cursor.new.text ≡ cursor.old.text) }
 {
     if cursor.next_is(b'{') {
         return read_bare(alloc, first, cursor);
@@ -48,12 +43,9 @@ pub(crate) fn read_definition(
 
 /// Reads a selection set alone: a query without a name.
 fn read_bare(alloc: Global, first: usize, cursor: &mut Cursor<'_>) -> Result<Definition, Fault>
-    requires few { first ≤ 1 }
-    requires set { next_is 123 cursor.old.source ≡ true }
-    ensures found { IfOk result (DefinitionRead (length cursor.old.text) first cursor.old cursor.new) }
-    ensures fault { IfErr result (λ f. (ws : List Written) → Tells f (run_on (length cursor.old.text) (between ws) cursor.old.source)) }
+    requires { first ≤ 1 }
+    ensures reads { Reads BeginsSet between behind_definition (spell_definition node_count first) definition_of cursor.old cursor.new result }
     ensures taken { OnOk result (token_count cursor.new.source < token_count cursor.old.source) }
-    ensures same { OnOk result (cursor.new.text ≡ cursor.old.text) }
 {
     let selections = read_set(alloc, NESTING_LIMIT, first + 2, cursor)?;
     Ok(Definition::Operation(Operation {
@@ -67,10 +59,7 @@ fn read_bare(alloc: Global, first: usize, cursor: &mut Cursor<'_>) -> Result<Def
 
 /// Reads an operation, after its kind (section 2.3).
 fn read_operation(alloc: Global, kind: Kind, cursor: &mut Cursor<'_>) -> Result<Operation, Fault>
-    ensures reads { (ws : List Written) → Goes result (run_on (length cursor.old.text) (kinded ws kind) cursor.old.source) (λ o. run_on (length cursor.old.text) (between (ws ++ full (D.Operation o) ∷ [])) cursor.new.source) }
-    ensures places { IfOk result (λ o. (first : ℕ) (ns : List ℕ) (c : Ahead) → ((ms : List ℕ) → lay ((first + 2) ∷ ms) c ≡ lay ms cursor.old) → lay (spell_operation node_count first o ns) c ≡ lay ns cursor.new) }
-    ensures taken { OnOk result (token_count cursor.new.source < token_count cursor.old.source) }
-    ensures same { OnOk result (cursor.new.text ≡ cursor.old.text) }
+    ensures reads { Reads Anywhere (λ (ws : List Written). kinded ws kind) behind_operation (spell_operation_body node_count) (λ o. o) cursor.old cursor.new result }
 {
     let name = read_optional_name(alloc, cursor)?;
     let variables = read_variables(alloc, cursor)?;
@@ -87,10 +76,7 @@ fn read_operation(alloc: Global, kind: Kind, cursor: &mut Cursor<'_>) -> Result<
 
 /// Reads the name of an operation, where one stands there.
 fn read_optional_name(alloc: Global, cursor: &mut Cursor<'_>) -> Result<Option<Name>, Fault>
-    ensures reads { (ws : List Written) (kind : Kind) → Goes result (run_on (length cursor.old.text) (kinded ws kind) cursor.old.source) (λ n. run_on (length cursor.old.text) (called (record { before = ws; kind = kind; name = n })) cursor.new.source) }
-    ensures places { IfOk result (λ n. (ns : List ℕ) → lay (spell_optional_name node_count n ns) cursor.old ≡ lay ns cursor.new) }
-    ensures taken { OnOk result (token_count cursor.new.source ≤ token_count cursor.old.source) }
-    ensures same { OnOk result (cursor.new.text ≡ cursor.old.text) }
+    ensures reads { Reads Anywhere kinded_at behind_operation_name (spell_optional_name node_count) (λ n. n) cursor.old cursor.new result }
 {
     if cursor.next_word().is_none() {
         return Ok(None);
@@ -100,10 +86,7 @@ fn read_optional_name(alloc: Global, cursor: &mut Cursor<'_>) -> Result<Option<N
 
 /// Reads a fragment, after its `fragment` (section 2.8).
 fn read_fragment(alloc: Global, cursor: &mut Cursor<'_>) -> Result<Fragment, Fault>
-    ensures reads { (ws : List Written) → Goes result (run_on (length cursor.old.text) (fragment_begun ws) cursor.old.source) (λ f. run_on (length cursor.old.text) (between (ws ++ full (D.Fragment f) ∷ [])) cursor.new.source) }
-    ensures places { IfOk result (λ f. (first : ℕ) (ns : List ℕ) (c : Ahead) → ((ms : List ℕ) → lay ((first + 2) ∷ ms) c ≡ lay ms cursor.old) → lay (spell_fragment node_count first f ns) c ≡ lay ns cursor.new) }
-    ensures taken { OnOk result (token_count cursor.new.source < token_count cursor.old.source) }
-    ensures same { OnOk result (cursor.new.text ≡ cursor.old.text) }
+    ensures reads { Reads Anywhere fragment_begun behind_fragment (spell_fragment_body node_count) (λ f. f) cursor.old cursor.new result }
 {
     let name = read_fragment_name(alloc, cursor)?;
     expect_word(cursor, "on", 0)?;
@@ -120,15 +103,13 @@ fn read_fragment(alloc: Global, cursor: &mut Cursor<'_>) -> Result<Fragment, Fau
 
 /// Reads the name of a fragment: a Name but `on`.
 fn read_fragment_name(alloc: Global, cursor: &mut Cursor<'_>) -> Result<Name, Fault>
-    ensures reads { (ws : List Written) → Goes result (run_on (length cursor.old.text) (fragment_begun ws) cursor.old.source) (λ n. run_on (length cursor.old.text) (fragment_named ws n) cursor.new.source) }
-    ensures places { IfOk result (λ n. (ns : List ℕ) → lay (1 ∷ ns) cursor.old ≡ lay ns cursor.new) }
-    ensures taken { OnOk result (token_count cursor.new.source < token_count cursor.old.source) }
-    ensures same { OnOk result (cursor.new.text ≡ cursor.old.text) }
+    ensures reads { Reads Anywhere fragment_begun fragment_named (λ (n : List ℕ) (ns : List ℕ). 1 ∷ ns) (λ n. n) cursor.old cursor.new result }
 {
-    if let Some(word) = cursor.next_word() {
-        if word == "on" {
-            return Err(cursor.fault());
-        }
+    let Some(word) = cursor.next_word() else {
+        return Err(cursor.fault());
+    };
+    if word == "on" {
+        return Err(cursor.fault());
     }
     read_name(alloc, cursor, 1)
 }

@@ -1,15 +1,13 @@
 //! Documents are read (GraphQL, October 2021, sections 2.2 to 2.12).
 #![tactic(auto)]
 
-ghost use Rattle.std.specs.Prelude.{◌≡◌, ◌<◌, ◌-◌, ◌^◌, ◌⊎◌, ◌∷◌, ◌++◌, [], ℕ, List, Ok, Err, length, map, IfOk, IfErr, OnOk};
+ghost use Rattle.std.specs.Prelude.{◌≡◌, ◌<◌, ◌-◌, ◌^◌, ◌⊎◌, Ok, Err, length, IfOk, IfErr};
 ghost use Rattle.gql_ast.specs.declared.document.Document.{Document};
 ghost use Rattle.gql_ast.specs.declared.fault.ParseFault.TheVariants.{NoMemory};
 ghost use Rattle.gql_ast.specs.declared.place.Placed.{Placed};
 ghost use Rattle.gql_parse.specs.Documents.{documents};
-ghost use Rattle.gql_parse.specs.Going.{DocumentRead, run_on};
-ghost use Rattle.gql_parse.specs.Machine.{between};
+ghost use Rattle.gql_parse.specs.Reads.{ReadsDocument};
 ghost use Rattle.gql_parse.specs.Trees.{IsDocument};
-ghost use Rattle.gql_syntax.specs.Answers.{Tells};
 ghost use Rattle.gql_syntax.specs.Texts.{IsParseFault, TellsText};
 
 mod definitions;
@@ -54,8 +52,7 @@ pub fn parse_document(
 
 /// Reads definitions up to the end, one at least.
 fn read_definitions(alloc: Global, cursor: &mut Cursor<'_>) -> Result<Definitions, Fault>
-    ensures found { IfOk result (DocumentRead (length cursor.old.text) cursor.old cursor.new) }
-    ensures fault { IfErr result (λ f. Tells f (run_on (length cursor.old.text) (between []) cursor.old.source)) }
+    ensures reads { ReadsDocument cursor.old cursor.new result }
 {
     let mut definitions = Definitions::new(alloc);
     definitions.push(read_definition(alloc, 1, cursor)?)?;

@@ -1,48 +1,34 @@
 //! Definitions of variables (GraphQL, October 2021, section 2.10).
-ghost use Rattle.std.specs.Prelude.{◌≡◌, ◌<◌, ◌≤◌, ◌∷◌, ◌++◌, [], ℕ, List, true, false, length, IfOk, OnOk};
-ghost use Rattle.gql_ast.specs.declared.variable.VariableDef.{VariableDef};
-ghost use Rattle.gql_parse.specs.Documents.{spell_variables, spell_variables_part};
-ghost use Rattle.gql_parse.specs.Going.{run_on, Goes};
-ghost use Rattle.gql_parse.specs.Machine.{Opening, called, on_operation, variables, in_directives};
+ghost use Rattle.std.specs.Prelude.{◌≡◌, ◌<◌, OnOk};
+ghost use Rattle.gql_parse.specs.Documents.{spell_variables_part};
+ghost use Rattle.gql_parse.specs.Machine.{called};
+ghost use Rattle.gql_parse.specs.Reads.{behind_variables, MayVariable, Reads, spell_variable, variable_at, variables_at};
 ghost use Rattle.gql_syntax.specs.Answers.{node_count};
-ghost use Rattle.gql_syntax.specs.Machine.{further};
-ghost use Rattle.gql_syntax.specs.Nexts.{next_is, token_count};
-ghost use Rattle.gql_syntax.specs.Places.{lay};
+ghost use Rattle.gql_syntax.specs.Nexts.{token_count};
+ghost use Rattle.gql_syntax.specs.Reads.{Anywhere};
 
 use gql_ast::{VariableDef, VariableDefs};
-use gql_syntax::{Cursor, Fault, expect, read_default, read_directives, read_name, read_type};
+use gql_syntax::{
+    Cursor, Fault, expect, read_default, read_directives, read_members, read_name, read_type,
+};
 use std::alloc::Global;
 
 /// Reads the variables of an operation with their parentheses, where they stand there.
 pub(crate) fn read_variables(alloc: Global, cursor: &mut Cursor<'_>) -> Result<VariableDefs, Fault>
-    ensures reads { (o : Opening) → Goes result (run_on (length cursor.old.text) (called o) cursor.old.source) (λ vs. run_on (length cursor.old.text) (in_directives (further false [] (on_operation o vs))) cursor.new.source) }
-    ensures places { IfOk result (λ vs. (ns : List ℕ) → lay (spell_variables_part node_count vs ns) cursor.old ≡ lay ns cursor.new) }
-    ensures taken { OnOk result (token_count cursor.new.source ≤ token_count cursor.old.source) }
-    ensures same { OnOk result (cursor.new.text ≡ cursor.old.text) }
+    ensures reads { Reads Anywhere called behind_variables (spell_variables_part node_count) (λ vs. vs) cursor.old cursor.new result }
 {
-    let mut variables = VariableDefs::new(alloc);
     if !cursor.next_is(b'(') {
-        return Ok(variables);
+        return Ok(VariableDefs::new(alloc));
     }
-    cursor.skip(0)?;
-    'variables: loop {
-        let variable = read_variable(alloc, cursor)?;
-        variables.push(variable)?;
-        if cursor.next_is(b')') {
-            cursor.skip(0)?;
-            variables.items.shrink_to_fit();
-            return Ok(variables);
-        }
-    }
+    let items = read_members(alloc, b'(', b')', cursor, read_variable)?;
+    Ok(VariableDefs { items })
 }
 
-/// Reads the definition of a variable. Where no `$` stands, a fault is told, also where `)` could
-/// stand.
+/// Reads the definition of a variable. Where no `$` stands, a fault is reported, also where `)`
+/// could stand.
 fn read_variable(alloc: Global, cursor: &mut Cursor<'_>) -> Result<VariableDef, Fault>
-    ensures reads { (o : Opening) (before : List VariableDef) → (next_is 41 cursor.old.source ≡ true → before ≡ []) → Goes result (run_on (length cursor.old.text) (variables o before) cursor.old.source) (λ v. run_on (length cursor.old.text) (variables o (before ++ v ∷ [])) cursor.new.source) }
-    ensures places { IfOk result (λ v. (ns : List ℕ) → lay (spell_variables node_count (v ∷ []) ns) cursor.old ≡ lay ns cursor.new) }
+    ensures reads { Reads MayVariable variables_at variable_at spell_variable (λ v. v) cursor.old cursor.new result }
     ensures taken { OnOk result (token_count cursor.new.source < token_count cursor.old.source) }
-    ensures same { OnOk result (cursor.new.text ≡ cursor.old.text) }
 {
     expect(cursor, b'$', 1)?;
     let name = read_name(alloc, cursor, 1)?;

@@ -1,5 +1,5 @@
 -- Lists of inputs.
-use Rattle.std.proofs.Common.{◌≡◌, ℕ, true, false, List, [], ◌∷◌, None, Ok, Err, refl, sym, subst}
+use Rattle.std.proofs.Common.{◌≡◌, ℕ, false, List, [], ◌∷◌, None, Ok, Err, refl, sym, subst}
 use Rattle.gql_lex.specs.Sources.{Source}
 use Rattle.gql_lex.specs.Toks as tok
 use Rattle.gql_lex.specs.Toks.{Tok, punctuator_of}
@@ -23,17 +23,19 @@ inputs_list opening closing = record {
   unopened = before_inputs;
   open_at = λ i ws. inputs i ws None;
   close_at = after_inputs;
+  opening = opening;
   closing = closing;
   spells = spell_inputs node_count;
   whole = spell_argument_defs node_count;
   kept = λ w. w.input;
   at_member = λ i ws. record { inputs = i; before = ws };
+  MayMember = MayInput;
   from = inputs_at;
   to = input_at;
   spell = spell_input node_count;
 }
 
-closed-some : {A : Type 0} (all : List A) (to : State) → NotEmpty all → close all None to ≡ Ok to
+pub closed-some : {A : Type 0} (all : List A) (to : State) → NotEmpty all → close all None to ≡ Ok to
 closed-some [] to h = absurd h
 closed-some (a ∷ all) to h = refl
 
@@ -58,7 +60,9 @@ whole-some (w ∷ ws) ns h = refl
 
 pub inputs_laws : (opening closing : ℕ) → ListLaws (inputs_list opening closing)
 inputs_laws opening closing = record {
+  opens = λ i s m. subst (λ c. advance nesting_limit (before_inputs i) (punctuator_of c) ≡ Ok (inputs i [] None)) m.0 (inputs-open i);
   begins = λ i ws. refl;
+  may_begin = λ i ws s there m n. subst (λ c. next_is c there ≡ false) (sym m.1) n;
   goes_on = λ i ws w. refl;
   spells_then = λ ws w ns. inputs-then node_count ws w ns;
   spells_none = λ ns. refl;
@@ -67,10 +71,6 @@ inputs_laws opening closing = record {
   stops_closed = λ i s m. subst (λ c. advance nesting_limit (inputs i [] None) (punctuator_of c) ≡ Err unexpected) m.1 (inputs-stop i);
   unfinished = λ i ws. refl;
 }
-
-pub inputs-opens : (opening closing : ℕ) (s : Source) → next_is opening s ≡ true → (i : Inputs) → MayOpen opening closing i s
-    → (c : ℕ) × (next_is c s ≡ true) × (advance nesting_limit (before_inputs i) (punctuator_of c) ≡ Ok (inputs i [] None))
-inputs-opens opening closing s n i m = (opening, n, subst (λ c. advance nesting_limit (before_inputs i) (punctuator_of c) ≡ Ok (inputs i [] None)) m.0 (inputs-open i))
 
 pub inputs-absent : (opening closing : ℕ) (s : Source) → next_is opening s ≡ false → (i : Inputs) (size : ℕ) → MayOpen opening closing i s
     → run_on size (before_inputs i) s ≡ run_on size (after_inputs i []) s
@@ -95,7 +95,3 @@ inputs-absent opening closing s n i size m =
     same (of_directive f n) tok.open_paren c e d = absurd (cc)
     same (of_directive f n) t c e d = refl
     same (of_object f n ds) t c e d = undirected f n ds t e (not_at 64 s t c d)
-
-pub inputs-may : (opening closing : ℕ) (s there : Source) → next_is closing there ≡ false → (i : Inputs) (ws : List WrittenInput) → MayOpen opening closing i s
-    → MayInput (record { inputs = i; before = ws }) there
-inputs-may opening closing s there n i ws m = subst (λ c. next_is c there ≡ false) (sym m.1) n

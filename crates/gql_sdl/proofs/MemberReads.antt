@@ -22,12 +22,13 @@ use Rattle.gql_syntax.specs.Spelling.{spell_type, spell_directives}
 use Rattle.gql_syntax.specs.Texts.{nesting_limit}
 use Rattle.gql_syntax.specs.Words.{kind_word}
 use Rattle.gql_syntax.specs.declared.fault.Fault.{Fault}
-use Rattle.gql_sdl.specs.Machine.{Front, Fields, OpenField, ArguedField, of_field, Values, OpenValue, Typed, field_type, Owner, on_field, on_value, State, fields, field_arguments, field_colon, enum_values, roots, root_colon, root_name, in_directives, in_type, directives_of, close, after_inputs, field_then, value_then, advance, is_reserved, kind_of, open_root}
+use Rattle.gql_sdl.specs.Machine.{Front, Fields, OpenField, ArguedField, of_field, Values, OpenValue, Typed, field_type, Owner, on_field, on_value, State, fields, field_arguments, field_colon, enum_values, roots, root_colon, root_name, in_directives, in_type, directives_of, close, after_inputs, field_then, value_then, advance, finish, is_reserved, kind_of, open_root}
 use Rattle.gql_sdl.specs.Reads.{run_on, Read, Fails, Reads, a_field, open_member, Named, name_member, spell_named, MayName, MayOpen, before_inputs, FieldsAt, fields_at, field_at, MayField, NoDirective, before_fields, behind_fields, ValuesAt, values_at, value_at, behind_value_name, before_values, behind_values, RootsOf, RootsAt, roots_at, root_at, unopened_roots, closed_roots}
 use Rattle.gql_sdl.specs.Schemas.{Description, WrittenField, WrittenValue, NotEmpty, spell_argument_defs, spell_field, spell_fields, spell_fields_part, spell_enum_value, spell_enum_values, spell_enum_values_part, spell_roots, inputs_of, field_of}
 use Rattle.gql_syntax.proofs.BuiltTrees.{type_tree-ty_of}
 use Rattle.gql_sdl.proofs.Fronts.{fields-then, values-then, roots-then}
 use Rattle.gql_sdl.proofs.Goings.{on-token, on-name, on-sign, alike, on-type, on-directives, fails-missed, fails-stopped, fails-behind, fails-type, fails-directives}
+use Rattle.gql_sdl.proofs.InputLists.{closed-some}
 use Rattle.gql_sdl.proofs.InputReads.{comes_text, not_text, behind-count}
 use Rattle.gql_sdl.proofs.Loops.{ListOf, ListLaws}
 use Rattle.gql_sdl.proofs.Spellings.{kind_of-kind, kind_of-word}
@@ -131,21 +132,19 @@ module _ (a b : Ahead) (n : List ℕ) (r : Read MayName (λ k. open_member k Non
 
 -- ---- lists of fields
 
-fields-closed : {A : Type 0} (all : List A) (to : State) → NotEmpty all → close all None to ≡ Ok to
-fields-closed [] to h = absurd h
-fields-closed (a ∷ all) to h = refl
-
 abbrev pub fields_list : ListOf Fields FieldsAt WrittenField FieldTree
 fields_list = record {
   May = NoDirective;
   unopened = before_fields;
   open_at = λ f fs. fields f fs None;
   close_at = behind_fields;
+  opening = 123;
   closing = 125;
   spells = spell_fields node_count;
   whole = spell_fields_part node_count;
   kept = field_of;
   at_member = λ f fs. record { fields = f; before = fs };
+  MayMember = MayField;
   from = fields_at;
   to = field_at;
   spell = spell_field node_count;
@@ -157,31 +156,26 @@ fields-whole (f ∷ fs) ns h = refl
 
 pub fields_laws : ListLaws fields_list
 fields_laws = record {
+  opens = λ f s m. refl;
   begins = λ f fs. refl;
+  may_begin = λ f fs s there m n. n;
   goes_on = λ f fs w. refl;
   spells_then = λ fs w ns. fields-then node_count fs w ns;
   spells_none = λ ns. refl;
   whole_some = fields-whole;
-  closes = λ f s fs m h. fields-closed fs _ h;
+  closes = λ f s fs m h. closed-some fs _ h;
   stops_closed = λ f s m. refl;
   unfinished = λ f fs. refl;
 }
 
 -- behind directives, where no list is opened
-module _ (s : Source) where
-  pub fields-opens : next_is 123 s ≡ true → (f : Fields) → NoDirective f s → (c : ℕ) × (next_is c s ≡ true) × (advance nesting_limit (before_fields f) (punctuator_of c) ≡ Ok (fields f [] None))
-  fields-opens n f m = (123, n, refl)
-
-  pub fields-absent : next_is 123 s ≡ false → (f : Fields) (size : ℕ) → NoDirective f s → run_on size (before_fields f) s ≡ run_on size (behind_fields f []) s
-  fields-absent n f size m = alike size (before_fields f) (behind_fields f []) s refl (λ t c. same t (not_at 123 s t c n) (not_at 64 s t c m))
-    where
-      same : (t : Tok) → is_at 123 t ≡ false → is_at 64 t ≡ false → advance nesting_limit (before_fields f) t ≡ advance nesting_limit (behind_fields f []) t
-      same tok.open_brace e d = absurd (cc)
-      same tok.at_sign e d = absurd (cc)
-      same t e d = refl
-
-  pub fields-may : (there : Source) → next_is 125 there ≡ false → (f : Fields) (fs : List WrittenField) → NoDirective f s → MayField {K = FieldsAt} (record { fields = f; before = fs }) there
-  fields-may there n f fs m = n
+pub fields-absent : (s : Source) → next_is 123 s ≡ false → (f : Fields) (size : ℕ) → NoDirective f s → run_on size (before_fields f) s ≡ run_on size (behind_fields f []) s
+fields-absent s n f size m = alike size (before_fields f) (behind_fields f []) s refl (λ t c. same t (not_at 123 s t c n) (not_at 64 s t c m))
+  where
+    same : (t : Tok) → is_at 123 t ≡ false → is_at 64 t ≡ false → advance nesting_limit (before_fields f) t ≡ advance nesting_limit (behind_fields f []) t
+    same tok.open_brace e d = absurd (cc)
+    same tok.at_sign e d = absurd (cc)
+    same t e d = refl
 
 -- ---- values of enums
 
@@ -315,11 +309,13 @@ values_list = record {
   unopened = before_values;
   open_at = λ v vs. enum_values v vs None;
   close_at = behind_values;
+  opening = 123;
   closing = 125;
   spells = spell_enum_values node_count;
   whole = spell_enum_values_part node_count;
   kept = λ w. w.value;
   at_member = λ v vs. record { values = v; before = vs };
+  MayMember = MayField;
   from = values_at;
   to = value_at;
   spell = spell_enum_value node_count;
@@ -331,30 +327,25 @@ values-whole (v ∷ vs) ns h = refl
 
 pub values_laws : ListLaws values_list
 values_laws = record {
+  opens = λ v s m. refl;
   begins = λ v vs. refl;
+  may_begin = λ v vs s there m n. n;
   goes_on = λ v vs w. refl;
   spells_then = λ vs w ns. values-then node_count vs w ns;
   spells_none = λ ns. refl;
   whole_some = values-whole;
-  closes = λ v s vs m h. fields-closed vs _ h;
+  closes = λ v s vs m h. closed-some vs _ h;
   stops_closed = λ v s m. refl;
   unfinished = λ v vs. refl;
 }
 
-module _ (s : Source) where
-  pub values-opens : next_is 123 s ≡ true → (v : Values) → NoDirective v s → (c : ℕ) × (next_is c s ≡ true) × (advance nesting_limit (before_values v) (punctuator_of c) ≡ Ok (enum_values v [] None))
-  values-opens n v m = (123, n, refl)
-
-  pub values-absent : next_is 123 s ≡ false → (v : Values) (size : ℕ) → NoDirective v s → run_on size (before_values v) s ≡ run_on size (behind_values v []) s
-  values-absent n v size m = alike size (before_values v) (behind_values v []) s refl (λ t c. same t (not_at 123 s t c n) (not_at 64 s t c m))
-    where
-      same : (t : Tok) → is_at 123 t ≡ false → is_at 64 t ≡ false → advance nesting_limit (before_values v) t ≡ advance nesting_limit (behind_values v []) t
-      same tok.open_brace e d = absurd (cc)
-      same tok.at_sign e d = absurd (cc)
-      same t e d = refl
-
-  pub values-may : (there : Source) → next_is 125 there ≡ false → (v : Values) (vs : List WrittenValue) → NoDirective v s → MayField {K = ValuesAt} (record { values = v; before = vs }) there
-  values-may there n v vs m = n
+pub values-absent : (s : Source) → next_is 123 s ≡ false → (v : Values) (size : ℕ) → NoDirective v s → run_on size (before_values v) s ≡ run_on size (behind_values v []) s
+values-absent s n v size m = alike size (before_values v) (behind_values v []) s refl (λ t c. same t (not_at 123 s t c n) (not_at 64 s t c m))
+  where
+    same : (t : Tok) → is_at 123 t ≡ false → is_at 64 t ≡ false → advance nesting_limit (before_values v) t ≡ advance nesting_limit (behind_values v []) t
+    same tok.open_brace e d = absurd (cc)
+    same tok.at_sign e d = absurd (cc)
+    same t e d = refl
 
 -- ---- roots
 
@@ -430,11 +421,13 @@ roots_list = record {
   unopened = unopened_roots;
   open_at = λ k rs. roots k.front k.directives rs;
   close_at = closed_roots;
+  opening = 123;
   closing = 125;
   spells = spell_roots node_count;
   whole = λ rs ns. 0 ∷ spell_roots node_count rs (0 ∷ ns);
   kept = λ r. r;
   at_member = λ k rs. record { schema = k; before = rs };
+  MayMember = MayField;
   from = roots_at;
   to = root_at;
   spell = λ r ns. 1 ∷ 0 ∷ 1 ∷ ns;
@@ -442,30 +435,27 @@ roots_list = record {
 
 pub roots_laws : ListLaws roots_list
 roots_laws = record {
+  opens = λ k s m. refl;
   begins = λ k rs. refl;
+  may_begin = λ k rs s there m n. n;
   goes_on = λ k rs r. refl;
   spells_then = λ rs r ns. roots-then node_count rs r ns;
   spells_none = λ ns. refl;
   whole_some = λ rs ns h. refl;
-  closes = λ k s rs m h. fields-closed rs _ h;
+  closes = λ k s rs m h. closed-some rs _ h;
   stops_closed = λ k s m. refl;
   unfinished = λ k rs. refl;
 }
 
-module _ (s : Source) where
-  pub roots-opens : next_is 123 s ≡ true → (k : RootsOf) → NoDirective k s → (c : ℕ) × (next_is c s ≡ true) × (advance nesting_limit (unopened_roots k) (punctuator_of c) ≡ Ok (roots k.front k.directives []))
-  roots-opens n k m = (123, n, refl)
-
-  pub roots-may : (there : Source) → next_is 125 there ≡ false → (k : RootsOf) (rs : List Root) → NoDirective k s → MayField {K = RootsAt} (record { schema = k; before = rs }) there
-  roots-may there n k rs m = n
-
-pub roots-absent : (a : Ahead) → next_is 123 a.source ≡ false → Fails NoDirective unopened_roots a (wrong_at (stopped_at (length a.text) a.source))
-roots-absent a n = fails-stopped NoDirective unopened_roots a (λ k m. (refl, λ t c. stop k t (not_at 123 a.source t c n) (not_at 64 a.source t c m)))
+-- behind directives, where no list is opened
+pub roots-stop : (s : Source) (k : RootsOf) → NoDirective k s → next_is 123 s ≡ false
+    → (finish (unopened_roots k) ≡ None) × ((t : Tok) → Comes s t → advance nesting_limit (unopened_roots k) t ≡ Err unexpected)
+roots-stop s k m n = (refl, λ t c. stop t (not_at 123 s t c n) (not_at 64 s t c m))
   where
-    stop : (k : RootsOf) (t : Tok) → is_at 123 t ≡ false → is_at 64 t ≡ false → advance nesting_limit (unopened_roots k) t ≡ Err unexpected
-    stop k tok.open_brace e d = absurd (cc)
-    stop k tok.at_sign e d = absurd (cc)
-    stop k t e d = refl
+    stop : (t : Tok) → is_at 123 t ≡ false → is_at 64 t ≡ false → advance nesting_limit (unopened_roots k) t ≡ Err unexpected
+    stop tok.open_brace e d = absurd (cc)
+    stop tok.at_sign e d = absurd (cc)
+    stop t e d = refl
 
 -- a word that is no kind's names none
 pub no-kind : (w : List ℕ) → ((k : Kind) → w ≡ kind_word k → ⊥) → kind_of w ≡ None

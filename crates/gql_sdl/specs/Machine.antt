@@ -55,7 +55,7 @@ word_text a_schema = codes "schema"
 word_text (titled k) = titled_word k
 word_text a_directive = codes "directive"
 
--- what is told by the first of these words that is the name
+-- what the first of these words that is the name stands for
 abbrev pub find_by : {A : Type 0} → (word : A → List ℕ) → List A → List ℕ → Option A
 find_by word [] n = None
 find_by word (a ∷ more) n = cond (bytes_eq n (word a)) (Some a) (find_by word more n)

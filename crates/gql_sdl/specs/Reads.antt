@@ -1,17 +1,18 @@
 -- What the parts of the parser have read: from wherever a part stands, the machine goes on behind it.
-use Rattle.std.specs.Prelude.{◌≡◌, ◌≢◌, ◌≤◌, ◌⊎◌, ℕ, Bool, true, false, List, [], ◌∷◌, ◌++◌, length, Some, None, Result, Ok, Err}
-use Rattle.gql_lex.specs.Sources.{Source, ended}
+use Rattle.std.specs.Prelude.{◌≡◌, ℕ, Bool, true, false, List, [], ◌∷◌, ◌++◌, Some, None, Result}
+use Rattle.gql_lex.specs.Sources.{Source}
 use Rattle.gql_ast.specs.declared.directive.Directive.{Directive}
 use Rattle.gql_ast.specs.declared.location.Location.{Location}
 use Rattle.gql_ast.specs.declared.schema.Root.{Root}
 use Rattle.gql_syntax.specs.Answers.{node_count}
 use Rattle.gql_syntax.specs.Machine.{further}
-use Rattle.gql_syntax.specs.Nexts.{next_is, next_is_text, next_word, token_count}
-use Rattle.gql_syntax.specs.Places.{Ahead, lay}
+use Rattle.gql_syntax.specs.Nexts.{next_is, next_is_text, next_word}
+use Rattle.gql_syntax.specs.Places.{Ahead}
+pub use Rattle.gql_syntax.specs.Reads.{Anywhere, MayDefine, NoDirective}
+use Rattle.gql_syntax.specs.Reads as reading
 use Rattle.gql_syntax.specs.Run.{Stopped, run}
 use Rattle.gql_syntax.specs.Texts.{nesting_limit}
 use Rattle.gql_syntax.specs.declared.fault.Fault.{Fault}
-use Rattle.gql_syntax.specs.declared.fault.Fault.TheVariants.{Wrong, NoMemory}
 use Rattle.gql_sdl.specs.Machine.{Front, Fielded, Fields, Inputs, of_field, of_directive, of_object, Values, on_schema, on_fielded, on_union, on_enum, on_object, on_value, Listing, implementing, uniting, locating, State, head, entitled, fields, field_arguments, inputs, input_colon, enum_values, roots, directive_arguments, directive_on, listing, listing_led, in_directives, directives_of, heading_of, front_then, heading_then, fielded_word, fielded_written, advance, finish, no_front}
 use Rattle.gql_sdl.specs.Schemas.{Description, WrittenInput, WrittenField, WrittenValue, Written, schema, enum, union, directive, Described, spell_description, spell_separated, spell_implements, spell_fields_part, spell_written, definition_of, nodes_of, field_of, location_word}
 use Rattle.gql_syntax.specs.Spelling.{spell_directives}
@@ -23,27 +24,14 @@ use Rattle.gql_lex.specs.Toks as tok
 abbrev pub run_on : (size : ℕ) → State → Source → Result (List Described) Stopped
 run_on size s ahead = run (advance nesting_limit) finish size s ahead
 
--- what has been read is written so: it stands for this; from each place K where it may stand the machine goes on behind it; and
--- the places of its nodes are told
-pub record Read {K W T : Type 0} (May : K → Source → Type 0) (from : K → State) (to : K → W → State) (spell : W → List ℕ → List ℕ) (view : W → T) (old new : Ahead) (t : T) : Type 0 where
-  pub written : W
-  pub viewed : view written ≡ t
-  pub goes : (k : K) (size : ℕ) → size ≡ length old.text → May k old.source → run_on size (from k) old.source ≡ run_on size (to k written) new.source
-  pub nodes : (ns : List ℕ) → lay (spell written ns) old ≡ lay ns new
-  pub taken : token_count new.source ≤ token_count old.source
-  pub text : new.text ≡ old.text
+abbrev pub Read : {K W T : Type 0} → (May : K → Source → Type 0) → (from : K → State) → (to : K → W → State) → (spell : W → List ℕ → List ℕ) → (view : W → T) → (old new : Ahead) → T → Type 0
+Read May from to spell view old new t = reading.Read run_on May from to spell view old new t
 
--- the machine stops with this fault
 abbrev pub Fails : {K : Type 0} → (May : K → Source → Type 0) → (from : K → State) → Ahead → Fault → Type 0
-Fails {K = K} May from old (Wrong code at) = (k : K) (size : ℕ) → size ≡ length old.text → May k old.source → run_on size (from k) old.source ≡ Err (code, at)
-Fails May from old NoMemory = Unit {0}
+Fails May from old f = reading.Fails run_on May from old f
 
 abbrev pub Reads : {K W T : Type 0} → (May : K → Source → Type 0) → (from : K → State) → (to : K → W → State) → (spell : W → List ℕ → List ℕ) → (view : W → T) → (old new : Ahead) → Result T Fault → Type 0
-Reads May from to spell view old new (Ok t) = Read May from to spell view old new t
-Reads May from to spell view old new (Err f) = Fails May from old f
-
-abbrev pub Anywhere : {K : Type 0} → K → Source → Type 0
-Anywhere k ahead = Unit {0}
+Reads May from to spell view old new r = reading.Reads run_on May from to spell view old new r
 
 -- ---- members
 
@@ -124,10 +112,6 @@ pub record FieldsAt : Type 0 where
 
 abbrev pub MayField : {K : Type 0} → K → Source → Type 0
 MayField k ahead = next_is 125 ahead ≡ false
-
--- no directive follows
-abbrev pub NoDirective : {K : Type 0} → K → Source → Type 0
-NoDirective k ahead = next_is 64 ahead ≡ false
 
 abbrev pub fields_at : FieldsAt → State
 fields_at k = fields k.fields k.before None
@@ -313,10 +297,6 @@ spell_locations w ns = spell_separated node_count tok.bar 0 w.leading (map locat
 abbrev pub Begins : (word : List ℕ) → Front → Source → Type 0
 Begins word f ahead = next_word ahead ≡ Some word
 
--- the text does not end here, but behind definitions
-abbrev pub MayDefine : List Described → Source → Type 0
-MayDefine ds ahead = (ds ≡ []) ⊎ (ahead ≢ ended)
-
 -- a description does not stand here, but before one it may not
 abbrev pub MayDescribe : Front → Source → Type 0
 MayDescribe f ahead = f.description ≡ None → (next_is_text ahead ≡ false) × MayDefine f.before ahead
@@ -374,12 +354,8 @@ abbrev pub start : Unit {0} → State
 start u = head no_front
 
 -- a schema has been read to the end of the text
-pub record ReadSchema (old new : Ahead) (definitions : List SchemaDef) : Type 0 where
-  pub written : List Described
-  pub viewed : map definition_of written ≡ definitions
-  pub read : (size : ℕ) → size ≡ length old.text → run_on size (head no_front) old.source ≡ Ok written
-  pub nodes : lay (nodes_of written) old ≡ new.places
+abbrev pub ReadSchema : (old new : Ahead) → List SchemaDef → Type 0
+ReadSchema old new ds = reading.ReadAll run_on (head no_front) nodes_of (map definition_of) old new ds
 
 abbrev pub ReadsSchema : (old new : Ahead) → Result (List SchemaDef) Fault → Type 0
-ReadsSchema old new (Ok ds) = ReadSchema old new ds
-ReadsSchema old new (Err f) = Fails Anywhere start old f
+ReadsSchema old new r = reading.ReadsAll run_on (head no_front) nodes_of (map definition_of) old new r

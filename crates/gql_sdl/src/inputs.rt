@@ -9,7 +9,9 @@ ghost use Rattle.gql_syntax.specs.Nexts.{next_is, token_count};
 
 use gql_ast::{InputTree, InputTrees};
 use gql_plain::Name;
-use gql_syntax::{Cursor, Fault, expect, read_default, read_directives, read_name, read_type};
+use gql_syntax::{
+    Cursor, Fault, expect, read_default, read_directives, read_members, read_name, read_type,
+};
 use std::alloc::Global;
 
 /// Reads the name of a member, with the description that may stand before it (section 3.2).
@@ -51,21 +53,9 @@ pub(crate) fn read_inputs(
 ) -> Result<InputTrees, Fault>
     ensures reads { Reads (MayOpen opening closing) before_inputs after_inputs (spell_argument_defs node_count) inputs_of cursor.old cursor.new result }
 {
-    let mut inputs = InputTrees::new(alloc);
     if !cursor.next_is(opening) {
-        return Ok(inputs);
+        return Ok(InputTrees::new(alloc));
     }
-    cursor.skip(0)?;
-    if cursor.next_is(closing) {
-        return Err(cursor.fault());
-    }
-    'inputs: loop {
-        let input = read_input(alloc, cursor)?;
-        inputs.push(input)?;
-        if cursor.next_is(closing) {
-            cursor.skip(0)?;
-            inputs.items.shrink_to_fit();
-            return Ok(inputs);
-        }
-    }
+    let items = read_members(alloc, opening, closing, cursor, read_input)?;
+    Ok(InputTrees { items })
 }

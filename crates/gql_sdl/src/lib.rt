@@ -24,8 +24,8 @@ use std::alloc::Global;
 /// Reads a schema: its one tree, with the places of its nodes in text order (GraphQL, October 2021,
 /// section 3; descriptions are passed over).
 ///
-/// The bytes are the text of the file with this number. The first fault of a text is told with its
-/// place; lists and objects nest at most 60 deep, and so do list types. Bytes that are not UTF-8 are
+/// The bytes are the text of the file with this number. The first fault of a text is reported with
+/// its place; lists and objects nest at most 60 deep, and so do list types. Bytes that are not UTF-8 are
 /// reported at the first line and column. NoMemory may come for any text.
 pub fn parse_schema(
     alloc: Global,

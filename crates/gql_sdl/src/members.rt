@@ -13,7 +13,9 @@ use crate::inputs::{read_inputs, read_member_name};
 use crate::words::is_reserved_word;
 use gql_ast::{EnumValue, EnumValues, FieldTree, FieldTrees, Root, Roots};
 use gql_plain::Name;
-use gql_syntax::{Cursor, Fault, expect, kind_of, read_directives, read_name, read_type};
+use gql_syntax::{
+    Cursor, Fault, expect, kind_of, read_directives, read_members, read_name, read_type,
+};
 use std::alloc::Global;
 
 /// Reads the definition of a field.
@@ -38,23 +40,11 @@ fn read_field(alloc: Global, cursor: &mut Cursor<'_>) -> Result<FieldTree, Fault
 pub(crate) fn read_fields(alloc: Global, cursor: &mut Cursor<'_>) -> Result<FieldTrees, Fault>
     ensures reads { Reads NoDirective before_fields behind_fields (spell_fields_part node_count) (map field_of) cursor.old cursor.new result }
 {
-    let mut fields = FieldTrees::new(alloc);
     if !cursor.next_is(b'{') {
-        return Ok(fields);
+        return Ok(FieldTrees::new(alloc));
     }
-    cursor.skip(0)?;
-    if cursor.next_is(b'}') {
-        return Err(cursor.fault());
-    }
-    'fields: loop {
-        let field = read_field(alloc, cursor)?;
-        fields.push(field)?;
-        if cursor.next_is(b'}') {
-            cursor.skip(0)?;
-            fields.items.shrink_to_fit();
-            return Ok(fields);
-        }
-    }
+    let items = read_members(alloc, b'{', b'}', cursor, read_field)?;
+    Ok(FieldTrees { items })
 }
 
 /// Reads the name of a value of an enum after its description.
@@ -101,23 +91,11 @@ fn read_enum_value(alloc: Global, cursor: &mut Cursor<'_>) -> Result<EnumValue, 
 pub(crate) fn read_enum_values(alloc: Global, cursor: &mut Cursor<'_>) -> Result<EnumValues, Fault>
     ensures reads { Reads NoDirective before_values behind_values (spell_enum_values_part node_count) values_of cursor.old cursor.new result }
 {
-    let mut values = EnumValues::new(alloc);
     if !cursor.next_is(b'{') {
-        return Ok(values);
+        return Ok(EnumValues::new(alloc));
     }
-    cursor.skip(0)?;
-    if cursor.next_is(b'}') {
-        return Err(cursor.fault());
-    }
-    'values: loop {
-        let value = read_enum_value(alloc, cursor)?;
-        values.push(value)?;
-        if cursor.next_is(b'}') {
-            cursor.skip(0)?;
-            values.items.shrink_to_fit();
-            return Ok(values);
-        }
-    }
+    let items = read_members(alloc, b'{', b'}', cursor, read_enum_value)?;
+    Ok(EnumValues { items })
 }
 
 /// Reads the object type of the operations of a kind.
@@ -141,21 +119,6 @@ fn read_root(alloc: Global, cursor: &mut Cursor<'_>) -> Result<Root, Fault>
 pub(crate) fn read_roots(alloc: Global, cursor: &mut Cursor<'_>) -> Result<Roots, Fault>
     ensures reads { Reads NoDirective unopened_roots closed_roots (λ (rs : List Root) (ns : List ℕ). 0 ∷ spell_roots node_count rs (0 ∷ ns)) (λ rs. rs) cursor.old cursor.new result }
 {
-    let mut roots = Roots::new(alloc);
-    if !cursor.next_is(b'{') {
-        return Err(cursor.fault());
-    }
-    cursor.skip(0)?;
-    if cursor.next_is(b'}') {
-        return Err(cursor.fault());
-    }
-    'roots: loop {
-        let root = read_root(alloc, cursor)?;
-        roots.push(root)?;
-        if cursor.next_is(b'}') {
-            cursor.skip(0)?;
-            roots.items.shrink_to_fit();
-            return Ok(roots);
-        }
-    }
+    let items = read_members(alloc, b'{', b'}', cursor, read_root)?;
+    Ok(Roots { items })
 }

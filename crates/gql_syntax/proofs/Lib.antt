@@ -9,6 +9,7 @@ pub mod Puncts
 pub mod Laying
 pub mod Spelled
 pub mod Reading
+pub mod Turns
 pub mod Standing
 pub mod Marks
 pub mod ValueLaws

@@ -27,7 +27,7 @@ fault_in file text (Wrong code at) =
     parse.Syntax (record { file = file; line = (place_at text at).line; column = (place_at text at).column; code = code })
 fault_in file text NoMemory = parse.NoMemory
 
--- what is told to be wrong is what is wrong; that there is too little memory may always be told
+-- what is reported as wrong is wrong; that there is too little memory may always be reported
 abbrev pub Tells : {A : Type 0} → Fault → (wanted : Result A Stopped) → Type 0
 Tells (Wrong code at) wanted = wanted ≡ Err (code, at)
 Tells NoMemory wanted = Unit {0}
@@ -37,7 +37,7 @@ abbrev pub Answers : {T A : Type 0} → Result T Fault → (view : T → A) → 
 Answers (Ok t) view rest wanted = wanted ≡ Ok (view t, rest)
 Answers (Err f) view rest wanted = Tells f wanted
 
--- what is wanted did not come, and the fault is told where it should have come
+-- what is wanted did not come, and the fault is reported where it should have come
 abbrev pub Misses : Fault → (missing : Type 0) → Stopped → Type 0
 Misses (Wrong code at) missing where_to = missing × (where_to ≡ (code, at))
 Misses NoMemory missing where_to = Unit {0}

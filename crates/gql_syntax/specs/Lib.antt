@@ -1,6 +1,7 @@
 pub mod Answers
 pub mod Built
 pub mod Codes
+pub mod Enclosed
 pub mod FirstFault
 pub mod Formed
 pub mod Machine
@@ -8,6 +9,7 @@ pub mod Nexts
 pub mod Nodes
 pub mod Parts
 pub mod Places
+pub mod Reads
 pub mod Run
 pub mod Spelling
 pub mod Steps

@@ -33,7 +33,7 @@ pub record FaultAtOffset {V : Type 0} (g : Grammar V) (text : List ℕ) (f : Syn
   pub line : f.line ≡ (place_at text at).line
   pub column : f.column ≡ (place_at text at).column
 
--- the bytes are no text, which is told at the first line and column
+-- the bytes are no text, which is reported at the first line and column
 pub record NoText (bytes : List ℕ) (f : SyntaxFault) : Type 0 where
   pub utf8 : IsUtf8 bytes → ⊥
   pub code : f.code ≡ not_utf8
@@ -44,7 +44,7 @@ pub record NoText (bytes : List ℕ) (f : SyntaxFault) : Type 0 where
 abbrev pub no_text : (file : ℕ) → SyntaxFault
 no_text file = record { file = file; line = 1; column = 1; code = not_utf8 }
 
--- the code of bytes that are no text is told of such bytes, and of no others
+-- the code of bytes that are no text is reported of such bytes, and of no others
 abbrev pub TellsText : {T : Type 0} → List ℕ → Result T ParseFault → Type 0
 TellsText bytes (Ok t) = IsUtf8 bytes
 TellsText bytes (Err NoMemory) = IsUtf8 bytes

@@ -5,6 +5,7 @@
 pub mod arguments;
 pub mod cursor;
 pub mod directives;
+pub mod enclosed;
 pub mod fault;
 pub mod names;
 pub mod types;
@@ -13,6 +14,7 @@ pub mod values;
 pub use arguments::{read_arguments, read_call};
 pub use cursor::Cursor;
 pub use directives::read_directives;
+pub use enclosed::read_members;
 pub use fault::{Fault, text_of};
 pub use names::{expect, expect_word, kind_of, read_name};
 pub use types::{read_type, type_of_text};

@@ -1,12 +1,10 @@
-use Rattle.std.proofs.Common.{◌≡◌, length}
 use Rattle.gql_syntax.specs.Nexts.{token_count}
 use Rattle.gql_parse.proofs.SoFar.{SoFar}
 use Rattle.gql_parse.proofs.read_definitions.Given as goal
 
 abbrev pub invariant-definitions : goal.invariant-definitions
 invariant-definitions l = record {
-  read : SoFar (length l.fn.cursor.text) l.fn.cursor l.cursor l.definitions;
-  same : l.cursor.text ≡ l.fn.cursor.text;
+  reads : SoFar l.fn.cursor l.cursor l.definitions;
 }
 
 abbrev pub decreases-definitions : goal.decreases-definitions

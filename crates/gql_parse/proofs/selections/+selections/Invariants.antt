@@ -1,11 +1,6 @@
-use Rattle.std.proofs.Common.{◌≡◌, ◌≤◌, ◌+◌, ◌*◌, ℕ, List, false, length}
-use Rattle.gql_ast.specs.Sels.{end}
-use Rattle.gql_parse.specs.Documents.{spell_selections}
-use Rattle.gql_parse.specs.Going.{run_on}
-use Rattle.gql_parse.specs.Machine.{Up, set}
-use Rattle.gql_syntax.specs.Answers.{node_count}
+use Rattle.std.proofs.Common.{◌≡◌, ◌+◌, ◌*◌, false}
 use Rattle.gql_syntax.specs.Nexts.{next_is, token_count}
-use Rattle.gql_syntax.specs.Places.{lay}
+use Rattle.gql_parse.proofs.Members.{Selections}
 use Rattle.gql_parse.proofs.selections.+selections.Given as goal
 
 abbrev pub decreases-read_set : goal.decreases-read_set
@@ -31,11 +26,8 @@ decreases-read_selections l = 8 * l.room + 4
 
 abbrev pub invariant-read_selections-selections : goal.invariant-read_selections-selections
 invariant-read_selections-selections l = record {
-  reads : (up : Up) → run_on (length l.fn.cursor.text) (set (record { room = l.room; before = end; up = up })) l.fn.cursor.source ≡ run_on (length l.fn.cursor.text) (set (record { room = l.room; before = l.selections; up = up })) l.cursor.source;
-  places : (level : ℕ) (ns : List ℕ) → lay (spell_selections node_count l.selections level ns) l.fn.cursor ≡ lay ns l.cursor;
+  reads : Selections l.room l.fn.cursor l.cursor l.selections;
   unclosed : next_is 125 l.cursor.source ≡ false;
-  same : l.cursor.text ≡ l.fn.cursor.text;
-  fewer : token_count l.cursor.source ≤ token_count l.fn.cursor.source;
 }
 
 abbrev pub decreases-read_selections-selections : goal.decreases-read_selections-selections
