@@ -1,24 +1,22 @@
 -- The elements at the places of names.
-use Rattle.std.proofs.Common.{◌≡◌, ℕ, ◌+◌, ◌<◌, zero, suc, Bool, true, false, cond, List, [], ◌∷◌, ◌++◌, map, length, take, get_or, Option, Some, None, option_map, is_some, ◌≤◌, bytes_eq, refl, ap, sym, ◌∙◌, arith}
-use Rattle.std.proofs.lemmas.List.{length-map, length-take-le, take_more, map-append}
+use Rattle.std.proofs.Common.{◌≡◌, ℕ, ◌<◌, zero, suc, Bool, true, false, cond, List, [], ◌∷◌, map, length, get_or, Option, Some, None, option_copied, option_map, is_some, bytes_eq, refl, ap, sym, ◌∙◌, arith}
 use Rattle.gql_ast.specs.declared.member.InputTree.{InputTree}
-use Rattle.schema_trees.specs.Located.{Located, InputAt, FieldAt}
-use Rattle.schema_rules.specs.NamedAt.{name_place, field_place, input_place}
-use Rattle.schema_tables.specs.Places.{first_at, first_that, first_place}
-use Rattle.schema_rules.specs.Rules.{field_found, input_found, field_names, input_names}
+use Rattle.schema_trees.specs.Located.{InputAt, FieldAt}
+use Rattle.schema_trees.specs.LocatedView.{input_of, input_text, field_of, field_text}
+use Rattle.schema_trees.specs.declared.located.FieldAt as field_code
+use Rattle.schema_trees.specs.declared.located.InputAt as input_code
+use Rattle.schema_rules.specs.NamedAt.{field_place}
+use Rattle.schema_tables.specs.Indexes.{is_named}
+use Rattle.schema_tables.specs.Places.{first_at, first_that}
+use Rattle.schema_rules.specs.Rules.{field_found, input_found}
 use Rattle.schema_tables.specs.Types.{Text, input_named}
-use Rattle.schema_tables.proofs.Finding.{within, finds, first_at-push}
+use Rattle.schema_tables.proofs.Finding.{first_at-map}
+use denote.Ref.{Bor}
 
 pub get_or_of : {X A : Type 0} (view : X → A) (xs : List X) (i : ℕ) (d : X) → get_or (map view xs) i (view d) ≡ view (get_or xs i d)
 get_or_of view [] i d = refl
 get_or_of view (x ∷ xs) zero d = refl
 get_or_of view (x ∷ xs) (suc i) d = get_or_of view xs i d
-
-pub place_within : {X A : Type 0} (view : X → A) (passes : A → Bool) (xs : List X) (at : ℕ) → first_at passes (map view xs) ≡ Some at → at < length xs
-place_within view passes xs at e = simp length-map at (within passes (map view xs) at e)
-
-pub place_item : {X A : Type 0} (view : X → A) (passes : A → Bool) (xs : List X) (at : ℕ) (x : X) → first_at passes (map view xs) ≡ Some at → x ≡ get_or xs at x → Some (view x) ≡ first_that passes (map view xs)
-place_item view passes xs at x e is = ap (λ (y : _). Some (view y)) is ∙ sym (finds passes (map view xs) at (view x) e ∙ ap Some (get_or_of view xs at x))
 
 pub field_found-first : (fs : List FieldAt) (n : Text) → field_found fs n ≡ first_that (λ (f : FieldAt). bytes_eq f.name.name n) fs
 field_found-first [] n = refl
@@ -31,10 +29,6 @@ input_found-first (i ∷ is) n = ap (cond (bytes_eq i.name.name n) (Some i)) (in
 pub input_named-first : (is : List InputTree) (n : Text) → input_named is n ≡ first_that (λ (i : InputTree). bytes_eq i.name n) is
 input_named-first [] n = refl
 input_named-first (i ∷ is) n = ap (cond (bytes_eq i.name n) (Some i)) (input_named-first is n)
-
-pub first_at-map : {X A : Type 0} (f : X → A) (passes : A → Bool) (xs : List X) → first_at passes (map f xs) ≡ first_at (λ x. passes (f x)) xs
-first_at-map f passes [] = refl
-first_at-map f passes (x ∷ xs) = ap (λ (r : Option ℕ). cond (passes (f x)) (Some 0) (option_map suc r)) (first_at-map f passes xs)
 
 some_place : (r : Option ℕ) → is_some (option_map suc r) ≡ is_some r
 some_place None = refl
@@ -57,30 +51,31 @@ get_or_own (x ∷ xs) (suc i) d h = next_own xs i d (get_or xs i d) (omega arith
   next_own (y ∷ ys) zero a b g = refl
   next_own (y ∷ ys) (suc k) a b g = next_own ys k a b (omega arith)
 
--- one more element of a list is put into an index
-pub place_next : {X A : Type 0} (view : X → A) (passes : A → Bool) (xs : List X) (i : ℕ) (x : X) (at : ℕ) (old new : Option ℕ) → i < length xs → x ≡ get_or xs i x → at ≡ i
-    → old ≡ first_at passes (map view (take i xs)) → new ≡ first_place old (passes (view x)) at → new ≡ first_at passes (map view (take (i + 1) xs))
-place_next {X = X} view passes xs i x at old new h is e o n =
-    let within_list : i ≤ length xs = omega arith in
-    let long : length (map view (take i xs)) ≡ i = simp length-map (length-take-le i xs within_list) in
-    let last : take (i + 1) xs ≡ take i xs ++ get_or xs i x ∷ [] = take_more xs i x h in
-    n ∙ ap (λ (r : Option ℕ). first_place r (passes (view x)) at) o ∙ ap (λ (k : ℕ). first_place (first_at passes (map view (take i xs))) (passes (view x)) k) (e ∙ sym long)
-    ∙ sym (first_at-push passes (map view (take i xs)) (view x)) ∙ ap (first_at passes) (sym (map-append view (take i xs) (x ∷ [])))
-    ∙ ap (λ (y : X). first_at passes (map view (take i xs ++ y ∷ []))) is ∙ ap (λ (ys : List X). first_at passes (map view ys)) (sym last)
+-- the first place among fields with their numbers is that among those of the code
+pub field_places : (fs : List field_code.FieldAt) (n : Text) → first_at (is_named field_text n) fs ≡ field_place (map field_of fs) n
+field_places fs n = sym (first_at-map field_of (λ (f : FieldAt). bytes_eq f.name.name n) fs)
 
--- the same where the elements are seen as they are
-pub place_next_plain : {X : Type 0} (passes : X → Bool) (xs : List X) (i : ℕ) (x : X) (at : ℕ) (old new : Option ℕ) → i < length xs → x ≡ get_or xs i x → at ≡ i
-    → old ≡ first_at passes (take i xs) → new ≡ first_place old (passes x) at → new ≡ first_at passes (take (i + 1) xs)
-place_next_plain {X = X} passes xs i x at old new h is e o n =
-    let within_list : i ≤ length xs = omega arith in
-    let last : take (i + 1) xs ≡ take i xs ++ get_or xs i x ∷ [] = take_more xs i x h in
-    n ∙ ap (λ (r : Option ℕ). first_place r (passes x) at) o ∙ ap (λ (k : ℕ). first_place (first_at passes (take i xs)) (passes x) k) (e ∙ sym (length-take-le i xs within_list))
-    ∙ sym (first_at-push passes (take i xs) x) ∙ ap (λ (y : X). first_at passes (take i xs ++ y ∷ [])) is ∙ ap (first_at passes) (sym last)
+pub ruleset named_places = (field_places)
 
-pub field_names_places : (fs : List FieldAt) (n : Text) → name_place (field_names fs) n ≡ field_place fs n
-field_names_places fs n = first_at-map (λ (f : FieldAt). f.name) (λ (one : Located). bytes_eq one.name n) fs
+first_mapped : {X A : Type 0} (view : X → A) (passes : A → Bool) (xs : List X) → option_map view (first_that (λ x. passes (view x)) xs) ≡ first_that passes (map view xs)
+first_mapped view passes [] = refl
+first_mapped view passes (x ∷ xs) = on (passes (view x)) (first_mapped view passes xs) where
+  on : (b : Bool) → option_map view (first_that (λ y. passes (view y)) xs) ≡ first_that passes (map view xs)
+      → option_map view (cond b (Some x) (first_that (λ y. passes (view y)) xs)) ≡ cond b (Some (view x)) (first_that passes (map view xs))
+  on true e = refl
+  on false e = e
 
-pub input_names_places : (is : List InputAt) (n : Text) → name_place (input_names is) n ≡ input_place is n
-input_names_places is n = first_at-map (λ (i : InputAt). i.name) (λ (one : Located). bytes_eq one.name n) is
+seen : {X A : Type 0} (view : X → A) (o : Option (Bor X)) → option_map (λ (b : Bor X). view b.now) o ≡ option_map view (option_copied o)
+seen view None = refl
+seen view (Some b) = refl
 
-pub ruleset named_places = (field_names_places, input_names_places)
+-- what is found among those of the code is what is found among those with their numbers
+pub field_there : (fs : List field_code.FieldAt) (n : Text) (o : Option (Bor field_code.FieldAt)) → option_copied o ≡ first_that (is_named field_text n) fs
+    → option_map (λ (b : Bor field_code.FieldAt). field_of b.now) o ≡ field_found (map field_of fs) n
+field_there fs n o e =
+    seen field_of o ∙ ap (option_map field_of) e ∙ first_mapped field_of (λ (f : FieldAt). bytes_eq f.name.name n) fs ∙ sym (field_found-first (map field_of fs) n)
+
+pub input_there : (is : List input_code.InputAt) (n : Text) (o : Option (Bor input_code.InputAt)) → option_copied o ≡ first_that (is_named input_text n) is
+    → option_map (λ (b : Bor input_code.InputAt). input_of b.now) o ≡ input_found (map input_of is) n
+input_there is n o e =
+    seen input_of o ∙ ap (option_map input_of) e ∙ first_mapped input_of (λ (i : InputAt). bytes_eq i.name.name n) is ∙ sym (input_found-first (map input_of is) n)

@@ -2,7 +2,6 @@ pub mod SchemaRows
 pub mod FoundAt
 pub mod NeededTypes
 pub mod WantedSteps
-pub mod WantedPlaces
 pub mod SettledSteps
 pub mod RulePlaces
 pub mod InheritedSteps

@@ -11,7 +11,7 @@ use Rattle.schema_rules.specs.declared.fault.Rule.{Rule}
 use Rattle.schema_rules.specs.Checked.{first_fault}
 use Rattle.schema_rules.specs.Rules as rule
 use Rattle.schema_rules.specs.Rules.{each, names_of, wrong, named_at, repeated_names, type_name_of, directive_name_of, fields_in, interfaces_in, union_members_in, enum_values_in, input_fields_in, inputs_in, roots_in, input_names, field_names, root_names, defined_name, has_effect}
-use Rattle.schema_tables.specs.Types.{Text, Defs, type_named, default_root, is_output_kind, is_input_kind, is_empty, built_in_scalars}
+use Rattle.schema_tables.specs.Types.{Text, Defs, type_named, fields_named, default_root, is_output_kind, is_input_kind, is_empty, built_in_scalars}
 use Rattle.schema_trees.proofs.BelowSteps.{IfThere, all_append, all_each, all_map, all_filter, all_filter_map, below_append, below_wrong, below_each, below_every, below_repeats, below_first}
 use Rattle.schema_trees.proofs.NumberLaws.{located_below}
 use Rattle.schema_trees.specs.Located.{Located, InputAt, FieldAt, RootAt, DefAt, schema, scalar, object, interface, union, enum, input, directive, locate}
@@ -297,7 +297,7 @@ module _ (m : ℕ) where
     lacks : (n : Located) (fs : List FieldAt) → NameIn n → AllByRecursion FieldIn fs → (i : Located) → Below m (rule.lacks_of_interface defs n fs i)
     lacks n fs g k i =
         below_every m (λ (wanted : FieldTree). rule.field_differs defs n.at (rule.field_found fs wanted.name) wanted)
-        (λ wanted. field_below defs n.at (rule.field_found fs wanted.name) wanted g (field_found_here fs wanted.name k)) (rule.interface_fields (type_named defs i.name))
+        (λ wanted. field_below defs n.at (rule.field_found fs wanted.name) wanted g (field_found_here fs wanted.name k)) (fields_named (type_named defs i.name))
 
     one : (d : DefAt) → DefBelow m d → Below m (rule.not_implemented_in defs d)
     one (schema at rs) g = tt

@@ -47,24 +47,6 @@ differ m n e = on (bytes_eq n m) refl where
   on true h = absurd (true≢false (sym (ap (bytes_eq m) (same_text n m h) ∙ same_self m) ∙ e))
   on false h = refl
 
-all_push : (n m : Text) (ws : List FieldTree) → AllByRecursion (λ y. bytes_eq n y ≡ false) (names ws) → bytes_eq n m ≡ false → (w : FieldTree) → w.name ≡ m → AllByRecursion (λ y. bytes_eq n y ≡ false) (names (ws ++ w ∷ []))
-all_push n m [] h e w is = (ap (bytes_eq n) is ∙ e, tt)
-all_push n m (v ∷ ws) h e w is = (h.0, all_push n m ws h.1 e w is)
-
-none_before : (r : Option ℕ) → option_map suc r ≡ None → r ≡ None
-none_before None e = refl
-none_before (Some k) e = cc
-
--- one more name that is new
-pub distinct_push : (ws : List FieldTree) (w : FieldTree) → IsDistinct bytes_eq (names ws) → first_at (called w.name) ws ≡ None → IsDistinct bytes_eq (names (ws ++ w ∷ []))
-unfolding IsDistinct
-distinct_push [] w d e = (tt, tt)
-distinct_push (v ∷ ws) w d e = on (distinct_push ws w d.1) (bytes_eq v.name w.name) refl e where
-  on : (first_at (called w.name) ws ≡ None → IsDistinct bytes_eq (names (ws ++ w ∷ []))) → (b : Bool) → bytes_eq v.name w.name ≡ b
-      → cond b (Some 0) (option_map suc (first_at (called w.name) ws)) ≡ None → IsDistinct bytes_eq (names (v ∷ ws ++ w ∷ []))
-  on rest true h f = cc
-  on rest false h f = (all_push v.name w.name ws d.0 h w refl, rest (none_before (first_at (called w.name) ws) f))
-
 -- ---- one more field of the type
 
 module _ (q : FieldAt → FieldTree → List ℕ) where

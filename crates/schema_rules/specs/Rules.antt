@@ -12,7 +12,6 @@ use Rattle.gql_ast.specs.declared.document.Kind.{Kind}
 use Rattle.gql_ast.specs.declared.document.Kind.TheVariants.{Query, Mutation, Subscription}
 use Rattle.gql_ast.specs.declared.member.FieldTree.{FieldTree}
 use Rattle.gql_ast.specs.declared.member.InputTree.{InputTree}
-use Rattle.gql_ast.specs.declared.schema.SchemaDef.{SchemaDef}
 use Rattle.schema_rules.specs.declared.fault.Rule.{Rule}
 use Rattle.schema_rules.specs.declared.fault.Rule.TheVariants as R
 use Rattle.schema_tables.specs.declared.kind.TypeKind.{TypeKind}
@@ -22,7 +21,7 @@ use Rattle.schema_trees.specs.Located.{Located, TypeAt, InputAt, FieldAt, RootAt
 use Rattle.gql_graph.specs.Reached.{any_leads}
 pub use Rattle.gql_graph.specs.Rules.{each, wrong, first_broken}
 pub use Rattle.schema_trees.specs.DefinitionParts.{repeats, repeated_names, names_of, type_name_of, directive_name_of, fields_in, interfaces_in, union_members_in, enum_values_in, input_fields_in, inputs_in, roots_in, input_names, field_names, root_names, defined_name}
-use Rattle.schema_tables.specs.Types.{Text, Defs, built_in_scalars, is_built_in_scalar, type_named, kind_of, is_kind, is_input_kind, is_output_kind, is_object_kind, is_interface_kind, is_composite, base_of, implements, applies, interfaces_named, fields_of, input_named, inputs_of, same_kind, default_root, is_empty}
+use Rattle.schema_tables.specs.Types.{Text, Defs, built_in_scalars, is_built_in_scalar, type_named, kind_of, is_kind, is_input_kind, is_output_kind, is_object_kind, is_interface_kind, is_composite, base_of, implements, applies, interfaces_named, fields_named, input_named, inputs_of, same_kind, default_root, is_empty}
 
 abbrev pub begins_with_underscores : Text → Bool
 begins_with_underscores n = bytes_eq (take 2 n) (codes "__")
@@ -213,13 +212,9 @@ field_differs defs lacks (Some f) wanted =
     wrong (not (is_narrower defs f.of.of (ty_of wanted.of))) f.of.at ++ each (arguments_lack f) wanted.arguments
     ++ each (further_argument wanted.arguments) f.arguments
 
-abbrev pub interface_fields : Option SchemaDef → List FieldTree
-interface_fields None = []
-interface_fields (Some d) = fields_of d
-
 abbrev pub lacks_of_interface : Defs → Located → List FieldAt → Located → List ℕ
 lacks_of_interface defs type fs i =
-    each (λ (wanted : FieldTree). field_differs defs type.at (field_found fs wanted.name) wanted) (interface_fields (type_named defs i.name))
+    each (λ (wanted : FieldTree). field_differs defs type.at (field_found fs wanted.name) wanted) (fields_named (type_named defs i.name))
 
 abbrev pub not_implemented_in : Defs → DefAt → List ℕ
 not_implemented_in defs (object n is fs) = each (lacks_of_interface defs n fs) is

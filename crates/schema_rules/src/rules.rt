@@ -1,6 +1,5 @@
 //! The rules that a schema has to meet.
 pub(crate) mod fields;
-pub(crate) mod index;
 pub(crate) mod inherited;
 pub(crate) mod interfaces;
 pub(crate) mod members;
@@ -8,4 +7,3 @@ pub(crate) mod names;
 pub(crate) mod needs;
 pub(crate) mod roots;
 pub(crate) mod types;
-pub(crate) mod wanted;

@@ -1,5 +1,5 @@
 -- Fields with what is kept of their arguments.
-use Rattle.std.proofs.Common.{◌≡◌, ℕ, zero, suc, ◌+◌, ◌<◌, Bool, true, false, true≢false, cond, List, [], ◌∷◌, ◌++◌, length, map, get_or, take, slice_get, Option, Some, None, option_map, bytes_eq, refl, ap, sym, subst, ◌∙◌, length-append, arith}
+use Rattle.std.proofs.Common.{◌≡◌, ℕ, zero, suc, ◌<◌, Bool, true, false, true≢false, cond, List, [], ◌∷◌, ◌++◌, length, get_or, slice_get, Option, Some, None, option_map, bytes_eq, refl, ap, sym, subst, ◌∙◌, arith}
 use Rattle.gql_ast.specs.declared.member.FieldTree.{FieldTree}
 use Rattle.gql_ast.specs.declared.member.InputTree.{InputTree}
 use Rattle.gql_plain.proofs.InOrder.{AreInOrder-none}
@@ -96,7 +96,7 @@ arguments_placed fs ks ps at f k p are low here is some there = on (slice_get ps
 
 -- ---- fields by their names
 
-named_first : (fs : List FieldTree) (n : Text) → field_named fs n ≡ first_that (is_field_named n) fs
+pub named_first : (fs : List FieldTree) (n : Text) → field_named fs n ≡ first_that (is_field_named n) fs
 named_first [] n = refl
 named_first (f ∷ fs) n = ap (cond (bytes_eq f.name n) (Some f)) (named_first fs n)
 

@@ -64,6 +64,10 @@ first_at-push passes (y ∷ ys) x = on (first_at-push passes ys x) (passes y)
     on rest true = refl
     on rest false = ap (option_map suc) rest ∙ placed_suc (first_at passes ys) (passes x) (length ys)
 
+pub first_at-map : {X A : Type 0} (f : X → A) (passes : A → Bool) (xs : List X) → first_at passes (map f xs) ≡ first_at (λ x. passes (f x)) xs
+first_at-map f passes [] = refl
+first_at-map f passes (x ∷ xs) = ap (λ (r : Option ℕ). cond (passes (f x)) (Some 0) (option_map suc r)) (first_at-map f passes xs)
+
 -- the same, where the elements are kept in another form
 pub kept_within : {X Y : Type 0} (form : X → Y) (passes : X → Bool) (xs : List X) (at : ℕ) → first_at passes xs ≡ Some at → at < length (map form xs)
 kept_within form passes xs at e = let low = within passes xs at e in omega (arith, length-map xs form)

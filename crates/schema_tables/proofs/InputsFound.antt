@@ -1,15 +1,14 @@
 -- Inputs by their names, and how many have to be given, from the places of their names.
-use Rattle.std.proofs.Common.{◌≡◌, ℕ, zero, suc, ◌<◌, Bool, true, false, cond, ◌&&◌, ◌||◌, List, [], ◌∷◌, ◌++◌, length, map, get_or, Option, Some, None, option_map, is_some, bytes_eq, refl, ap, sym, ◌∙◌, arith}
+use Rattle.std.proofs.Common.{◌≡◌, ℕ, suc, Bool, true, false, cond, ◌&&◌, ◌||◌, List, [], ◌∷◌, ◌++◌, length, map, get_or, Option, Some, None, option_map, is_some, bytes_eq, refl, ap, sym, ◌∙◌}
 use Rattle.std.proofs.lemmas.List.{length-map}
-use Rattle.std.specs.List.{list_any}
 use Rattle.gql_ast.specs.declared.member.InputTree.{InputTree}
 use Rattle.gql_graph.specs.Rules.{each}
 use Rattle.gql_plain.proofs.SortedTexts.{same_texts, AreInOrder-sorted_texts, has_text-sorted_texts}
-use Rattle.gql_plain.specs.Order.{has_text, sorted_texts}
+use Rattle.gql_plain.specs.Order.{has_text}
 use Rattle.schema_tables.proofs.Finding.{finds, missing}
 use Rattle.schema_tables.specs.Indexes.{name_at, place_of}
 use Rattle.schema_tables.specs.InputPlaces.{ArePlaced, input_name, is_named, is_needed}
-use Rattle.schema_tables.specs.Inputs.{input_among, is_input, must_be_given}
+use Rattle.schema_tables.specs.Inputs.{input_among, must_be_given}
 use Rattle.schema_tables.specs.Places.{first_at, first_that}
 use Rattle.schema_tables.specs.Required.{required_name, required_names}
 use Rattle.schema_tables.specs.Types.{Text, input_def}
@@ -49,7 +48,7 @@ has_needed (i ∷ is) n = on (must_be_given (input_def i)) (later_there (first_a
     on true rest = named (bytes_eq i.name n) rest
     on false rest = rest
 
-names_there : {X : Type 0} (name : X → Text) (xs : List X) (places : List ℕ) (n : Text) → has_text (map (name_at name xs) places) n ≡ is_some (place_of name xs places n)
+pub names_there : {X : Type 0} (name : X → Text) (xs : List X) (places : List ℕ) (n : Text) → has_text (map (name_at name xs) places) n ≡ is_some (place_of name xs places n)
 names_there name xs [] n = refl
 names_there name xs (at ∷ places) n = on (names_there name xs places n) (bytes_eq (name_at name xs at) n)
   where

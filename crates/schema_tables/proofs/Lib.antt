@@ -9,3 +9,4 @@ pub mod Naming
 pub mod InputsFound
 pub mod FieldsFound
 pub mod PartsFound
+pub mod NamesDiffer

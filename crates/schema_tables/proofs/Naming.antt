@@ -1,30 +1,22 @@
 -- What passes the test of a name has this name.
-use Rattle.std.proofs.Common.{◌≡◌, true, false, true≢false, sym, bytes_eq}
+use Rattle.std.proofs.Common.{◌≡◌, true, true≢false, sym, bytes_eq}
 use Rattle.std.proofs.lemmas.Slice.Eq.{bytes_eq-Decides}
-use Rattle.gql_ast.specs.declared.member.FieldTree.{FieldTree}
 use Rattle.gql_ast.specs.declared.member.InputTree.{InputTree}
 use Rattle.gql_ast.specs.declared.schema.SchemaDef.{SchemaDef}
 use Rattle.gql_ast.specs.declared.schema.SchemaDef.TheVariants as S
 use Rattle.schema_tables.proofs.Counting.{and_right}
-use Rattle.schema_tables.specs.Indexes.{definition_name}
-use Rattle.schema_tables.specs.InputPlaces.{input_name, is_named, is_needed}
+use Rattle.schema_tables.specs.Indexes.{definition_name, is_named}
+use Rattle.schema_tables.specs.InputPlaces.{input_name, is_needed}
 use Rattle.schema_tables.specs.Inputs.{must_be_given}
 use Rattle.schema_tables.specs.Objects.{names_object}
 use Rattle.schema_tables.specs.Parts.{is_type, is_directive}
-use Rattle.schema_tables.specs.TableParts.{field_name, is_field_named, is_text, own_name}
 use Rattle.schema_tables.specs.Types.{Text, input_def}
 
 same : (m n : Text) → bytes_eq m n ≡ true → m ≡ n
 same m n e = (bytes_eq-Decides m n).0 e
 
-pub text_named : (n m : Text) → is_text n m ≡ true → own_name m ≡ n
-text_named n m e = same m n e
-
-pub field_named : (n : Text) (f : FieldTree) → is_field_named n f ≡ true → field_name f ≡ n
-field_named n f e = same f.name n e
-
-pub input_named : (n : Text) (i : InputTree) → is_named n i ≡ true → input_name i ≡ n
-input_named n i e = same i.name n e
+pub has_that_name : {X : Type 0} (name : X → Text) (n : Text) (x : X) → is_named name n x ≡ true → name x ≡ n
+has_that_name name n x e = same (name x) n e
 
 pub needed_named : (n : Text) (i : InputTree) → is_needed n i ≡ true → input_name i ≡ n
 needed_named n i e = same i.name n (and_right (must_be_given (input_def i)) (bytes_eq i.name n) e)

@@ -2,10 +2,22 @@
 use Rattle.std.specs.Prelude.{◌≡◌, ℕ, Bool, List, [], map, Option, Some, None, option_map, slice_get, bytes_eq}
 use Rattle.gql_plain.specs.Order.{AreInOrder}
 use Rattle.gql_graph.specs.Texts.{Text}
+use Rattle.gql_ast.specs.declared.member.FieldTree.{FieldTree}
+use Rattle.gql_ast.specs.declared.member.InputTree.{InputTree}
 use Rattle.gql_ast.specs.declared.schema.SchemaDef.{SchemaDef}
 use Rattle.gql_ast.specs.declared.schema.SchemaDef.TheVariants as S
+use Rattle.schema_tables.specs.declared.index.Index.{Index}
 use Rattle.schema_tables.specs.declared.index.NamePlace.{NamePlace}
 use Rattle.schema_tables.specs.Places.{first_at, first_that}
+
+abbrev pub own_name : Text → Text
+own_name n = n
+
+abbrev pub field_name : FieldTree → Text
+field_name f = f.name
+
+abbrev pub input_name : InputTree → Text
+input_name i = i.name
 
 -- the name of a definition; a `schema` definition has none
 abbrev pub definition_name : SchemaDef → Text
@@ -49,3 +61,11 @@ place_of name xs places n = first_that (λ at. bytes_eq (name_at name xs at) n) 
 pub record IsIndexOf {X : Type 0} (name : X → Text) (passes : Text → X → Bool) (xs : List X) (places : List ℕ) : Type 0 where
   pub in_order : AreInOrder (map (name_at name xs) places)
   pub finds : (n : Text) → place_of name xs places n ≡ first_at (passes n) xs
+
+-- whether it has that name
+abbrev pub is_named : {X : Type 0} → (X → Text) → Text → X → Bool
+is_named name n x = bytes_eq (name x) n
+
+-- the places are those of the first element of each name
+abbrev pub IsNameIndex : {X : Type 0} → (X → Text) → List X → Index → Type 0
+IsNameIndex name xs index = IsIndexOf name (is_named name) xs index.places.items

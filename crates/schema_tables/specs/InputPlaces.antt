@@ -3,11 +3,9 @@ use Rattle.std.specs.Prelude.{ℕ, Bool, ◌&&◌, List, bytes_eq}
 use Rattle.gql_ast.specs.declared.member.InputTree.{InputTree}
 use Rattle.gql_graph.specs.Texts.{Text}
 use Rattle.schema_tables.specs.Indexes.{IsIndexOf}
+pub use Rattle.schema_tables.specs.Indexes.{input_name}
 use Rattle.schema_tables.specs.Inputs.{must_be_given}
 use Rattle.schema_tables.specs.Types.{input_def}
-
-abbrev pub input_name : InputTree → Text
-input_name i = i.name
 
 abbrev pub is_named : Text → InputTree → Bool
 is_named n i = bytes_eq i.name n

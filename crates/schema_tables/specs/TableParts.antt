@@ -11,17 +11,12 @@ use Rattle.schema_tables.specs.declared.part.Part.{Part}
 use Rattle.schema_tables.specs.declared.part.Part.TheVariants as P
 use Rattle.schema_tables.specs.declared.places.InputPlaces as kept
 use Rattle.schema_tables.specs.Indexes.{IsIndexOf}
+pub use Rattle.schema_tables.specs.Indexes.{field_name, own_name}
 use Rattle.schema_tables.specs.InputPlaces.{ArePlaced}
 use Rattle.schema_tables.specs.Types.{Text, Defs, is_empty}
 
-abbrev pub field_name : FieldTree → Text
-field_name f = f.name
-
 abbrev pub is_field_named : Text → FieldTree → Bool
 is_field_named n f = bytes_eq f.name n
-
-abbrev pub own_name : Text → Text
-own_name n = n
 
 abbrev pub is_text : Text → Text → Bool
 is_text n m = bytes_eq m n

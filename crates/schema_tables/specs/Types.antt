@@ -115,6 +115,10 @@ fields_of (S.Object n is ds fs) = fs
 fields_of (S.Interface n is ds fs) = fs
 fields_of d = []
 
+abbrev pub fields_named : Option SchemaDef → List FieldTree
+fields_named None = []
+fields_named (Some d) = fields_of d
+
 abbrev pub field_named : List FieldTree → Text → Option FieldTree
 field_named [] n = None
 field_named (f ∷ fs) n = cond (bytes_eq f.name n) (Some f) (field_named fs n)

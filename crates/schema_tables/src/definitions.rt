@@ -1,9 +1,11 @@
 //! What a schema says of fields, inputs and directives, as views of its trees.
-ghost use Rattle.std.specs.Prelude.{◌≡◌, length, map};
+ghost use Rattle.std.specs.Prelude.{◌≡◌, [], length, map, option_copied, bytes_eq, Decides};
+ghost use Rattle.std.specs.List.{IsDistinct};
 ghost use Rattle.gql_plain.specs.Order.{has_text};
+ghost use Rattle.schema_tables.specs.Indexes.{field_name};
 ghost use Rattle.schema_tables.specs.Inputs.{input_among, must_be_given};
 ghost use Rattle.schema_tables.specs.Required.{required_names};
-ghost use Rattle.schema_tables.specs.Types.{input_def};
+ghost use Rattle.schema_tables.specs.Types.{field_named, input_def};
 
 use crate::index::find_place;
 use crate::type_forms::is_non_null;
@@ -170,6 +172,66 @@ impl<'a> FieldDef<'a> {
         ensures { result.now ≡ self.now.of }
     {
         &self.tree.of
+    }
+}
+
+/// The fields of a type in written order, which are found by their names.
+#[derive(Drop)]
+pub struct TypeFields<'a> {
+    pub(crate) trees: &'a [FieldTree],
+    pub(crate) names: &'a [usize],
+}
+
+impl<'a> Model for TypeFields<'a> {
+    ghost use Rattle.std.specs.Prelude.{List};
+    ghost use Rattle.std.specs.Coded.{coded_list};
+    ghost use Rattle.gql_ast.specs.contracts.member.FieldTree as field_row;
+    ghost use Rattle.gql_ast.specs.declared.member.FieldTree.{FieldTree};
+    ghost use Rattle.schema_tables.specs.Indexes.{IsIndexOf, field_name, is_named};
+
+    ghost Value = { List FieldTree };
+
+    ghost coded = { coded_list field_row.the_row.coded };
+
+    ghost view = { λ t. t.trees.now };
+
+    ghost invariant = { λ t. IsIndexOf field_name (is_named field_name) t.trees.now t.names.now };
+}
+
+impl<'a> TypeFields<'a> {
+    /// No field.
+    pub(crate) fn none() -> TypeFields<'a>
+        ensures { result ≡ [] }
+    {
+        TypeFields {
+            trees: &[],
+            names: &[],
+        }
+    }
+
+    /// The trees of the fields in written order.
+    pub fn items(&self) -> &'a [FieldTree]
+        ensures { result.now ≡ self.now }
+    {
+        self.trees
+    }
+
+    /// The first field of a name; takes no memory.
+    pub fn find(&self, name: &str) -> Option<&'a FieldTree>
+        ensures { option_copied result ≡ field_named self.now name.now }
+    {
+        let trees = self.trees;
+        match find_place(trees, self.names, name) {
+            Some(at) => Some(&trees[at]),
+            None => None,
+        }
+    }
+
+    /// Whether their names differ; looks at none of them.
+    pub fn differ(&self) -> bool
+        ensures { Decides result (IsDistinct bytes_eq (map field_name self.now)) }
+    {
+        self.names.len() == self.trees.len()
     }
 }
 

@@ -5,7 +5,7 @@ ghost use Rattle.schema_tables.specs.Types.{field_def, field_named};
 
 use crate::definitions::FieldDef;
 use crate::index::{Index, find_place};
-use crate::places::{InputPlaces, places_of_fields, places_of_inputs};
+use crate::places::{InputPlaces, places_of_inputs};
 use gql_ast::FieldTree;
 use gql_plain::NoMemory;
 use std::alloc::Global;
@@ -24,7 +24,7 @@ impl FieldTable {
     pub(crate) fn new(alloc: Global, fields: &[FieldTree]) -> Result<FieldTable, NoMemory>
         ensures { IfOk result (IsFieldTable fields.now) }
     {
-        let names = places_of_fields(alloc, fields)?;
+        let names = Index::new(alloc, fields)?;
         let mut kept = Vec::with_capacity(alloc, fields.len())?;
         let mut arguments = Vec::with_capacity(alloc, count_with_arguments(fields))?;
         'fields: for field in fields {

@@ -6,10 +6,10 @@ ghost use Rattle.schema_tables.specs.BuiltIn.{defined_directive};
 ghost use Rattle.schema_tables.specs.TableParts.{AreFields, AreParts, IsPartOf};
 ghost use Rattle.schema_tables.specs.Types as types;
 
-use crate::definitions::{DirectiveDef, FieldDef, InputDefs};
+use crate::definitions::{DirectiveDef, FieldDef, InputDefs, TypeFields};
 use crate::index::{Index, find_place};
 use crate::members::FieldTable;
-use crate::places::{InputPlaces, places_of_inputs, places_of_names};
+use crate::places::{InputPlaces, places_of_inputs};
 use gql_ast::{EnumValue, FieldTree, SchemaDef};
 use gql_plain::{Ids, Name, NoMemory};
 use std::alloc::Global;
@@ -50,7 +50,7 @@ pub(crate) fn part_of_definition(alloc: Global, definition: &SchemaDef) -> Resul
             ..
         } => part_of_fields(alloc, implements.as_slice(), fields.as_slice()),
         SchemaDef::Union { members, .. } => {
-            Ok(Part::Members(places_of_names(alloc, members.as_slice())?))
+            Ok(Part::Members(Index::new(alloc, members.as_slice())?))
         }
         SchemaDef::Enum { values, .. } => {
             Ok(Part::Values(sorted_values(alloc, values.as_slice())?))
@@ -73,7 +73,7 @@ fn part_of_fields(
     ensures { IfOk result (AreFields implements.now fields.now) }
 {
     Ok(Part::Fields {
-        interfaces: places_of_names(alloc, implements)?,
+        interfaces: Index::new(alloc, implements)?,
         fields: FieldTable::new(alloc, fields)?,
     })
 }
@@ -112,6 +112,20 @@ pub(crate) fn field_in<'a>(
     match part {
         Part::Fields { fields, .. } => fields.find(fields_of(definition), name),
         _ => None,
+    }
+}
+
+/// The fields that a definition has, which are found by their names.
+pub(crate) fn fields_in<'a>(definition: &'a SchemaDef, part: &'a Part) -> TypeFields<'a>
+    requires { IsPartOf definition.now part.now }
+    ensures { result ≡ types.fields_of definition.now }
+{
+    match part {
+        Part::Fields { fields, .. } => TypeFields {
+            trees: fields_of(definition),
+            names: &fields.names.places,
+        },
+        _ => TypeFields::none(),
     }
 }
 

@@ -1,40 +1,17 @@
 //! The places of names, from trees.
-ghost use Rattle.std.specs.Prelude.{◌≡◌, ℕ, List, IfOk, OnOk, is_some, map, bytes_eq};
+ghost use Rattle.std.specs.Prelude.{◌≡◌, ℕ, List, IfOk, OnOk, is_some, map};
 ghost use Rattle.schema_tables.specs.Indexes.{IsIndexOf, definition_name, pair_of, place_among};
-ghost use Rattle.schema_tables.specs.InputPlaces.{ArePlaced, is_needed, is_named, input_name};
+ghost use Rattle.schema_tables.specs.InputPlaces.{ArePlaced, is_needed, input_name};
 ghost use Rattle.schema_tables.specs.Objects.{names_object};
 ghost use Rattle.schema_tables.specs.Parts.{is_type, is_directive};
 ghost use Rattle.schema_tables.specs.Places.{first_at, first_place};
-ghost use Rattle.schema_tables.specs.TableParts.{field_name, is_field_named, is_text, own_name};
 
 use crate::definitions::is_required;
-use crate::index::{Index, NamePlace, find_place};
+use crate::index::{Index, NamePlace, find_place, put};
 use crate::tables::type_name;
-use gql_ast::{FieldTree, InputTree, SchemaDef};
-use gql_plain::{Name, NoMemory};
+use gql_ast::{InputTree, SchemaDef};
+use gql_plain::NoMemory;
 use std::alloc::Global;
-
-/// The places of names.
-pub(crate) fn places_of_names(alloc: Global, names: &[Name]) -> Result<Index, NoMemory>
-    ensures { IfOk result (λ index. IsIndexOf own_name is_text names.now index.places.items) }
-{
-    let mut pairs = Vec::with_capacity(alloc, names.len())?;
-    'names: for (at, name) in names.iter().enumerate() {
-        put(&mut pairs, name.as_str(), at)?;
-    }
-    Index::sorted(alloc, pairs)
-}
-
-/// The places of fields.
-pub(crate) fn places_of_fields(alloc: Global, fields: &[FieldTree]) -> Result<Index, NoMemory>
-    ensures { IfOk result (λ index. IsIndexOf field_name is_field_named fields.now index.places.items) }
-{
-    let mut pairs = Vec::with_capacity(alloc, fields.len())?;
-    'fields: for (at, field) in fields.iter().enumerate() {
-        put(&mut pairs, field.name.as_str(), at)?;
-    }
-    Index::sorted(alloc, pairs)
-}
 
 /// The places of the names of inputs, and of those that have to be given.
 #[derive(Debug, Drop)]
@@ -47,20 +24,9 @@ pub(crate) struct InputPlaces {
 pub(crate) fn places_of_inputs(alloc: Global, inputs: &[InputTree]) -> Result<InputPlaces, NoMemory>
     ensures { IfOk result (λ p. ArePlaced inputs.now p.names.places.items p.required.places.items) }
 {
-    let names = places_of_all(alloc, inputs)?;
+    let names = Index::new(alloc, inputs)?;
     let required = places_of_required(alloc, inputs)?;
     Ok(InputPlaces { names, required })
-}
-
-/// The places of the names of inputs.
-fn places_of_all(alloc: Global, inputs: &[InputTree]) -> Result<Index, NoMemory>
-    ensures { IfOk result (λ index. IsIndexOf input_name is_named inputs.now index.places.items) }
-{
-    let mut pairs = Vec::with_capacity(alloc, inputs.len())?;
-    'inputs: for (at, input) in inputs.iter().enumerate() {
-        put(&mut pairs, input.name.as_str(), at)?;
-    }
-    Index::sorted(alloc, pairs)
 }
 
 /// The places of the names of inputs that have to be given.
@@ -87,15 +53,6 @@ fn put_required<'a>(
         return Ok(());
     }
     put(pairs, input.name.as_str(), at)
-}
-
-/// Puts a name with its place.
-fn put<'a>(pairs: &mut Vec<NamePlace<'a>>, name: &'a str, at: usize) -> Result<(), NoMemory>
-    ensures { OnOk result ((n : List ℕ) → place_among (map pair_of pairs.new.items) n
-        ≡ first_place (place_among (map pair_of pairs.old.items) n) (bytes_eq name.now n) at) }
-{
-    pairs.push(NamePlace { name, at })?;
-    Ok(())
 }
 
 /// The places of the types.

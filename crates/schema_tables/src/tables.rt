@@ -11,11 +11,12 @@ ghost use Rattle.schema_tables.specs.Places.{first_at};
 
 use crate::building::place_of_schema;
 use crate::built_in::built_in_directives;
-use crate::definitions::{DirectiveDef, FieldDef, InputDef, InputDefs};
+use crate::definitions::{DirectiveDef, FieldDef, InputDef, InputDefs, TypeFields};
 use crate::index::Index;
 use crate::kind::TypeKind;
 use crate::part::{
-    Part, directive_in, field_in, holds_in, implements_in, inputs_in, parts_of, values_in,
+    Part, directive_in, field_in, fields_in, holds_in, implements_in, inputs_in, interfaces_of,
+    parts_of, values_in,
 };
 use crate::places::{find_directive, find_type, places_of_directives, places_of_types};
 use crate::possible::possible_of;
@@ -140,6 +141,27 @@ impl Tables {
         match self.entry(of) {
             Some(entry) => field_in(entry.definition, entry.part, name),
             None => None,
+        }
+    }
+
+    /// The fields of an object or an interface, which are found by their names; of another type
+    /// none.
+    pub fn fields(&self, of: &str) -> TypeFields<'_>
+        ensures { result ≡ types.fields_named (types.type_named self.now of.now) }
+    {
+        match self.entry(of) {
+            Some(entry) => fields_in(entry.definition, entry.part),
+            None => TypeFields::none(),
+        }
+    }
+
+    /// The interfaces that a type says it implements.
+    pub fn interfaces(&self, of: &str) -> &[Name]
+        ensures { result.now ≡ types.interfaces_named (types.type_named self.now of.now) }
+    {
+        match self.definition(of) {
+            Some(definition) => interfaces_of(definition),
+            None => &[],
         }
     }
 

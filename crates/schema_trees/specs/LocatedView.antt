@@ -1,6 +1,7 @@
 -- What the located definitions of the code stand for.
 use Rattle.std.specs.Prelude.{map}
 use Rattle.gql_ast.specs.TypeView.{ty_of}
+use Rattle.gql_graph.specs.Texts.{Text}
 use Rattle.schema_trees.specs.Located.{Located, default_of, schema, scalar, object, interface, union, enum, input, directive}
 use Rattle.schema_trees.specs.Located as spec
 use Rattle.schema_trees.specs.declared.located.NameAt.{NameAt}
@@ -22,6 +23,13 @@ input_of i = record { name = name_of i.name; of = type_of i.of; default = defaul
 
 abbrev pub field_of : FieldAt → spec.FieldAt
 field_of f = record { name = name_of f.name; arguments = map input_of f.arguments.items; of = type_of f.of }
+
+-- the names
+abbrev pub input_text : InputAt → Text
+input_text i = i.name.name.now
+
+abbrev pub field_text : FieldAt → Text
+field_text f = f.name.name.now
 
 abbrev pub root_of : RootAt → spec.RootAt
 root_of r = record { kind = r.kind; name = name_of r.name }

@@ -3,5 +3,6 @@
 #![tactic(auto)]
 
 pub mod located;
+mod named;
 pub mod parts_at;
 pub mod repeats;

@@ -3,33 +3,30 @@
 //! further required argument. `interface N { id: ID } type A implements N { x: Int }` breaks it at
 //! `A`.
 ghost use Rattle.std.specs.Prelude.{◌≡◌, ◌==◌, [], ◌∷◌, IsTrue, ◌&&◌, not, cond, map, length, count_by, bytes_eq, List, Some, None, IfOk, OnOk, option_map, option_and_then, option_copied, is_some};
-ghost use Rattle.std.specs.BTreeMap.{get_by_text};
 ghost use Rattle.std.specs.List.{AllByRecursion, IsDistinct};
-ghost use Rattle.std.specs.Option.{IfSome, option_to_list};
+ghost use Rattle.std.specs.Option.{option_to_list};
 ghost use Rattle.gql_ast.specs.declared.member.FieldTree.{FieldTree};
 ghost use Rattle.gql_ast.specs.declared.member.InputTree.{InputTree};
 ghost use Rattle.gql_ast.specs.TypeView.{ty_of};
 ghost use Rattle.gql_graph.specs.Leasts.{least_from};
 ghost use Rattle.schema_trees.specs.Located as located;
-ghost use Rattle.schema_trees.specs.LocatedView.{name_of, input_of, field_of, def_of};
-ghost use Rattle.schema_rules.specs.NamedAt.{name_place, field_place, input_place, wanted_place};
+ghost use Rattle.schema_trees.specs.LocatedView.{name_of, input_of, input_text, field_of, field_text, def_of};
+ghost use Rattle.schema_rules.specs.NamedAt.{field_place};
 ghost use Rattle.schema_rules.specs.Rules as rules;
-ghost use Rattle.schema_tables.specs.Places.{first_at};
+ghost use Rattle.schema_tables.specs.Indexes.{IsNameIndex, input_name};
 ghost use Rattle.schema_tables.specs.Types as types;
 
-use crate::rules::index::Index;
 use crate::rules::interfaces::is_interface;
 use crate::rules::members::is_object;
-use crate::rules::names::{field_names, input_names};
-use crate::rules::wanted::{field_wanted, fields_wanted, wanted_places};
 use gql_ast::{FieldTree, InputTree, TypeTree};
 use gql_graph::least::Least;
 use gql_plain::NoMemory;
+use schema_tables::definitions::TypeFields;
+use schema_tables::index::Index;
 use schema_tables::tables::Tables;
 use schema_tables::type_forms::is_non_null;
 use schema_trees::located::{DefAt, FieldAt, InputAt, NameAt};
 use std::alloc::Global;
-use std::collections::BTreeMap;
 
 /// S8: a type has each field of its interfaces, of the same type or a narrower one; it has each
 /// argument with the same type, and further arguments are not required (GraphQL, October 2021,
@@ -42,9 +39,8 @@ pub(crate) fn interfaces_not_implemented(
 ) -> Result<(), NoMemory>
     ensures { OnOk result (least.new.at ≡ least_from least.old.at (rules.interfaces_not_implemented tables.now (map def_of definitions.now))) }
 {
-    let wanted = wanted_places(alloc, tables, definitions)?;
     'definitions: for definition in definitions {
-        note_not_implemented(alloc, tables, &wanted, least, definition)?;
+        note_not_implemented(alloc, tables, least, definition)?;
     }
     Ok(())
 }
@@ -53,13 +49,9 @@ pub(crate) fn interfaces_not_implemented(
 fn note_not_implemented(
     alloc: Global,
     tables: &Tables,
-    wanted: &BTreeMap<String, Index>,
     least: &mut Least,
     definition: &DefAt<'_>,
 ) -> Result<(), NoMemory>
-    requires { (n : types.Text) → IfSome (get_by_text wanted.now n) (λ index.
-        IsDistinct bytes_eq (map (λ (w : FieldTree). w.name) (rules.interface_fields (types.type_named tables.now n)))
-        × ((m : types.Text) → get_by_text index.places m ≡ first_at (λ (w : FieldTree). bytes_eq w.name m) (rules.interface_fields (types.type_named tables.now n)))) }
     ensures { OnOk result (least.new.at ≡ least_from least.old.at (rules.not_implemented_in tables.now (def_of definition.now))) }
 {
     match definition {
@@ -67,12 +59,12 @@ fn note_not_implemented(
             name,
             interfaces,
             fields,
-        } => note_lacks(alloc, tables, wanted, least, name, fields, interfaces),
+        } => note_lacks(alloc, tables, least, name, fields, interfaces),
         DefAt::Interface {
             name,
             interfaces,
             fields,
-        } => note_lacks(alloc, tables, wanted, least, name, fields, interfaces),
+        } => note_lacks(alloc, tables, least, name, fields, interfaces),
         DefAt::Schema { .. } => Ok(()),
         DefAt::Scalar { .. } => Ok(()),
         DefAt::Union { .. } => Ok(()),
@@ -86,55 +78,39 @@ fn note_not_implemented(
 fn note_lacks(
     alloc: Global,
     tables: &Tables,
-    wanted: &BTreeMap<String, Index>,
     least: &mut Least,
     name: &NameAt<'_>,
     fields: &[FieldAt<'_>],
     interfaces: &[NameAt<'_>],
 ) -> Result<(), NoMemory>
-    requires { (n : types.Text) → IfSome (get_by_text wanted.now n) (λ index.
-        IsDistinct bytes_eq (map (λ (w : FieldTree). w.name) (rules.interface_fields (types.type_named tables.now n)))
-        × ((m : types.Text) → get_by_text index.places m ≡ first_at (λ (w : FieldTree). bytes_eq w.name m) (rules.interface_fields (types.type_named tables.now n)))) }
     ensures { OnOk result (least.new.at ≡ least_from least.old.at (rules.each (rules.lacks_of_interface tables.now (name_of name.now) (map field_of fields.now)) (map name_of interfaces.now))) }
 {
-    let places = places_of_fields(alloc, fields)?;
+    let places = Index::new(alloc, fields)?;
     'interfaces: for interface in interfaces {
-        note_interface(
-            alloc,
-            tables,
-            wanted,
-            least,
-            name,
-            fields,
-            &places,
-            interface.name,
-        )?;
+        note_interface(alloc, tables, least, name, fields, &places, interface.name)?;
     }
     Ok(())
 }
 
-/// What a type lacks of an interface. It is looked up by the names of the type's fields, where the
-/// interface has its places, and else by those of the interface.
+/// What a type lacks of an interface. It is looked up by the names of the type's fields, where those
+/// of the interface differ, and else by the interface's.
 fn note_interface(
     alloc: Global,
     tables: &Tables,
-    wanted: &BTreeMap<String, Index>,
     least: &mut Least,
     name: &NameAt<'_>,
     fields: &[FieldAt<'_>],
     places: &Index,
     interface: &str,
 ) -> Result<(), NoMemory>
-    requires wanted { (n : types.Text) → IfSome (get_by_text wanted.now n) (λ index.
-        IsDistinct bytes_eq (map (λ (w : FieldTree). w.name) (rules.interface_fields (types.type_named tables.now n)))
-        × ((m : types.Text) → get_by_text index.places m ≡ first_at (λ (w : FieldTree). bytes_eq w.name m) (rules.interface_fields (types.type_named tables.now n)))) }
-    requires places { (n : types.Text) → get_by_text places.now.places n ≡ field_place (map field_of fields.now) n }
-    ensures { OnOk result (least.new.at ≡ least_from least.old.at (rules.each (λ w. rules.field_differs tables.now name.now.at (rules.field_found (map field_of fields.now) w.name) w) (rules.interface_fields (types.type_named tables.now interface.now)))) }
+    requires { IsNameIndex field_text fields.now places.now }
+    ensures { OnOk result (least.new.at ≡ least_from least.old.at (rules.each (λ w. rules.field_differs tables.now name.now.at (rules.field_found (map field_of fields.now) w.name) w) (types.fields_named (types.type_named tables.now interface.now)))) }
 {
-    let due = fields_wanted(tables, interface);
-    match wanted.get(interface) {
-        Some(index) => note_by_name(alloc, tables, least, name, fields, places, due, index),
-        None => note_differences(alloc, tables, least, name, fields, places, due),
+    let wanted = tables.fields(interface);
+    if wanted.differ() {
+        note_by_name(alloc, tables, least, name, fields, places, &wanted)
+    } else {
+        note_differences(alloc, tables, least, name, fields, places, wanted.items())
     }
 }
 
@@ -147,16 +123,14 @@ fn note_by_name(
     name: &NameAt<'_>,
     fields: &[FieldAt<'_>],
     places: &Index,
-    wanted: &[FieldTree],
-    index: &Index,
+    wanted: &TypeFields<'_>,
 ) -> Result<(), NoMemory>
-    requires places { (n : types.Text) → get_by_text places.now.places n ≡ field_place (map field_of fields.now) n }
+    requires places { IsNameIndex field_text fields.now places.now }
     requires distinct { IsDistinct bytes_eq (map (λ (w : FieldTree). w.name) wanted.now) }
-    requires index { (m : types.Text) → get_by_text index.now.places m ≡ first_at (λ (w : FieldTree). bytes_eq w.name m) wanted.now }
     ensures { OnOk result (least.new.at ≡ least_from least.old.at (rules.each (λ w. rules.field_differs tables.now name.now.at (rules.field_found (map field_of fields.now) w.name) w) wanted.now)) }
 {
-    let found = note_found(alloc, tables, least, fields, places, wanted, index)?;
-    least.note_if(found < wanted.len(), name.at);
+    let found = note_found(alloc, tables, least, fields, places, wanted)?;
+    least.note_if(found < wanted.items().len(), name.at);
     Ok(())
 }
 
@@ -168,19 +142,17 @@ fn note_found(
     least: &mut Least,
     fields: &[FieldAt<'_>],
     places: &Index,
-    wanted: &[FieldTree],
-    index: &Index,
+    wanted: &TypeFields<'_>,
 ) -> Result<usize, NoMemory>
-    requires places { (n : types.Text) → get_by_text places.now.places n ≡ field_place (map field_of fields.now) n }
+    requires places { IsNameIndex field_text fields.now places.now }
     requires distinct { IsDistinct bytes_eq (map (λ (w : FieldTree). w.name) wanted.now) }
-    requires index { (m : types.Text) → get_by_text index.now.places m ≡ first_at (λ (w : FieldTree). bytes_eq w.name m) wanted.now }
     ensures places { OnOk result (least.new.at ≡ least_from least.old.at (rules.each (λ w. rules.each (λ f. rules.field_differs tables.now 0 (Some f) w) (option_to_list (rules.field_found (map field_of fields.now) w.name))) wanted.now)) }
     ensures count { IfOk result (λ found. found ≡ count_by (λ (w : FieldTree). is_some (rules.field_found (map field_of fields.now) w.name)) wanted.now) }
 {
     let mut found = 0;
     let mut at = 0;
     'fields: for field in fields {
-        let due = wanted_once(places, at, field.name.name, wanted, index);
+        let due = wanted_once(fields, places, at, field.name.name, wanted);
         let count = note_pair(alloc, tables, least, field, due)?;
         found += count;
         at += 1;
@@ -189,24 +161,19 @@ fn note_found(
 }
 
 /// The field of an interface of this name, unless the type has a field of the name before this place.
+#[tactic(auto, using(crate::proofs::FoundAt::named_places))]
 fn wanted_once<'t>(
+    fields: &[FieldAt<'_>],
     places: &Index,
     at: usize,
     name: &str,
-    wanted: &'t [FieldTree],
-    index: &Index,
+    wanted: &TypeFields<'t>,
 ) -> Option<&'t FieldTree>
-    requires { (m : types.Text) → get_by_text index.now.places m ≡ first_at (λ (w : FieldTree). bytes_eq w.name m) wanted.now }
-    ensures { option_copied result ≡ option_and_then (λ first. cond (first == at) (types.field_named wanted.now name.now) None) (get_by_text places.now.places name.now) }
+    requires { IsNameIndex field_text fields.now places.now }
+    ensures { option_copied result ≡ option_and_then (λ first. cond (first == at) (types.field_named wanted.now name.now) None) (field_place (map field_of fields.now) name.now) }
 {
-    match places.find(name) {
-        Some(first) => {
-            if first == at {
-                field_wanted(wanted, index, name)
-            } else {
-                None
-            }
-        }
+    match places.find(fields, name) {
+        Some(first) => { if first == at { wanted.find(name) } else { None } }
         None => None,
     }
 }
@@ -231,52 +198,6 @@ fn note_pair(
     }
 }
 
-/// The first places of names.
-fn places_of(alloc: Global, names: &[NameAt<'_>]) -> Result<Index, NoMemory>
-    ensures { IfOk result (λ index. (n : types.Text) → get_by_text index.places n ≡ name_place (map name_of names.now) n) }
-{
-    let mut index = Index::new(alloc);
-    let mut at = 0;
-    'names: for name in names {
-        index.put(alloc, name.name, at)?;
-        at += 1;
-    }
-    Ok(index)
-}
-
-/// The first places of the names of fields.
-#[tactic(auto, using(crate::proofs::FoundAt::named_places))]
-fn places_of_fields(alloc: Global, fields: &[FieldAt<'_>]) -> Result<Index, NoMemory>
-    ensures { IfOk result (λ index. (n : types.Text) → get_by_text index.places n ≡ field_place (map field_of fields.now) n) }
-{
-    let names = field_names(alloc, fields)?;
-    let index = places_of(alloc, &names)?;
-    Ok(index)
-}
-
-/// The first places of the names of arguments.
-#[tactic(auto, using(crate::proofs::FoundAt::named_places))]
-fn places_of_inputs(alloc: Global, inputs: &[InputAt<'_>]) -> Result<Index, NoMemory>
-    ensures { IfOk result (λ index. (n : types.Text) → get_by_text index.places n ≡ input_place (map input_of inputs.now) n) }
-{
-    let names = input_names(alloc, inputs)?;
-    let index = places_of(alloc, &names)?;
-    Ok(index)
-}
-
-/// The first places of the names of the arguments that are wanted.
-fn places_of_wanted(alloc: Global, wanted: &[InputTree]) -> Result<Index, NoMemory>
-    ensures { IfOk result (λ index. (n : types.Text) → get_by_text index.places n ≡ wanted_place wanted.now n) }
-{
-    let mut index = Index::new(alloc);
-    let mut at = 0;
-    'wanted: for input in wanted {
-        index.put(alloc, input.name.as_str(), at)?;
-        at += 1;
-    }
-    Ok(index)
-}
-
 /// What the fields of a type differ in from those of an interface.
 fn note_differences(
     alloc: Global,
@@ -287,7 +208,7 @@ fn note_differences(
     places: &Index,
     wanted: &[FieldTree],
 ) -> Result<(), NoMemory>
-    requires { (n : types.Text) → get_by_text places.now.places n ≡ field_place (map field_of fields.now) n }
+    requires { IsNameIndex field_text fields.now places.now }
     ensures { OnOk result (least.new.at ≡ least_from least.old.at (rules.each (λ w. rules.field_differs tables.now name.now.at (rules.field_found (map field_of fields.now) w.name) w) wanted.now)) }
 {
     'wanted: for field in wanted {
@@ -303,13 +224,10 @@ fn field_found<'d, 'a>(
     places: &Index,
     name: &str,
 ) -> Option<&'d FieldAt<'a>>
-    requires { (n : types.Text) → get_by_text places.now.places n ≡ field_place (map field_of fields.now) n }
+    requires { IsNameIndex field_text fields.now places.now }
     ensures { option_map (λ f. field_of f.now) result ≡ rules.field_found (map field_of fields.now) name.now }
 {
-    match places.find(name) {
-        Some(at) => Some(&fields[at]),
-        None => None,
-    }
+    places.get(fields, name)
 }
 
 /// The first argument of a name.
@@ -318,13 +236,10 @@ fn input_found<'d, 'a>(
     places: &Index,
     name: &str,
 ) -> Option<&'d InputAt<'a>>
-    requires { (n : types.Text) → get_by_text places.now.places n ≡ input_place (map input_of inputs.now) n }
+    requires { IsNameIndex input_text inputs.now places.now }
     ensures { option_map (λ i. input_of i.now) result ≡ rules.input_found (map input_of inputs.now) name.now }
 {
-    match places.find(name) {
-        Some(at) => Some(&inputs[at]),
-        None => None,
-    }
+    places.get(inputs, name)
 }
 
 /// What a field, if there is one, differs in from that of an interface.
@@ -376,7 +291,7 @@ fn note_arguments(
     if is_settled(least, field) {
         return Ok(());
     }
-    let places = places_of_inputs(alloc, &field.arguments)?;
+    let places = Index::new(alloc, &field.arguments)?;
     'arguments: for argument in wanted.arguments.as_slice() {
         let found = input_found(&field.arguments, &places, argument.name.as_str());
         note_argument(least, field.name.at, found, argument);
@@ -426,7 +341,7 @@ fn note_further(
     if are_named_later(least, &field.arguments) {
         return Ok(());
     }
-    let places = places_of_wanted(alloc, wanted.arguments.as_slice())?;
+    let places = Index::new(alloc, wanted.arguments.as_slice())?;
     note_not_wanted(least, &places, wanted, &field.arguments);
     Ok(())
 }
@@ -456,7 +371,7 @@ fn is_named_later(least: &Least, argument: &InputAt<'_>) -> bool
 /// Arguments that are required and not wanted.
 #[tactic(auto, using(gql_graph::proofs::LeastSteps::noting))]
 fn note_not_wanted(least: &mut Least, places: &Index, wanted: &FieldTree, arguments: &[InputAt<'_>])
-    requires { (n : types.Text) → get_by_text places.now.places n ≡ wanted_place wanted.now.arguments n }
+    requires { IsNameIndex input_name wanted.now.arguments places.now }
     ensures { least.new.at ≡ least_from least.old.at (rules.each (rules.further_argument wanted.now.arguments) (map input_of arguments.now)) }
 {
     'arguments: for argument in arguments {
@@ -466,18 +381,18 @@ fn note_not_wanted(least: &mut Least, places: &Index, wanted: &FieldTree, argume
 
 /// Whether an argument is required and not one that the field of the interface has.
 fn is_further(places: &Index, wanted: &FieldTree, argument: &InputAt<'_>) -> bool
-    requires { (n : types.Text) → get_by_text places.now.places n ≡ wanted_place wanted.now.arguments n }
+    requires { IsNameIndex input_name wanted.now.arguments places.now }
     ensures { result ≡ (rules.is_required_at (input_of argument.now) && not (is_some (types.input_named wanted.now.arguments argument.now.name.name.now))) }
 {
     is_required(argument) && !is_wanted(places, wanted, argument.name.name)
 }
 
 /// Whether an argument of this name is wanted.
-fn is_wanted(places: &Index, _wanted: &FieldTree, name: &str) -> bool
-    requires { (n : types.Text) → get_by_text places.now.places n ≡ wanted_place _wanted.now.arguments n }
-    ensures { result ≡ is_some (types.input_named _wanted.now.arguments name.now) }
+fn is_wanted(places: &Index, wanted: &FieldTree, name: &str) -> bool
+    requires { IsNameIndex input_name wanted.now.arguments places.now }
+    ensures { result ≡ is_some (types.input_named wanted.now.arguments name.now) }
 {
-    places.find(name).is_some()
+    places.find(wanted.arguments.as_slice(), name).is_some()
 }
 
 /// Whether an argument has to be given.

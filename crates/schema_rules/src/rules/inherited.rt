@@ -13,7 +13,6 @@ ghost use Rattle.schema_rules.specs.Inherited.{HasNone, is_open};
 ghost use Rattle.schema_rules.specs.Rules as rules;
 ghost use Rattle.schema_tables.specs.Types as types;
 
-use gql_ast::SchemaDef;
 use gql_graph::seen::Seen;
 use gql_plain::{Name, NoMemory};
 use schema_tables::tables::Tables;
@@ -100,7 +99,7 @@ fn put_closed<'a>(
     requires { HasNone closed.old.names (is_open tables.now) }
     ensures { OnOk result (HasNone closed.new.names (is_open tables.now)) }
 {
-    if !are_same(interfaces, interfaces_of(tables, name)) {
+    if !are_same(interfaces, tables.interfaces(name)) {
         return Ok(());
     }
     if leave_out(alloc, tables, closed, interfaces)? {
@@ -169,7 +168,7 @@ fn ranked_names<'a>(
 ) -> Result<Vec<(usize, &'a str)>, NoMemory> {
     let mut ranked = Vec::new(alloc);
     'interfaces: for interface in interfaces {
-        let count = interfaces_of(tables, interface.name).len();
+        let count = tables.interfaces(interface.name).len();
         if count > FEW {
             ranked.push((count, interface.name))?;
         }
@@ -195,7 +194,7 @@ fn cover<'a>(
     if !closed.contains(name) {
         return Ok(());
     }
-    let interfaces = interfaces_of(tables, name);
+    let interfaces = tables.interfaces(name);
     if lacks_any(named, interfaces) {
         return Ok(());
     }
@@ -245,33 +244,7 @@ fn leaves_out(tables: &Tables, named: &Seen<'_>, covered: &Seen<'_>, name: &str)
     if covered.contains(name) {
         return false;
     }
-    lacks_any(named, interfaces_of(tables, name))
-}
-
-/// The interfaces that a type implements.
-fn interfaces_of<'t>(tables: &'t Tables, name: &str) -> &'t [Name]
-    ensures { result.now ≡ types.interfaces_named (types.type_named tables.now name.now) }
-{
-    match tables.definition(name) {
-        Some(definition) => interfaces_in(definition),
-        None => &[],
-    }
-}
-
-/// The interfaces that a definition names.
-fn interfaces_in(definition: &SchemaDef) -> &[Name]
-    ensures { result.now ≡ types.interfaces_of definition.now }
-{
-    match definition {
-        SchemaDef::Object { implements, .. } => implements.as_slice(),
-        SchemaDef::Interface { implements, .. } => implements.as_slice(),
-        SchemaDef::Schema { .. } => &[],
-        SchemaDef::Scalar { .. } => &[],
-        SchemaDef::Union { .. } => &[],
-        SchemaDef::Enum { .. } => &[],
-        SchemaDef::Input { .. } => &[],
-        SchemaDef::Directive { .. } => &[],
-    }
+    lacks_any(named, tables.interfaces(name))
 }
 
 /// Whether one of the names is none of the set.

@@ -1,10 +1,10 @@
 -- One more field of the type, and all of them.
-use Rattle.std.proofs.Common.{◌<◌, ◌≤◌, ℕ, Option, length, map, ap, sym, ◌∙◌, arith}
+use Rattle.std.proofs.Common.{◌<◌, ◌≤◌, length, map, ap, sym, ◌∙◌, arith}
 use Rattle.std.proofs.lemmas.List.{length-map}
 use Rattle.schema_trees.specs.Located.{FieldAt}
 use Rattle.schema_trees.specs.LocatedView.{field_of}
 use Rattle.schema_rules.proofs.FoundAt.{get_or_of}
-use Rattle.schema_rules.proofs.WantedSteps.{due_once, found_differs, noted_start, noted_next, noted_places, noted_count}
+use Rattle.schema_rules.proofs.WantedSteps.{found_differs, noted_start, noted_next, noted_places, noted_count}
 use Rattle.schema_rules.proofs.rules.fields.note_found.Goals as goal
 
 pub fields-init : goal.fields-init
@@ -17,7 +17,7 @@ fields-preserved c =
     let low : c.fields.field-index < length c.args.fields.now = omega arith in
     noted_next (found_differs c.args.tables.now) fs c.args.wanted.now _ c.fields.field-index c.fields.at c.fields.found _ c.fields.least.at _ f _ c.requires.distinct
     (omega (arith, low, length-map c.args.fields.now field_of)) (ap field_of c.field-item.is ∙ sym (get_or_of field_of c.args.fields.now c.fields.field-index c.field-item.result))
-    (c.wanted_once-due.ensures ∙ ap (λ (o : Option ℕ). due_once o c.fields.at c.args.wanted.now f.name.name) (c.requires.places f.name.name))
+    c.wanted_once-due.ensures
     c.in_ok-count.ensures.places c.in_ok-count.ensures.count c.fields.invariant
 
 pub returns-clause-places : goal.returns-clause-places

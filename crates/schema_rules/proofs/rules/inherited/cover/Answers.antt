@@ -8,6 +8,6 @@ pub returns : goal.returns
 returns c = λ ns k h.
     let closed = none_of c.args.closed.now.names (is_open c.args.tables.now) c.args.name.now c.requires c.contains-2.result c.contains-2.ensures c.if-not-contains.false in
     let own = c.in_ok-put.ensures (rules.leaves_out c.args.tables.now ns) h
-    (covers_one c.args.tables.now ns c.args.name.now c.interfaces_of-interfaces.result.now c.lacks_any.result c.interfaces_of-interfaces.ensures (c.lacks_any.ensures ns k) c.if-lacks_any.false) in
+    (covers_one c.args.tables.now ns c.args.name.now c.interfaces-interfaces.result.now c.lacks_any.result c.interfaces-interfaces.ensures (c.lacks_any.ensures ns k) c.if-lacks_any.false) in
     c.put_all.ensures (rules.leaves_out c.args.tables.now ns) own
-    (covers_all c.args.tables.now ns c.args.name.now c.interfaces_of-interfaces.result.now c.lacks_any.result c.interfaces_of-interfaces.ensures (c.lacks_any.ensures ns k) c.if-lacks_any.false closed)
+    (covers_all c.args.tables.now ns c.args.name.now c.interfaces-interfaces.result.now c.lacks_any.result c.interfaces-interfaces.ensures (c.lacks_any.ensures ns k) c.if-lacks_any.false closed)
