@@ -272,9 +272,9 @@ module _ (whole : List Tok) where
           (first.0, definitions_walk defs ws (from + definition_nodes (definition_of w)) first.1)
 
       -- the document itself begins at the first token too
-      pub document_walk : (defs : Defs) (ws : List Written) → At whole 0 (spell_definitions both 1 ws)
-          → AllByRecursion (HoldsDefinition F N V) (definitions_at defs 1 (map definition_of ws))
-      document_walk defs [] a = tt
-      document_walk defs (w ∷ ws) a =
-          let first = definition_walk defs 1 0 1 w _ (omega arith) a in
-          (first.0, definitions_walk defs ws (1 + definition_nodes (definition_of w)) first.1)
+      pub document_walk : (defs : Defs) (ws : List Written) (first : ℕ) → At whole first (spell_definitions both 1 ws)
+          → AllByRecursion (HoldsDefinition F N V) (definitions_at defs (first + 1) (map definition_of ws))
+      document_walk defs [] first a = tt
+      document_walk defs (w ∷ ws) first a =
+          let one = definition_walk defs 1 first (first + 1) w _ refl a in
+          (one.0, definitions_walk defs ws (first + 1 + definition_nodes (definition_of w)) one.1)

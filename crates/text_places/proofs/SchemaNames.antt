@@ -35,14 +35,14 @@ module _ (file : ℕ) (text : List ℕ) (ws : List Described) (places : List Fil
       let seconds = map-definitions (λ (x : Tok × ℕ). x.1) both 1 ws in
       ap (λ ns. map tok_of_piece (node_pieces ns (lex_from 0 text))) (sym seconds) ∙ piece_tokens marks (lex_from 0 text) (tokens ∙ ap Some (sym firsts))
 
-  begins : (at : ℕ) (p : Piece) → element_at pieces at ≡ Some p → BeginsAt file text (nodes_of ws) places at p
+  begins : (at : ℕ) (p : Piece) → element_at pieces at ≡ Some p → BeginsAt file text (nodes_of ws) 0 places at p
   begins at p e = record {
     begins = e;
     placed = ap (λ ps. element_at ps at) (laid ∙ piece_places file text [] (nodes_of ws) (lex_from 0 text))
         ∙ element_map (λ (q : Piece). file_place file text q.start) pieces at p e;
   }
 
-  spells : (n : Text) (at : ℕ) → element_at whole at ≡ Some (tok.name n) → NamedAt file text (nodes_of ws) places n at
+  spells : (n : Text) (at : ℕ) → element_at whole at ≡ Some (tok.name n) → NamedAt file text (nodes_of ws) 0 places n at
   spells n at e =
       let p = piece_at tok_of_piece pieces at (tok.name n) (ap (λ ts. element_at ts at) same_tokens ∙ e) in
       let is = name_piece p.0.kind p.0.text n p.2 in
@@ -60,7 +60,7 @@ module _ (file : ℕ) (text : List ℕ) (ws : List Described) (places : List Fil
 
   names : AreSpelled file text (nodes_of ws) places (locate (map definition_of ws))
   names =
-      located_walk whole (SchemaAt file text (nodes_of ws) places) (NamedAt file text (nodes_of ws) places) head spells ws
+      located_walk whole (SchemaAt file text (nodes_of ws) places) (NamedAt file text (nodes_of ws) 0 places) head spells ws
       (record { before = []; is = refl; count = refl })
 
 -- each name of a schema that was read

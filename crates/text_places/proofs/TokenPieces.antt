@@ -1,5 +1,5 @@
 -- The tokens of nodes are those of the pieces of the text at which the nodes begin.
-use Rattle.std.proofs.Common.{◌≡◌, ◌⊎◌, inl, inr, ℕ, zero, suc, Bool, true, false, cond, ◌==◌, List, [], ◌∷◌, ◌++◌, map, replicate, slice_index, Option, Some, None, option_map, refl, ap, sym, ◌∙◌, subst}
+use Rattle.std.proofs.Common.{◌≡◌, ◌⊎◌, inl, inr, ℕ, zero, suc, Bool, true, false, cond, ◌==◌, List, [], ◌∷◌, ◌++◌, map, replicate, slice_index, length, Option, Some, None, option_map, refl, ap, sym, ◌∙◌, subst}
 use Rattle.std.proofs.lemmas.List.{map-append, append-nil, append_assoc}
 use Rattle.gql_ast.specs.declared.place.FilePlace.{FilePlace}
 use Rattle.gql_graph.specs.Texts.{Text}
@@ -9,7 +9,7 @@ use Rattle.gql_lex.specs.Toks.{Tok, tok_of, tok_of_piece, punctuator_of, toks_of
 use Rattle.gql_lex.specs.declared.tokens.TokenKind.{TokenKind}
 use Rattle.gql_lex.specs.declared.tokens.TokenKind.TheVariants as K
 use Rattle.gql_syntax.specs.Places.{file_place, place_nodes}
-use Rattle.text_places.specs.Naming.{node_pieces, element_at}
+use Rattle.text_places.specs.Naming.{node_pieces, element_at, element_from}
 use Rattle.text_places.proofs.TokenSteps.{node_tokens}
 
 map-replicate : {A B : Type 0} (f : A → B) (n : ℕ) (a : A) → map f (replicate n a) ≡ replicate n (f a)
@@ -63,6 +63,31 @@ pub piece_at : {A B : Type 0} (f : A → B) (ps : List A) (at : ℕ) (b : B) →
 piece_at f [] at b e = absurd cc
 piece_at f (q ∷ ps) zero b e = (q, refl, cc e)
 piece_at f (q ∷ ps) (suc at) b e = piece_at f ps at b e
+
+-- ---- elements that others stand before
+
+pub element_from-map : {A B : Type 0} (f : A → B) (first : ℕ) (ps : List A) (at : ℕ) (p : A) → element_from first ps at ≡ Some p → element_from first (map f ps) at ≡ Some (f p)
+element_from-map f zero ps at p e = element_map f ps at p e
+element_from-map f (suc k) ps zero p e = absurd cc
+element_from-map f (suc k) ps (suc at) p e = element_from-map f k ps at p e
+
+in_front : {A : Type 0} (xs more : List A) (at : ℕ) (a : A) → element_at xs at ≡ Some a → element_at (xs ++ more) at ≡ Some a
+in_front [] more at a e = absurd cc
+in_front (b ∷ xs) more zero a e = e
+in_front (b ∷ xs) more (suc at) a e = in_front xs more at a e
+
+-- what stands behind `first` others has the number that is counted from there
+pub between : {A : Type 0} (before xs more : List A) (at : ℕ) (a : A) → element_from (length before) xs at ≡ Some a → element_at (before ++ (xs ++ more)) at ≡ Some a
+between [] xs more at a e = in_front xs more at a e
+between (b ∷ before) xs more zero a e = absurd cc
+between (b ∷ before) xs more (suc at) a e = between before xs more at a e
+
+-- behind others that are all the same, and are not this one
+pub behind_same : {A B : Type 0} (f : A → B) (other : B) (first : ℕ) (ps : List A) (at : ℕ) (b : B) → element_at (replicate first other ++ map f ps) at ≡ Some b → (other ≡ b → ⊥)
+    → (p : A) × (element_from first ps at ≡ Some p) × (f p ≡ b)
+behind_same f other zero ps at b e apart = piece_at f ps at b e
+behind_same f other (suc k) ps zero b e apart = absurd (apart (cc e))
+behind_same f other (suc k) ps (suc at) b e apart = behind_same f other k ps at b e apart
 
 -- ---- kinds
 

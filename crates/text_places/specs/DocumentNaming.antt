@@ -1,18 +1,23 @@
 -- What the nodes of a document are that rules number: names, the first tokens of values, and those of operations and of inline
 -- fragments.
-use Rattle.std.specs.Prelude.{◌≡◌, ℕ, ◌+◌, List}
+use Rattle.std.specs.Prelude.{◌≡◌, ℕ, ◌+◌, List, [], ◌∷◌, map}
 use Rattle.std.specs.List.{AllByRecursion}
 use Rattle.gql_ast.specs.Value.{Val, Vals, Members, variable, int, text, truth, null, enum, list, object, no_vals, val, no_members, member}
+use Rattle.gql_ast.specs.declared.document.Document.{Document}
 use Rattle.gql_ast.specs.declared.document.Kind.{Kind}
 use Rattle.gql_ast.specs.declared.place.FilePlace.{FilePlace}
+use Rattle.gql_ast.specs.declared.place.Placed.{Placed}
 use Rattle.gql_graph.specs.Texts.{Text}
 use Rattle.gql_lex.specs.Sources.{Piece}
 use Rattle.gql_lex.specs.Toks as tok
 use Rattle.gql_lex.specs.Toks.{Tok, tok_of_piece}
+use Rattle.gql_parse.specs.Documents.{nodes_of}
+use Rattle.gql_parse.specs.Trees.{IsDocument}
 use Rattle.gql_syntax.specs.Words.{kind_word, truth_word, null_word}
+use Rattle.schema_tables.specs.Types.{Defs}
 use Rattle.schema_trees.specs.Located.{value_nodes}
 use Rattle.schema_types.specs.SiteNumbers.{HoldsDefinition}
-use Rattle.schema_types.specs.Sites.{DefinitionAt}
+use Rattle.schema_types.specs.Sites.{DefinitionAt, definitions_at, document_nodes}
 use Rattle.text_places.specs.Naming.{BeginsAt, NamedAt}
 
 abbrev pub first_token : Val → Tok
@@ -53,19 +58,38 @@ Opens (tok.name n) = (k : Kind) × (n ≡ kind_word k)
 Opens t = ⊥
 
 -- the node of a number begins at such a token
-pub record OpensAt (file : ℕ) (bytes : List ℕ) (nodes : List ℕ) (places : List FilePlace) (at : ℕ) : Type 0 where
+pub record OpensAt (file : ℕ) (bytes : List ℕ) (nodes : List ℕ) (first : ℕ) (places : List FilePlace) (at : ℕ) : Type 0 where
   pub piece : Piece
-  pub there : BeginsAt file bytes nodes places at piece
+  pub there : BeginsAt file bytes nodes first places at piece
   pub head : Opens (tok_of_piece piece)
 
 -- the node of a number begins at the first token of this value, and so do the names in the value
-pub record ValueBeginsAt (file : ℕ) (bytes : List ℕ) (nodes : List ℕ) (places : List FilePlace) (x : Val) (at : ℕ) : Type 0 where
+pub record ValueBeginsAt (file : ℕ) (bytes : List ℕ) (nodes : List ℕ) (first : ℕ) (places : List FilePlace) (x : Val) (at : ℕ) : Type 0 where
   pub piece : Piece
-  pub there : BeginsAt file bytes nodes places at piece
+  pub there : BeginsAt file bytes nodes first places at piece
   pub head : tok_of_piece piece ≡ first_token x
-  pub inside : HoldsInside (NamedAt file bytes nodes places) x at
+  pub inside : HoldsInside (NamedAt file bytes nodes first places) x at
 
 -- each name and each value of these definitions, at its number
-abbrev pub AreWritten : (file : ℕ) → (bytes : List ℕ) → (nodes : List ℕ) → (places : List FilePlace) → List DefinitionAt → Type 0
-AreWritten file bytes nodes places ds =
-    AllByRecursion (HoldsDefinition (OpensAt file bytes nodes places) (NamedAt file bytes nodes places) (ValueBeginsAt file bytes nodes places)) ds
+abbrev pub AreWritten : (file : ℕ) → (bytes : List ℕ) → (nodes : List ℕ) → (first : ℕ) → (places : List FilePlace) → List DefinitionAt → Type 0
+AreWritten file bytes nodes first places ds =
+    AllByRecursion (HoldsDefinition (OpensAt file bytes nodes first places) (NamedAt file bytes nodes first places) (ValueBeginsAt file bytes nodes first places)) ds
+
+-- ---- several documents
+
+-- a document that was read from a text
+pub record Reading : Type 0 where
+  pub file : ℕ
+  pub text : List ℕ
+  pub placed : Placed Document
+  pub is : IsDocument file text placed
+
+abbrev pub placed_of : List Reading → List (Placed Document)
+placed_of rs = map (λ (r : Reading). r.placed) rs
+
+-- each name and each value of these documents in its own text, at its number among the nodes of all of them
+abbrev pub AreAllWritten : Defs → (first : ℕ) → (places : List FilePlace) → List Reading → Type 0
+AreAllWritten defs first places [] = Unit {0}
+AreAllWritten defs first places (r ∷ rs) =
+    AreWritten r.file r.text (nodes_of r.is.written) first places (definitions_at defs (first + 1) r.placed.tree.definitions)
+    × AreAllWritten defs (first + document_nodes r.placed.tree) places rs

@@ -23,25 +23,31 @@ element_at [] n = None
 element_at (a ∷ more) zero = Some a
 element_at (a ∷ more) (suc n) = element_at more n
 
--- the node of a number begins at this token of the text, and its place is the token's
-pub record BeginsAt (file : ℕ) (text : List ℕ) (nodes : List ℕ) (places : List FilePlace) (at : ℕ) (piece : Piece) : Type 0 where
-  pub begins : element_at (node_pieces nodes (lex_from 0 text)) at ≡ Some piece
+-- the same where the list's first element has the number `first`
+abbrev pub element_from : {A : Type 0} → (first : ℕ) → List A → ℕ → Option A
+element_from zero xs n = element_at xs n
+element_from (suc k) xs zero = None
+element_from (suc k) xs (suc n) = element_from k xs n
+
+-- the node of a number begins at this token of the text, and its place is the token's; the text's nodes are numbered from `first`
+pub record BeginsAt (file : ℕ) (text : List ℕ) (nodes : List ℕ) (first : ℕ) (places : List FilePlace) (at : ℕ) (piece : Piece) : Type 0 where
+  pub begins : element_from first (node_pieces nodes (lex_from 0 text)) at ≡ Some piece
   pub placed : element_at places at ≡ Some (file_place file text piece.start)
 
 -- the node of a number begins at a Name of the text that spells this name
-pub record NamedAt (file : ℕ) (text : List ℕ) (nodes : List ℕ) (places : List FilePlace) (name : Text) (at : ℕ) : Type 0 where
+pub record NamedAt (file : ℕ) (text : List ℕ) (nodes : List ℕ) (first : ℕ) (places : List FilePlace) (name : Text) (at : ℕ) : Type 0 where
   pub piece : Piece
-  pub there : BeginsAt file text nodes places at piece
+  pub there : BeginsAt file text nodes first places at piece
   pub kind : piece.kind ≡ K.Name
   pub spells : piece.text ≡ name
 
 -- the node of a number begins at the word `schema`, or at a description
 pub record SchemaAt (file : ℕ) (text : List ℕ) (nodes : List ℕ) (places : List FilePlace) (at : ℕ) : Type 0 where
   pub piece : Piece
-  pub there : BeginsAt file text nodes places at piece
+  pub there : BeginsAt file text nodes 0 places at piece
   pub head : ((piece.kind ≡ K.Name) × (piece.text ≡ codes "schema")) ⊎ (piece.kind ≡ K.Text) ⊎ (piece.kind ≡ K.Block)
 
 -- each name of these definitions, at its number
 abbrev pub AreSpelled : (file : ℕ) → (text : List ℕ) → (nodes : List ℕ) → (places : List FilePlace) → List DefAt → Type 0
 AreSpelled file text nodes places ds =
-    AllByRecursion (HoldsDef (SchemaAt file text nodes places) (NamedAt file text nodes places) (λ t at. NamedAt file text nodes places (base_of t) at)) ds
+    AllByRecursion (HoldsDef (SchemaAt file text nodes places) (NamedAt file text nodes 0 places) (λ t at. NamedAt file text nodes 0 places (base_of t) at)) ds

@@ -12,8 +12,9 @@ ghost use Rattle.gql_sdl.specs.Trees.{IsSchema};
 ghost use Rattle.schema_tables.specs.Types.{Defs};
 ghost use Rattle.schema_trees.specs.Located.{locate};
 ghost use Rattle.schema_trees.specs.Numbers as rules;
+ghost use Rattle.schema_types.specs.DocumentRules.{places_of};
 ghost use Rattle.schema_types.specs.Sites as sites;
-ghost use Rattle.text_places.specs.DocumentNaming.{AreWritten};
+ghost use Rattle.text_places.specs.DocumentNaming.{AreAllWritten, AreWritten, Reading, placed_of};
 ghost use Rattle.text_places.specs.Naming.{AreSpelled};
 
 /// Law: rules count as many nodes in a schema as its text has.
@@ -45,5 +46,13 @@ pub fn schema_names()
 /// Law: in a document that was read, the node of each name begins at a Name of the text that spells
 /// the name, that of each value at its first token, and its place is that of the token.
 pub fn document_names()
-    ensures { (defs : Defs) (file : ℕ) (text : List ℕ) (p : Placed Document) (d : IsDocument file text p) → AreWritten file text (documents.nodes_of d.written) p.places (sites.definitions_at defs 1 p.tree.definitions) }
+    ensures { (defs : Defs) (file : ℕ) (text : List ℕ) (p : Placed Document) (d : IsDocument file text p) → AreWritten file text (documents.nodes_of d.written) 0 p.places (sites.definitions_at defs 1 p.tree.definitions) }
+{}
+
+/// Law: in documents that were read, each from its own file and text, the numbers of a later one's
+/// nodes go on where those before end, as rules number the nodes of all documents. The node of each
+/// name begins at a Name of its own text that spells the name, that of each value at its first
+/// token, and its place among those of all documents is that of the token.
+pub fn documents_names()
+    ensures { (defs : Defs) (rs : List Reading) → AreAllWritten defs 0 (places_of (placed_of rs)) rs }
 {}
