@@ -3,7 +3,10 @@ pub mod ByBytes
 pub mod Kept
 pub mod KeyOrder
 pub mod Low
+pub mod Lower
+pub mod Made
 pub mod Opened
 pub mod Order
+pub mod Places
 pub mod Seen
 pub mod Sides

@@ -1,14 +1,13 @@
 -- A balanced tree is low: what `least` says of heights.
-use Rattle.std.proofs.Common.{◌≡◌, ℕ, zero, suc, ◌+◌, ◌*◌, ◌/◌, ◌^◌, ◌<◌, ◌≤◌, true, false, max, length, Option, Some, None, inl, inr, refl, ap, subst, add-one, arith}
+use Rattle.std.proofs.Common.{◌≡◌, ℕ, zero, suc, ◌+◌, ◌*◌, ◌/◌, ◌^◌, ◌<◌, ◌≤◌, true, false, max, length, inl, inr, refl, ap, subst, add-one, arith}
 use Rattle.std.specs.Prelude.{nat_eq}
-use Rattle.std.specs.declared.rc.Rc.{Rc}
-use Rattle.std.specs.declared.alloc.Global.{Global}
 use Rattle.std.proofs.lemmas.Bool.{cases_order, eqb-true, eqb-false}
 use Rattle.std.proofs.Math.Nat.{two-pow-succ}
 use Rattle.store_tree.specs.Contents.{Contents, binary_digits, halvings}
 use Rattle.store_tree.specs.Heights.{least, DifferByAtMost}
-use Rattle.store_tree.specs.Shape.{contents_of, IsBalanced}
-use Rattle.store_tree.specs.declared.branch.Node.{Node}
+use Rattle.store_tree.specs.Shape.{contents_of, pairs_of, IsBalanced}
+use Rattle.store_tree.specs.declared.branch.Link.{Link}
+use Rattle.store_tree.specs.declared.branch.Link.TheVariants.{Empty, Leaf, Fork}
 
 pub least-zero : least 0 ≡ 0
 unfolding least
@@ -18,7 +17,7 @@ pub least-step : (h : ℕ) → least (suc (suc h)) ≡ least (suc h) + least h +
 unfolding least
 least-step h i = least (suc h) + least h + 1
 
-least-one : least 1 ≡ 1
+pub least-one : least 1 ≡ 1
 unfolding least
 least-one i = 1
 
@@ -26,7 +25,7 @@ pub least-rises : (h : ℕ) → least h ≤ least (suc h)
 least-rises zero = omega (arith, least-zero, least-one)
 least-rises (suc h) = omega (arith, least-step h)
 
--- a balanced tree of fewer than 2 ^ d nodes is at most 2 * d high
+-- a balanced tree of fewer than 2 ^ d entries is at most 2 * d high
 pub low : (d h n : ℕ) → least h ≤ n → n < 2 ^ d → h ≤ 2 * d
 low d zero n p q = omega arith
 low zero (suc zero) n p q = omega (arith, least-one)
@@ -63,9 +62,20 @@ pub below-binary_digits : (n : ℕ) → n < 2 ^ binary_digits n
 unfolding binary_digits
 below-binary_digits n = enough_halvings n n (omega arith)
 
-pub low-opened : {V : Type 0} (link : Option (Rc (Node V) Global)) (d : Contents V) → IsBalanced link → contents_of link ≡ d → d.height ≤ 2 * binary_digits (length d.pairs)
-low-opened None d p q = subst (λ x. x.height ≤ 2 * binary_digits (length x.pairs)) q (omega arith)
-low-opened (Some n) d p q =
+pub low-opened : {V : Type 0} (link : Link V) (d : Contents V) → IsBalanced link → contents_of link ≡ d → d.height ≤ 2 * binary_digits (length d.pairs)
+low-opened Empty d p q = subst (λ x. x.height ≤ 2 * binary_digits (length x.pairs)) q (omega arith)
+low-opened (Leaf leaf) d p q =
     subst (λ x. x.height ≤ 2 * binary_digits (length x.pairs)) q
-    (let counted : n.value.count ≡ length (contents_of (Some n)).pairs = p.2 in
+    (low _ 1 (length leaf.value) (omega (arith, least-one, p.0)) (below-binary_digits _))
+low-opened (Fork n) d p q =
+    subst (λ x. x.height ≤ 2 * binary_digits (length x.pairs)) q
+    (let counted : n.value.count ≡ length (pairs_of n.value) = p.2 in
     low _ n.value.height n.value.count p.3 (rw counted (below-binary_digits _)))
+
+-- a branch has as many entries as its height asks for
+pub enough : {V : Type 0} (link : Link V) (d : Contents V) → IsBalanced link → contents_of link ≡ d → least d.height ≤ length d.pairs
+enough Empty d p q = subst (λ x. least x.height ≤ length x.pairs) q (omega (arith, least-zero))
+enough (Leaf leaf) d p q = subst (λ x. least x.height ≤ length x.pairs) q (omega (arith, least-one, p.0))
+enough (Fork n) d p q =
+    subst (λ x. least x.height ≤ length x.pairs) q
+    (let counted : n.value.count ≡ length (pairs_of n.value) = p.2 in subst (λ m. least n.value.height ≤ m) counted p.3)

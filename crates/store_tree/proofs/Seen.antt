@@ -1,14 +1,12 @@
 -- What a tree is seen as: the pairs of its root in byte order, and the root's height.
-use Rattle.std.proofs.Common.{◌≡◌, ℕ, ◌*◌, ◌≤◌, T, List, length, Option, sym, ap, ◌∙◌, subst}
-use Rattle.std.specs.declared.rc.Rc.{Rc}
-use Rattle.std.specs.declared.alloc.Global.{Global}
+use Rattle.std.proofs.Common.{◌≡◌, ℕ, ◌*◌, ◌≤◌, T, List, length, sym, ap, ◌∙◌, subst}
 use Rattle.std.specs.FinMap.{find, put, is_sorted}
 use Rattle.std.specs.Cmp.Lexicographic.{slice_cmp}
 use Rattle.std.specs.Ordering.{nat_cmp}
 use Rattle.store_tree.specs.Contents.{Contents, KeysRise, without_key, without_tied, by_bytes, binary_digits}
 use Rattle.store_tree.specs.KeyOrder.{key_cmp}
 use Rattle.store_tree.specs.Shape.{contents_of, IsBalanced}
-use Rattle.store_tree.specs.declared.branch.Node.{Node}
+use Rattle.store_tree.specs.declared.branch.Link.{Link}
 use Rattle.store_tree.proofs.ByBytes.{KeysRise-by_bytes, by_bytes-put, by_bytes-without, find-by_bytes, length-by_bytes}
 use Rattle.store_tree.proofs.Low.{low-opened}
 
@@ -20,7 +18,7 @@ module _ {V : Type 0} (root seen : Contents V) (is : record { pairs = by_bytes r
     pub seen-length : length root.pairs ≡ length seen.pairs
     seen-length = sym (length-by_bytes root.pairs in_order) ∙ ap (λ d. length d.pairs) is
 
-    pub seen-low : (link : Option (Rc (Node V) Global)) → IsBalanced link → contents_of link ≡ root → seen.height ≤ 2 * binary_digits (length seen.pairs)
+    pub seen-low : (link : Link V) → IsBalanced link → contents_of link ≡ root → seen.height ≤ 2 * binary_digits (length seen.pairs)
     seen-low link balanced opened =
         let low : root.height ≤ 2 * binary_digits (length root.pairs) = low-opened link root balanced opened in
         subst (λ n. seen.height ≤ 2 * binary_digits n) seen-length (subst (λ m. m ≤ 2 * binary_digits (length root.pairs)) (ap (λ d. d.height) is) low)

@@ -4,12 +4,10 @@ use Rattle.std.specs.declared.cmp.Ordering.TheVariants.{Less, Equal, Greater}
 use Rattle.std.specs.FinMap.{find, put, is_sorted}
 use Rattle.store_tree.specs.Contents.{without_tied}
 use Rattle.store_tree.specs.KeyOrder.{key_cmp}
+use Rattle.store_tree.specs.Shape.{pairs_of}
 use Rattle.store_tree.specs.declared.branch.Node.{Node}
 use Rattle.store_tree.proofs.KeyOrder.{key_cmp_total, key_cmp-same}
 use Rattle.store_tree.proofs.Order as order
-
-abbrev pairs_of : {V : Type 0} → Node V → List (List ℕ × V)
-pairs_of n = n.left.pairs ++ n.item ∷ n.right.pairs
 
 abbrev key_of : {V : Type 0} → Node V → List ℕ
 key_of n = n.item.0

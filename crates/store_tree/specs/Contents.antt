@@ -5,7 +5,7 @@ use Rattle.std.specs.Cmp.Lexicographic.{slice_cmp}
 use Rattle.std.specs.FinMap.Entries.{put, where_key, is_sorted}
 use Rattle.std.specs.declared.cmp.Ordering.{Ordering}
 
--- the pairs of key and value, and the height: the number of nodes on a longest way down
+-- the pairs of key and value, and the height: the number of leaves and nodes on a longest way down
 pub record Contents (V : Type 0) : Type 0 where
   pub pairs : List (List ℕ × V)
   pub height : ℕ

@@ -1,4 +1,5 @@
-//! The nodes of the tree, which versions share. One that two versions hold never changes.
+//! The leaves and nodes of the tree, which versions share. One that two versions hold never
+//! changes.
 ghost use Rattle.std.specs.Prelude.{◌≡◌, ◌+◌, ◌^◌, ◌<◌, ◌≤◌, max, [], ◌∷◌, ◌++◌, length, IfOk, IfSome, OnOk, T};
 ghost use Rattle.std.specs.FinMap.{find, is_sorted};
 ghost use Rattle.std.specs.Option.{option_copied};
@@ -8,6 +9,7 @@ ghost use Rattle.store_tree.specs.Heights.{least, DifferByAtMost};
 ghost use Rattle.store_tree.specs.KeyOrder.{digest_of, key_cmp};
 
 use crate::item::Item;
+use crate::leaf::Leaf;
 use gql_plain::{NoMemory, Steps, Words};
 use std::alloc::Global;
 use std::cmp::Ordering;
@@ -18,7 +20,16 @@ use std::rc::Rc;
 #[cycle(branch)]
 #[derive(Drop)]
 pub(crate) struct Branch<V> {
-    pub(crate) link: Option<Rc<Node<V>>>,
+    pub(crate) link: Link<V>,
+}
+
+/// No entry, a few entries in one list, or an entry between two parts of the tree.
+#[cycle(branch)]
+#[derive(Drop)]
+pub(crate) enum Link<V> {
+    Empty,
+    Leaf(Rc<Leaf<V>>),
+    Fork(Rc<Node<V>>),
 }
 
 /// An entry between the entries before it and those after it.
@@ -56,10 +67,10 @@ impl<V: Drop> Branch<V> {
     pub(crate) fn empty() -> Branch<V>
         ensures { result ≡ record { pairs = []; height = 0 } }
     {
-        Branch { link: None }
+        Branch { link: Link::Empty }
     }
 
-    /// The number of nodes on a longest way down; takes no memory.
+    /// The number of leaves and nodes on a longest way down; takes no memory.
     pub(crate) fn height(&self) -> u64
         ensures height { result ≡ self.now.height }
         ensures low { result ≤ 128 }
@@ -67,8 +78,9 @@ impl<V: Drop> Branch<V> {
         ensures none { result ≡ 0 → self.now.pairs ≡ [] }
     {
         match &self.link {
-            Some(node) => node.height,
-            None => 0,
+            Link::Empty => 0,
+            Link::Leaf(_) => 1,
+            Link::Fork(node) => node.height,
         }
     }
 
@@ -77,20 +89,24 @@ impl<V: Drop> Branch<V> {
         ensures { result ≡ length self.now.pairs }
     {
         match &self.link {
-            Some(node) => node.count,
-            None => 0,
+            Link::Empty => 0,
+            Link::Leaf(leaf) => leaf.len() as u64,
+            Link::Fork(node) => node.count,
         }
     }
 
-    /// The same nodes once more, in constant time.
+    /// The same leaves and nodes once more, in constant time.
     pub(crate) fn share(&self) -> Result<Branch<V>, NoMemory>
         ensures { IfOk result (λ b. b ≡ self.now) }
     {
         match &self.link {
-            Some(node) => Ok(Branch {
-                link: Some(node.clone()?),
+            Link::Empty => Ok(Branch::empty()),
+            Link::Leaf(leaf) => Ok(Branch {
+                link: Link::Leaf(leaf.clone()?),
             }),
-            None => Ok(Branch::empty()),
+            Link::Fork(node) => Ok(Branch {
+                link: Link::Fork(node.clone()?),
+            }),
         }
     }
 
@@ -100,8 +116,10 @@ impl<V: Drop> Branch<V> {
         requires in_order { T (is_sorted key_cmp self.now.pairs) }
         ensures { option_copied result ≡ find key_cmp key.now self.now.pairs }
     {
-        let Some(node) = &self.link else {
-            return None;
+        let node = match &self.link {
+            Link::Empty => return None,
+            Link::Leaf(leaf) => return leaf.get(digest, key),
+            Link::Fork(node) => node,
         };
         match node.item.order(digest, key) {
             Ordering::Less => node.left.get(digest, key),
@@ -114,8 +132,10 @@ impl<V: Drop> Branch<V> {
     pub(crate) fn add_keys(&self, keys: &mut Vec<Words>) -> Result<(), NoMemory>
         ensures { OnOk result (keys.new.items ≡ keys.old.items ++ keys_of self.now.pairs) }
     {
-        let Some(node) = &self.link else {
-            return Ok(());
+        let node = match &self.link {
+            Link::Empty => return Ok(()),
+            Link::Leaf(leaf) => return leaf.add_keys(keys),
+            Link::Fork(node) => node,
         };
         node.left.add_keys(keys)?;
         keys.push(node.item.copy_key()?)?;
@@ -151,7 +171,7 @@ pub(crate) fn fork<V: Drop, C: Steps>(
         height,
     };
     Ok(Branch {
-        link: Some(Rc::new(alloc, node)?),
+        link: Link::Fork(Rc::new(alloc, node)?),
     })
 }
 

@@ -2,12 +2,13 @@
 ghost use Rattle.std.specs.Prelude.{◌≡◌, ◌+◌, ◌*◌, ◌<◌, ◌≤◌, max, ◌∷◌, ◌++◌, IfOk, T};
 ghost use Rattle.std.specs.FinMap.{put, is_sorted};
 ghost use Rattle.store_tree.specs.Contents.{without_tied};
-ghost use Rattle.store_tree.specs.Heights.{DifferByAtMost};
+ghost use Rattle.store_tree.specs.Heights.{DifferByAtMost, IsGrown};
 ghost use Rattle.store_tree.specs.KeyOrder.{digest_of, key_cmp};
 
 use crate::balance::balance;
-use crate::branch::{Branch, fork};
+use crate::branch::{Branch, Link, fork};
 use crate::item::Item;
+use crate::leaves::{branch_of, one_leaf, with_in_leaf};
 use gql_plain::{NoMemory, Steps};
 use std::alloc::Global;
 use std::cmp::Ordering;
@@ -21,13 +22,15 @@ pub(crate) fn with_entry<V: Drop, C: Steps>(
 ) -> Result<Branch<V>, NoMemory>
     requires { T (is_sorted key_cmp branch.now.pairs) }
     ensures pairs { IfOk result (λ b. b.pairs ≡ put key_cmp item.0 item.1 branch.now.pairs) }
-    ensures height { IfOk result (λ b. (branch.now.height ≤ b.height) × (b.height ≤ branch.now.height + 1)) }
+    ensures height { IfOk result (λ b. IsGrown branch.now.height b.height) }
     ensures looks { C.looks steps.new ≡ C.looks steps.old }
     ensures applies { C.applies steps.new ≡ C.applies steps.old }
-    ensures nodes { C.nodes steps.new ≤ C.nodes steps.old + 3 * (branch.now.height + 1) }
+    ensures nodes { C.nodes steps.new ≤ C.nodes steps.old + 4 * (branch.now.height + 1) }
 {
-    let Some(node) = &branch.link else {
-        return fork(alloc, Branch::empty(), item, Branch::empty(), steps);
+    let node = match &branch.link {
+        Link::Empty => return one_leaf(alloc, item, steps),
+        Link::Leaf(leaf) => return with_in_leaf(alloc, leaf, item, steps),
+        Link::Fork(node) => node,
     };
     match node.item.order(item.digest(), item.key()) {
         Ordering::Less => {
@@ -56,10 +59,16 @@ pub(crate) fn without_entry<V: Drop, C: Steps>(
     ensures height { IfOk result (λ b. (b.height ≤ branch.now.height) × (branch.now.height ≤ b.height + 1)) }
     ensures looks { C.looks steps.new ≡ C.looks steps.old }
     ensures applies { C.applies steps.new ≡ C.applies steps.old }
-    ensures nodes { C.nodes steps.new ≤ C.nodes steps.old + 3 * branch.now.height }
+    ensures nodes { C.nodes steps.new ≤ C.nodes steps.old + 4 * branch.now.height }
 {
-    let Some(node) = &branch.link else {
-        return Ok(Branch::empty());
+    let node = match &branch.link {
+        Link::Empty => return Ok(Branch::empty()),
+        Link::Leaf(leaf) => {
+            steps.node();
+            let rest = leaf.without(alloc, digest, key)?;
+            return branch_of(alloc, rest);
+        }
+        Link::Fork(node) => node,
     };
     match node.item.order(digest, key) {
         Ordering::Less => {
@@ -87,7 +96,7 @@ fn join<V: Drop, C: Steps>(
         × (b.height ≤ max left.now.height right.now.height + 1)) }
     ensures looks { C.looks steps.new ≡ C.looks steps.old }
     ensures applies { C.applies steps.new ≡ C.applies steps.old }
-    ensures nodes { C.nodes steps.new ≤ C.nodes steps.old + 3 * (right.now.height + 1) }
+    ensures nodes { C.nodes steps.new ≤ C.nodes steps.old + 4 * (right.now.height + 1) }
 {
     if right.height() == 0 {
         return left.share();
@@ -107,10 +116,17 @@ fn first_and_rest<V: Drop, C: Steps>(
     ensures height { IfOk result (λ r. (r.1.height ≤ branch.now.height) × (branch.now.height ≤ r.1.height + 1)) }
     ensures looks { C.looks steps.new ≡ C.looks steps.old }
     ensures applies { C.applies steps.new ≡ C.applies steps.old }
-    ensures nodes { C.nodes steps.new ≤ C.nodes steps.old + 3 * branch.now.height }
+    ensures nodes { C.nodes steps.new ≤ C.nodes steps.old + 4 * branch.now.height }
 {
-    let Some(node) = &branch.link else {
-        unreachable!()
+    let node = match &branch.link {
+        Link::Empty => unreachable!(),
+        Link::Leaf(leaf) => {
+            steps.node();
+            let (first, rest) = leaf.first_and_rest(alloc)?;
+            let others = branch_of(alloc, rest)?;
+            return Ok((first, others));
+        }
+        Link::Fork(node) => node,
     };
     if node.left.height() == 0 {
         return Ok((node.item.share()?, node.right.share()?));

@@ -6,6 +6,8 @@ mod branch;
 mod change;
 mod in_place;
 mod item;
+mod leaf;
+mod leaves;
 pub mod tree;
 
 pub use tree::Tree;

@@ -1,5 +1,6 @@
 use crate::Tree;
 use crate::item::digest;
+use crate::leaf::MOST;
 use gql_plain::{Counts, NoMemory, Words};
 use std::alloc::Global;
 use std::rc::Rc;
@@ -132,9 +133,13 @@ fn old_versions_stay(rt: HostRuntime) -> Result<(), Fail> {
                 numbers.remove(place);
                 tree = without_number(alloc, &tree, number, &mut steps)?;
             }
-            Err(place) => {
+            Err(place) if change % 2 == 0 => {
                 numbers.insert(place, number)?;
                 tree = with_number(alloc, &tree, number, &mut steps)?;
+            }
+            Err(place) => {
+                numbers.insert(place, number)?;
+                tree = put_at(alloc, tree, number, number, &mut steps)?;
             }
         }
         if change % 10 == 0 {
@@ -213,6 +218,59 @@ fn puts_agree_with_sorted_lists(rt: HostRuntime) -> Result<(), Fail> {
         assert!(rt; agrees(alloc, &tree, &numbers)?, "{count} by {step}");
         let tree = fill(alloc, tree, count, 1)?;
         assert!(rt; agrees(alloc, &tree, &numbers)?, "{count} by {step}");
+    }
+    Ok(())
+}
+
+/// The tree of the numbers below the count but one.
+fn fill_but(alloc: Global, count: u64, left_out: u64) -> Result<Tree<u64>, NoMemory> {
+    let mut steps = Counts::new();
+    let mut tree = Tree::new();
+    for place in 1..count {
+        let number = left_out.wrapping_add(place) % count.max(1);
+        tree = put_at(alloc, tree, number, number, &mut steps)?;
+    }
+    Ok(tree)
+}
+
+#[test]
+fn a_full_leaf_is_parted_at_each_place(rt: HostRuntime) -> Result<(), Fail> {
+    let alloc = rt.alloc();
+    let count = MOST as u64 + 1;
+    let numbers = numbers_below(alloc, count)?;
+    // Each number is the last one once, so that it stands at each place of the full leaf.
+    for last in 0..count {
+        let full = fill_but(alloc, count, last)?;
+        let mut steps = Counts::new();
+        let more = with_number(alloc, &full, last, &mut steps)?;
+        // A copy, a later leaf and a node over them.
+        assert_eq!(rt; steps.nodes, 3);
+        assert!(rt; agrees(alloc, &more, &numbers)?, "inserted {last}");
+        assert_eq!(rt; full.len(), MOST as u64);
+        assert!(rt; full.get(key_of(alloc, last)?.as_str()).is_none());
+        let mut steps = Counts::new();
+        let put = put_at(alloc, full, last, last, &mut steps)?;
+        assert_eq!(rt; steps.nodes, 2);
+        assert!(rt; agrees(alloc, &put, &numbers)?, "put {last}");
+    }
+    Ok(())
+}
+
+#[test]
+fn all_entries_are_removed(rt: HostRuntime) -> Result<(), Fail> {
+    let alloc = rt.alloc();
+    // Ascending, descending, mixed.
+    for (count, step) in [(600, 1), (600, 599), (600, 271)] {
+        let mut tree = fill(alloc, Tree::new(), count, 7)?;
+        for place in 0..count {
+            let number = place.wrapping_mul(step) % count.max(1);
+            tree = without_number(alloc, &tree, number, &mut Counts::new())?;
+            assert!(rt; tree.get(key_of(alloc, number)?.as_str()).is_none());
+        }
+        assert!(rt;
+            agrees(alloc, &tree, &numbers_below(alloc, 0)?)?,
+            "by {step}"
+        );
     }
     Ok(())
 }

@@ -19,9 +19,10 @@ use std::rc::Rc;
 /// A map from text to shared values, seen as its pairs in the byte order of the keys, and its
 /// height.
 ///
-/// `insert` and `remove` leave the tree as it is, and give a new version, which shares with the old
-/// one all nodes but those on the way to the key. `put` takes the tree, and writes in place the nodes
-/// that no other version holds. Each node made is counted by `Steps::node`.
+/// The entries stand in leaves of a few each, and one in each node above them. `insert` and `remove`
+/// leave the tree as it is, and give a new version. It shares with the old one all leaves and nodes
+/// but those on the way to the key. `put` takes the tree, and writes in place the leaves and nodes
+/// that no other version holds. Each leaf or node made is counted by `Steps::node`.
 #[derive(Drop)]
 pub struct Tree<V> {
     root: Branch<V>,
@@ -68,7 +69,7 @@ impl<V: Drop> Tree<V> {
         self.root().get(digest(key), key)
     }
 
-    /// An equal tree that shares the nodes, in constant time.
+    /// An equal tree that shares the leaves and nodes, in constant time.
     pub fn version(&self) -> Result<Tree<V>, NoMemory>
         ensures same { IfOk result (λ t. t ≡ self.now) }
         ensures in_order { KeysRise self.now.pairs }
@@ -103,8 +104,8 @@ impl<V: Drop> Tree<V> {
         })
     }
 
-    /// The map with the value at the key, in place of one that stands there. A node that no other
-    /// version holds is written in place. After an error the tree is gone.
+    /// The map with the value at the key, in place of one that stands there. A leaf or a node that
+    /// no other version holds is written in place. After an error the tree is gone.
     ///
     /// `nodes` rises by at most `8 * (h + 1)`, where `h` is the height before.
     pub fn put<C: Steps>(
@@ -122,11 +123,10 @@ impl<V: Drop> Tree<V> {
         ensures bound { C.nodes steps.new ≤ C.nodes steps.old
             + 8 * (2 * binary_digits (length self.pairs) + 1) }
     {
-        let root = self.into_root();
+        let mut root = self.into_root();
         let item = Item::new(alloc, key, value)?;
-        Ok(Tree {
-            root: put_entry(alloc, root, item, steps)?,
-        })
+        put_entry(alloc, &mut root, item, steps)?;
+        Ok(Tree { root })
     }
 
     /// The map without the key.
