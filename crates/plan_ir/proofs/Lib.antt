@@ -1,0 +1,5 @@
+pub mod NodeLaws
+pub mod NormalLaws
+pub mod ReaderLaws
+pub mod ExpansionRows
+pub mod TextRows

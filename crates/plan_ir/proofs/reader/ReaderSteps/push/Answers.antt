@@ -1,0 +1,7 @@
+use Rattle.std.proofs.Common.{arith}
+use Rattle.std.proofs.lemmas.Grind.{common_steps}
+use Rattle.plan_ir.proofs.ReaderLaws.{steps_of-append}
+use Rattle.plan_ir.proofs.reader.ReaderSteps.push.Goals as goal
+
+pub returns-clause-ok : goal.returns-clause-ok
+returns-clause-ok c = grind (arith, common_steps, steps_of-append)

@@ -1,0 +1,222 @@
+//! Plans by which records are read.
+ghost use Rattle.std.specs.Prelude.{◌≡◌, IfOk, OnOk, OnErr, IsTrue, ◌↔◌};
+ghost use Rattle.plan_ir.specs.Reader.{done, reader_append, number_of};
+ghost use Rattle.plan_ir.specs.ReaderView.{step_of, steps_of};
+
+use crate::copies::copy_of_conn;
+use crate::guard::Guard;
+use gql_ast::Arguments;
+use gql_plain::{Conn, Ids, Name, NoMemory};
+use std::alloc::Global;
+use std::marker::Model;
+
+/// What records are asked for, in the masked form: a spread stands as a pointer to its fragment.
+#[cycle(reader)]
+#[derive(Debug, Drop)]
+pub struct ReaderPlan {
+    pub steps: ReaderSteps,
+}
+
+/// One step of a plan.
+#[cycle(reader)]
+#[derive(Debug, Drop)]
+pub enum ReaderStep {
+    /// The name of the type of the record.
+    Typename {
+        response: Name,
+    },
+    /// A field of a scalar or an enum, or of a list of these.
+    Leaf {
+        response: Name,
+        name: Name,
+        arguments: Arguments,
+    },
+    /// A field of objects.
+    Object {
+        response: Name,
+        name: Name,
+        arguments: Arguments,
+        /// Whether the field is a list.
+        many: bool,
+        /// The possible types of the field's named type, and those of them that have an id. Both
+        /// lists may have other owners.
+        types: Ids,
+        identified: Ids,
+        /// Whether the named type is abstract.
+        open_type: bool,
+        connection: Option<Conn>,
+        child: ReaderPlan,
+    },
+    /// Steps that are taken where a guard lets them.
+    Guarded {
+        guard: Guard,
+        child: ReaderPlan,
+    },
+    /// A spread that is not followed. Its arguments have one value for each local variable of the
+    /// fragment, in written order: the value that is given, else the default, else null.
+    Pointer {
+        fragment: Name,
+        arguments: Arguments,
+        /// The plan of the fragment where it is `@inline`.
+        inline: Option<ReaderPlan>,
+    },
+}
+
+/// Steps in order.
+#[cycle(reader)]
+#[derive(Debug, Drop)]
+pub struct ReaderSteps {
+    pub items: Vec<ReaderStep>,
+}
+
+impl Model for ReaderSteps {
+    ghost use Rattle.plan_ir.specs.Reader.{Reader, depth};
+    ghost use Rattle.plan_ir.specs.ReaderCode.{coded_reader};
+
+    ghost Value = { Reader };
+
+    ghost coded = { coded_reader };
+
+    ghost use Rattle.plan_ir.specs.ReaderView.{steps_of};
+
+    ghost view = { λ s. steps_of s.items.items };
+
+    ghost size = { depth };
+
+    ghost use Rattle.plan_ir.specs.ReaderFalls.{reader_falls};
+
+    ghost size_decreases = { λ s h. reader_falls s.items.items };
+}
+
+impl ReaderSteps {
+    /// No step; takes no memory.
+    pub fn new(alloc: Global) -> ReaderSteps
+        ensures { result ≡ done }
+    {
+        ReaderSteps {
+            items: Vec::new(alloc),
+        }
+    }
+
+    /// Puts a step at the end.
+    pub fn push(&mut self, step: ReaderStep) -> Result<(), NoMemory>
+        ensures ok { OnOk result (self.new ≡ reader_append self.old (step_of step)) }
+        ensures err { OnErr result (self.new ≡ self.old) }
+    {
+        self.items.push(step)?;
+        Ok(())
+    }
+
+    /// The steps in order.
+    pub fn as_slice(&self) -> &[ReaderStep]
+        ensures { steps_of result.now ≡ self.now }
+    {
+        &self.items
+    }
+
+    /// The number of steps, those inside them not counted.
+    pub fn len(&self) -> usize
+        ensures { result ≡ number_of self.now }
+    {
+        self.items.len()
+    }
+
+    /// Whether there is no step.
+    pub fn is_empty(&self) -> bool
+        ensures { IsTrue result ↔ (self.now ≡ done) }
+    {
+        self.items.is_empty()
+    }
+
+    /// The same steps, one more owner of their lists of types.
+    #[cycle(copy)]
+    pub fn copy(&self) -> Result<ReaderSteps, NoMemory>
+        ensures { IfOk result (λ steps. steps ≡ self.now) }
+    {
+        let mut items = Vec::new(*self.items.allocator());
+        'steps: for step in &self.items {
+            items.push(step.copy()?)?;
+        }
+        Ok(ReaderSteps { items })
+    }
+}
+
+impl ReaderPlan {
+    /// The same plan, one more owner of its lists of types.
+    #[cycle(copy)]
+    pub fn copy(&self) -> Result<ReaderPlan, NoMemory>
+        ensures { IfOk result (λ plan. plan ≡ self.now) }
+    {
+        Ok(ReaderPlan {
+            steps: self.steps.copy()?,
+        })
+    }
+}
+
+impl ReaderStep {
+    /// The same step, one more owner of its lists of types.
+    #[cycle(copy)]
+    pub fn copy(&self) -> Result<ReaderStep, NoMemory>
+        ensures { IfOk result (λ step. step ≡ self.now) }
+    {
+        Ok(match self {
+            ReaderStep::Typename { response } => ReaderStep::Typename {
+                response: response.copy()?,
+            },
+            ReaderStep::Leaf {
+                response,
+                name,
+                arguments,
+            } => ReaderStep::Leaf {
+                response: response.copy()?,
+                name: name.copy()?,
+                arguments: arguments.copy()?,
+            },
+            ReaderStep::Object {
+                response,
+                name,
+                arguments,
+                many,
+                types,
+                identified,
+                open_type,
+                connection,
+                child,
+            } => ReaderStep::Object {
+                response: response.copy()?,
+                name: name.copy()?,
+                arguments: arguments.copy()?,
+                many: *many,
+                types: types.copy()?,
+                identified: identified.copy()?,
+                open_type: *open_type,
+                connection: copy_of_conn(connection)?,
+                child: child.copy()?,
+            },
+            ReaderStep::Guarded { guard, child } => ReaderStep::Guarded {
+                guard: guard.copy()?,
+                child: child.copy()?,
+            },
+            ReaderStep::Pointer {
+                fragment,
+                arguments,
+                inline,
+            } => ReaderStep::Pointer {
+                fragment: fragment.copy()?,
+                arguments: arguments.copy()?,
+                inline: copy_of_plan(inline)?,
+            },
+        })
+    }
+}
+
+/// The same plan, or none where there is none.
+#[cycle(copy)]
+fn copy_of_plan(plan: &Option<ReaderPlan>) -> Result<Option<ReaderPlan>, NoMemory>
+    ensures { IfOk result (λ copy. copy ≡ plan.now) }
+{
+    match plan {
+        Some(plan) => Ok(Some(plan.copy()?)),
+        None => Ok(None),
+    }
+}
