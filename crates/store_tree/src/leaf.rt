@@ -76,11 +76,7 @@ impl<V: Drop> Leaf<V> {
     /// Puts an entry into the leaf, in place of one that has the same key. A leaf that has too many
     /// then is parted: it keeps the first ones, and the entry after them and the later ones come
     /// back. Only a leaf that is parted takes memory.
-    pub(crate) fn put(
-        &mut self,
-        alloc: Global,
-        item: Item<V>,
-    ) -> Result<Option<(Item<V>, Leaf<V>)>, NoMemory>
+    pub(crate) fn put(&mut self, item: Item<V>) -> Result<Option<(Item<V>, Leaf<V>)>, NoMemory>
         requires in_order { T (is_sorted key_cmp self.old) }
         requires some { 1 ≤ length self.old }
         requires few { length self.old ≤ MOST }

@@ -64,7 +64,7 @@ pub(crate) fn put_in_leaf<V: Drop, C: Steps>(
     let Some(place) = Rc::get_mut(&mut leaf) else {
         return with_in_leaf(alloc, &leaf, item, steps);
     };
-    match place.put(alloc, item)? {
+    match place.put(item)? {
         None => Ok(Branch {
             link: Link::Leaf(leaf),
         }),
@@ -89,7 +89,7 @@ pub(crate) fn with_in_leaf<V: Drop, C: Steps>(
 {
     steps.node();
     let mut copy = leaf.copy(alloc)?;
-    match copy.put(alloc, item)? {
+    match copy.put(item)? {
         None => Ok(Branch {
             link: Link::Leaf(Rc::new(alloc, copy)?),
         }),

@@ -11,280 +11,278 @@ fn key_of(alloc: Global, number: u64) -> Result<Words, NoMemory> {
     Ok(Words::from_string(format!(in alloc; "client:node:{number:05}")?))
 }
 
+/// The tree with a value at a key, by `put` or else by `insert`.
+fn with_value(
+    alloc: Global,
+    tree: Tree<u64>,
+    in_place: bool,
+    key: Words,
+    value: u64,
+    steps: &mut Counts,
+) -> Result<Tree<u64>, NoMemory> {
+    let value = Rc::new(alloc, value)?;
+    if in_place {
+        return tree.put(alloc, key, value, steps);
+    }
+    tree.insert(alloc, key, value, steps)
+}
+
+/// The tree with a number put in at its key.
 fn with_number(
     alloc: Global,
-    tree: &Tree<u64>,
+    tree: Tree<u64>,
+    in_place: bool,
     number: u64,
     steps: &mut Counts,
 ) -> Result<Tree<u64>, NoMemory> {
-    let value = Rc::new(alloc, number)?;
-    tree.insert(alloc, key_of(alloc, number)?, value, steps)
+    let key = key_of(alloc, number)?;
+    with_value(alloc, tree, in_place, key, number, steps)
 }
 
-fn without_number(
-    alloc: Global,
-    tree: &Tree<u64>,
-    number: u64,
-    steps: &mut Counts,
-) -> Result<Tree<u64>, NoMemory> {
-    tree.remove(alloc, key_of(alloc, number)?.as_str(), steps)
+fn without_number(alloc: Global, tree: &Tree<u64>, number: u64) -> Result<Tree<u64>, NoMemory> {
+    let key = key_of(alloc, number)?;
+    tree.remove(alloc, key.as_str(), &mut Counts::new())
 }
 
-/// Whether the tree holds exactly these numbers, which rise, each at its key.
-fn agrees(alloc: Global, tree: &Tree<u64>, numbers: &[u64]) -> Result<bool, NoMemory> {
+/// Whether the key is that of the number, and the tree has the number there.
+fn stands_at(alloc: Global, tree: &Tree<u64>, key: &Words, number: u64) -> Result<bool, NoMemory> {
+    let wanted = key_of(alloc, number)?;
+    let found = tree.get(wanted.as_str()).copied();
+    Ok(key.as_str() == wanted.as_str() && found == Some(number))
+}
+
+/// Whether the tree holds exactly the numbers from the first bound up to below the second one, each
+/// at its key.
+fn agrees(alloc: Global, tree: &Tree<u64>, from: u64, to: u64) -> Result<bool, NoMemory> {
     let keys = tree.keys(alloc)?;
-    if keys.len() != numbers.len() || tree.len() != numbers.len() as u64 {
-        return Ok(false);
-    }
-    for (key, number) in keys.as_slice().iter().zip(numbers) {
-        let wanted = key_of(alloc, *number)?;
-        let found = tree.get(wanted.as_str()).copied();
-        if key.as_str() != wanted.as_str() || found != Some(*number) {
+    let mut number = from;
+    for key in keys.as_slice() {
+        if !stands_at(alloc, tree, key, number)? {
             return Ok(false);
         }
+        number = number.wrapping_add(1);
     }
-    Ok(true)
+    Ok(number == to && tree.len() == to.wrapping_sub(from))
 }
 
-/// The tree of the numbers below the count, each put in so far from the one before.
-fn tree_of(
+/// The tree with each number below the count put in at its key, each so far from the one before.
+fn fill(
     alloc: Global,
+    tree: Tree<u64>,
+    in_place: bool,
     count: u64,
     step: u64,
-    steps: &mut Counts,
 ) -> Result<Tree<u64>, NoMemory> {
-    let mut tree = Tree::new();
+    let mut steps = Counts::new();
+    let mut tree = tree;
     for place in 0..count {
         let number = place.wrapping_mul(step) % count.max(1);
-        tree = with_number(alloc, &tree, number, steps)?;
+        tree = with_number(alloc, tree, in_place, number, &mut steps)?;
     }
     Ok(tree)
 }
 
-/// The tree without the multiples of three below the count, taken out in the same order.
-fn without_thirds(
-    alloc: Global,
-    tree: &Tree<u64>,
-    count: u64,
-    step: u64,
-) -> Result<Tree<u64>, NoMemory> {
-    let mut tree = tree.version()?;
+/// The tree with each number below the count taken out, each so far from the one before.
+fn drain(alloc: Global, tree: Tree<u64>, count: u64, step: u64) -> Result<Tree<u64>, NoMemory> {
+    let mut tree = tree;
     for place in 0..count {
         let number = place.wrapping_mul(step) % count.max(1);
-        if number % 3 == 0 {
-            tree = without_number(alloc, &tree, number, &mut Counts::new())?;
-        }
+        tree = without_number(alloc, &tree, number)?;
     }
     Ok(tree)
 }
 
-/// The numbers below the count.
-fn numbers_below(alloc: Global, count: u64) -> Result<Vec<u64>, NoMemory> {
-    let mut numbers = Vec::new(alloc);
-    for number in 0..count {
-        numbers.push(number)?;
+/// Whether a tree of the numbers below the count is what it is to be when the first third is taken
+/// out, and then each number, there or not.
+fn drains(alloc: Global, tree: Tree<u64>, count: u64, step: u64) -> Result<bool, NoMemory> {
+    let third = count / 3;
+    let rest = drain(alloc, tree, third, 7)?;
+    if !agrees(alloc, &rest, third, count)? {
+        return Ok(false);
     }
-    Ok(numbers)
+    let none = drain(alloc, rest, count, step)?;
+    agrees(alloc, &none, 0, 0)
 }
 
-/// Those of the numbers below the count that three does not divide.
-fn not_thirds(alloc: Global, count: u64) -> Result<Vec<u64>, NoMemory> {
-    let mut numbers = Vec::new(alloc);
-    for number in 0..count {
-        if number % 3 != 0 {
-            numbers.push(number)?;
-        }
+/// Whether a tree is what it is to be when the numbers below the count are put in, put in once more,
+/// and taken out.
+fn fills(alloc: Global, in_place: bool, count: u64, step: u64) -> Result<bool, NoMemory> {
+    let tree = fill(alloc, Tree::new(), in_place, count, step)?;
+    if !agrees(alloc, &tree, 0, count)? {
+        return Ok(false);
     }
-    Ok(numbers)
+    let tree = fill(alloc, tree, in_place, count, 1)?;
+    if !agrees(alloc, &tree, 0, count)? {
+        return Ok(false);
+    }
+    drains(alloc, tree, count, step)
 }
 
 #[test]
 fn trees_agree_with_sorted_lists(rt: HostRuntime) -> Result<(), Fail> {
     let alloc = rt.alloc();
-    // Ascending, descending, mixed.
-    for (count, step) in [(3_000, 1), (3_000, 2_999), (3_000, 1_319), (8, 3), (1, 1)] {
-        let mut steps = Counts::new();
-        let tree = tree_of(alloc, count, step, &mut steps)?;
-        assert!(rt; steps.nodes >= count);
-        assert!(rt;
-            agrees(alloc, &tree, &numbers_below(alloc, count)?)?,
-            "{count} by {step}"
-        );
-        let rest = without_thirds(alloc, &tree, count, step)?;
-        assert!(rt;
-            agrees(alloc, &rest, &not_thirds(alloc, count)?)?,
-            "{count} by {step}"
-        );
+    // Ascending, descending, mixed, few, one and none.
+    for (count, step) in [(600, 1), (500, 499), (1_000, 319), (8, 3), (1, 1), (0, 1)] {
+        assert!(rt; fills(alloc, false, count, step)?, "inserts: {count}");
+        assert!(rt; fills(alloc, true, count, step)?, "puts: {count}");
     }
     Ok(())
+}
+
+/// The tree of the numbers below the count, put in one by one by `insert` and `put` in turn. Each
+/// version before a tenth one is kept.
+fn grow(alloc: Global, count: u64, versions: &mut Vec<Tree<u64>>) -> Result<Tree<u64>, NoMemory> {
+    let mut steps = Counts::new();
+    let mut tree = Tree::new();
+    for number in 0..count {
+        if number % 10 == 0 {
+            versions.push(tree.version()?)?;
+        }
+        tree = with_number(alloc, tree, number % 2 == 1, number, &mut steps)?;
+    }
+    Ok(tree)
+}
+
+/// Takes the numbers below the count out one by one. Each version before a tenth one is kept.
+fn shrink(
+    alloc: Global,
+    tree: Tree<u64>,
+    count: u64,
+    versions: &mut Vec<Tree<u64>>,
+) -> Result<(), NoMemory> {
+    let mut tree = tree;
+    for number in 0..count {
+        if number % 10 == 0 {
+            versions.push(tree.version()?)?;
+        }
+        tree = without_number(alloc, &tree, number)?;
+    }
+    Ok(())
+}
+
+/// Whether each version has what it had when it was kept.
+fn all_agree(alloc: Global, versions: &[Tree<u64>], count: u64) -> Result<bool, NoMemory> {
+    let mut at: u64 = 0;
+    for version in versions {
+        if !agrees(alloc, version, at.saturating_sub(count), at.min(count))? {
+            return Ok(false);
+        }
+        at = at.wrapping_add(10);
+    }
+    Ok(at == 2u64.wrapping_mul(count))
 }
 
 #[test]
 fn old_versions_stay(rt: HostRuntime) -> Result<(), Fail> {
     let alloc = rt.alloc();
-    let mut steps = Counts::new();
-    let mut tree = Tree::new();
-    let mut numbers: Vec<u64> = Vec::new(alloc);
     let mut versions = Vec::new(alloc);
-    for change in 0..1_000u64 {
-        let number = change * 37 % 300;
-        match numbers.binary_search(&number) {
-            Ok(place) => {
-                numbers.remove(place);
-                tree = without_number(alloc, &tree, number, &mut steps)?;
-            }
-            Err(place) if change % 2 == 0 => {
-                numbers.insert(place, number)?;
-                tree = with_number(alloc, &tree, number, &mut steps)?;
-            }
-            Err(place) => {
-                numbers.insert(place, number)?;
-                tree = put_at(alloc, tree, number, number, &mut steps)?;
-            }
-        }
-        if change % 10 == 0 {
-            versions.push((tree.version()?, numbers.clone()?))?;
-        }
-    }
-    for (version, numbers) in &versions {
-        assert!(rt; agrees(alloc, version, numbers)?);
-    }
-    assert_eq!(rt; versions.len(), 100);
+    let tree = grow(alloc, 500, &mut versions)?;
+    shrink(alloc, tree, 500, &mut versions)?;
+    assert!(rt; all_agree(alloc, versions.as_slice(), 500)?);
     Ok(())
 }
 
 /// The tree with a value at the key.
-fn with_key(alloc: Global, tree: &Tree<u64>, key: &str, value: u64) -> Result<Tree<u64>, NoMemory> {
+fn with_key(
+    alloc: Global,
+    tree: Tree<u64>,
+    in_place: bool,
+    key: &str,
+    value: u64,
+    steps: &mut Counts,
+) -> Result<Tree<u64>, NoMemory> {
     let key = Words::new(alloc, key)?;
-    let value = Rc::new(alloc, value)?;
-    tree.insert(alloc, key, value, &mut Counts::new())
+    with_value(alloc, tree, in_place, key, value, steps)
 }
 
-fn without_key(alloc: Global, tree: &Tree<u64>, key: &str) -> Result<Tree<u64>, NoMemory> {
-    tree.remove(alloc, key, &mut Counts::new())
-}
-
-/// Whether the tree holds so many keys, and the value at `a`.
+/// Whether the tree has so many keys, and the value at `a`.
 fn holds(tree: &Tree<u64>, len: u64, found: Option<u64>) -> bool {
     tree.len() == len && tree.get("a").copied() == found
+}
+
+/// Whether the tree without the key has so many keys, and the value at `a`.
+fn rest_holds(
+    alloc: Global,
+    tree: &Tree<u64>,
+    key: &str,
+    len: u64,
+    found: Option<u64>,
+) -> Result<bool, NoMemory> {
+    let rest = tree.remove(alloc, key, &mut Counts::new())?;
+    Ok(holds(&rest, len, found))
 }
 
 #[test]
 fn a_value_is_replaced(rt: HostRuntime) -> Result<(), Fail> {
     let alloc = rt.alloc();
-    let empty: Tree<u64> = Tree::new();
-    let one = with_key(alloc, &empty, "a", 1)?;
-    let two = with_key(alloc, &one, "a", 2)?;
-    let none = without_key(alloc, &two, "a")?;
-    let same = without_key(alloc, &two, "b")?;
-    assert!(rt; holds(&empty, 0, None));
-    assert!(rt; holds(&one, 1, Some(1)));
-    assert!(rt; holds(&two, 1, Some(2)));
+    let none = Tree::new();
     assert!(rt; holds(&none, 0, None));
-    assert!(rt; holds(&same, 1, Some(2)));
+    assert!(rt; rest_holds(alloc, &none, "a", 0, None)?);
+    let one = with_key(alloc, none, false, "a", 1, &mut Counts::new())?;
+    assert!(rt; holds(&one, 1, Some(1)));
+    let two = with_key(alloc, one, false, "a", 2, &mut Counts::new())?;
+    assert!(rt; holds(&two, 1, Some(2)));
+    assert!(rt; rest_holds(alloc, &two, "a", 0, None)?);
+    assert!(rt; rest_holds(alloc, &two, "b", 1, Some(2))?);
     Ok(())
 }
 
-/// The tree with a value put in at the key of a number.
-fn put_at(
-    alloc: Global,
-    tree: Tree<u64>,
-    number: u64,
-    value: u64,
-    steps: &mut Counts,
-) -> Result<Tree<u64>, NoMemory> {
-    let value = Rc::new(alloc, value)?;
-    tree.put(alloc, key_of(alloc, number)?, value, steps)
-}
-
-/// The tree with each number below the count put in at its key, each so far from the one before.
-fn fill(alloc: Global, tree: Tree<u64>, count: u64, step: u64) -> Result<Tree<u64>, NoMemory> {
-    let mut steps = Counts::new();
-    let mut tree = tree;
-    for place in 0..count {
-        let number = place.wrapping_mul(step) % count.max(1);
-        tree = put_at(alloc, tree, number, number, &mut steps)?;
-    }
-    Ok(tree)
-}
-
-#[test]
-fn puts_agree_with_sorted_lists(rt: HostRuntime) -> Result<(), Fail> {
-    let alloc = rt.alloc();
-    // Ascending, descending and mixed, into the empty tree and then over what is there.
-    for (count, step) in [(2_000, 1), (2_000, 1_999), (2_000, 1_319), (0, 1)] {
-        let tree = fill(alloc, Tree::new(), count, step)?;
-        let numbers = numbers_below(alloc, count)?;
-        assert!(rt; agrees(alloc, &tree, &numbers)?, "{count} by {step}");
-        let tree = fill(alloc, tree, count, 1)?;
-        assert!(rt; agrees(alloc, &tree, &numbers)?, "{count} by {step}");
-    }
-    Ok(())
-}
-
-/// The tree of the numbers below the count but one.
-fn fill_but(alloc: Global, count: u64, left_out: u64) -> Result<Tree<u64>, NoMemory> {
+/// The tree of the numbers below the count, but for the last one to come.
+fn fill_but(alloc: Global, count: u64, last: u64) -> Result<Tree<u64>, NoMemory> {
     let mut steps = Counts::new();
     let mut tree = Tree::new();
     for place in 1..count {
-        let number = left_out.wrapping_add(place) % count.max(1);
-        tree = put_at(alloc, tree, number, number, &mut steps)?;
+        let number = last.wrapping_add(place) % count.max(1);
+        tree = with_number(alloc, tree, true, number, &mut steps)?;
     }
     Ok(tree)
+}
+
+/// Whether a full leaf is parted when the last number comes, and so many leaves and nodes are made.
+fn parts(alloc: Global, in_place: bool, last: u64, nodes: u64) -> Result<bool, NoMemory> {
+    let count = MOST as u64 + 1;
+    let full = fill_but(alloc, count, last)?;
+    if full.len() != MOST as u64 {
+        return Ok(false);
+    }
+    let mut steps = Counts::new();
+    let tree = with_number(alloc, full, in_place, last, &mut steps)?;
+    if steps.nodes != nodes {
+        return Ok(false);
+    }
+    agrees(alloc, &tree, 0, count)
 }
 
 #[test]
 fn a_full_leaf_is_parted_at_each_place(rt: HostRuntime) -> Result<(), Fail> {
     let alloc = rt.alloc();
-    let count = MOST as u64 + 1;
-    let numbers = numbers_below(alloc, count)?;
-    // Each number is the last one once, so that it stands at each place of the full leaf.
-    for last in 0..count {
-        let full = fill_but(alloc, count, last)?;
-        let mut steps = Counts::new();
-        let more = with_number(alloc, &full, last, &mut steps)?;
-        // A copy, a later leaf and a node over them.
-        assert_eq!(rt; steps.nodes, 3);
-        assert!(rt; agrees(alloc, &more, &numbers)?, "inserted {last}");
-        assert_eq!(rt; full.len(), MOST as u64);
-        assert!(rt; full.get(key_of(alloc, last)?.as_str()).is_none());
-        let mut steps = Counts::new();
-        let put = put_at(alloc, full, last, last, &mut steps)?;
-        assert_eq!(rt; steps.nodes, 2);
-        assert!(rt; agrees(alloc, &put, &numbers)?, "put {last}");
+    // Each number is the last one once, so that it comes to each place of the full leaf.
+    for last in 0..MOST as u64 + 1 {
+        // A later leaf, and a node over both.
+        assert!(rt; parts(alloc, true, last, 2)?, "put {last}");
+        // A copy of the leaf too.
+        assert!(rt; parts(alloc, false, last, 3)?, "insert {last}");
     }
     Ok(())
 }
 
-#[test]
-fn all_entries_are_removed(rt: HostRuntime) -> Result<(), Fail> {
-    let alloc = rt.alloc();
-    // Ascending, descending, mixed.
-    for (count, step) in [(600, 1), (600, 599), (600, 271)] {
-        let mut tree = fill(alloc, Tree::new(), count, 7)?;
-        for place in 0..count {
-            let number = place.wrapping_mul(step) % count.max(1);
-            tree = without_number(alloc, &tree, number, &mut Counts::new())?;
-            assert!(rt; tree.get(key_of(alloc, number)?.as_str()).is_none());
-        }
-        assert!(rt;
-            agrees(alloc, &tree, &numbers_below(alloc, 0)?)?,
-            "by {step}"
-        );
-    }
-    Ok(())
+/// A version of the numbers below 100, and a later one into which those below 120 are put.
+fn two_versions(alloc: Global) -> Result<(Tree<u64>, Tree<u64>), NoMemory> {
+    let tree = fill(alloc, Tree::new(), true, 100, 37)?;
+    let older = tree.version()?;
+    let later = fill(alloc, tree, true, 120, 1)?;
+    Ok((older, later))
 }
 
 #[test]
 fn puts_leave_other_versions(rt: HostRuntime) -> Result<(), Fail> {
     let alloc = rt.alloc();
-    let tree = fill(alloc, Tree::new(), 100, 37)?;
-    let older = tree.version()?;
-    let tree = fill(alloc, tree, 120, 1)?;
-    let tree = put_at(alloc, tree, 7, 0, &mut Counts::new())?;
-    assert!(rt; agrees(alloc, &older, &numbers_below(alloc, 100)?)?);
-    assert_eq!(rt; tree.len(), 120);
-    assert!(rt; tree.get("client:node:00007").copied() == Some(0));
+    let (older, later) = two_versions(alloc)?;
+    assert!(rt; agrees(alloc, &later, 0, 120)?);
+    let key = "client:node:00007";
+    let later = with_key(alloc, later, true, key, 0, &mut Counts::new())?;
+    assert!(rt; later.get(key).copied() == Some(0));
+    assert!(rt; agrees(alloc, &older, 0, 100)?);
     Ok(())
 }
 
@@ -292,13 +290,13 @@ fn puts_leave_other_versions(rt: HostRuntime) -> Result<(), Fail> {
 fn puts_make_no_node_where_no_version_holds_it(rt: HostRuntime) -> Result<(), Fail> {
     let alloc = rt.alloc();
     let mut steps = Counts::new();
-    let one = put_at(alloc, Tree::new(), 1, 1, &mut steps)?;
-    let two = put_at(alloc, one.version()?, 1, 2, &mut steps)?;
-    assert_eq!(rt; steps.nodes, 2);
-    let two = put_at(alloc, two, 1, 3, &mut steps)?;
-    assert_eq!(rt; steps.nodes, 2);
-    assert!(rt; one.get("client:node:00001").copied() == Some(1));
-    assert!(rt; two.get("client:node:00001").copied() == Some(3));
+    let one = with_key(alloc, Tree::new(), true, "a", 1, &mut steps)?;
+    let two = with_key(alloc, one.version()?, true, "a", 2, &mut steps)?;
+    assert!(rt; steps.nodes == 2);
+    let two = with_key(alloc, two, true, "a", 3, &mut steps)?;
+    assert!(rt; steps.nodes == 2);
+    assert!(rt; holds(&one, 1, Some(1)));
+    assert!(rt; holds(&two, 1, Some(3)));
     Ok(())
 }
 
@@ -316,47 +314,39 @@ fn twins(alloc: Global) -> Result<(String, String), NoMemory> {
 }
 
 /// A tree with 2 at the second key, 1 at the first, and 0 at the empty one.
-fn twin_tree(alloc: Global, one: &str, other: &str) -> Result<Tree<u64>, NoMemory> {
-    let tree = with_key(alloc, &Tree::new(), other, 2)?;
-    let tree = with_key(alloc, &tree, one, 1)?;
-    with_key(alloc, &tree, "", 0)
-}
-
-/// The same tree, by `put`.
-fn put_twins(alloc: Global, one: &str, other: &str) -> Result<Tree<u64>, NoMemory> {
+fn twin_tree(alloc: Global, in_place: bool, one: &str, other: &str) -> Result<Tree<u64>, NoMemory> {
     let mut steps = Counts::new();
-    let tree = Tree::new().put(
-        alloc,
-        Words::new(alloc, other)?,
-        Rc::new(alloc, 2)?,
-        &mut steps,
-    )?;
-    let tree = tree.put(
-        alloc,
-        Words::new(alloc, one)?,
-        Rc::new(alloc, 1)?,
-        &mut steps,
-    )?;
-    tree.put(
-        alloc,
-        Words::new(alloc, "")?,
-        Rc::new(alloc, 0)?,
-        &mut steps,
-    )
+    let tree = with_key(alloc, Tree::new(), in_place, other, 2, &mut steps)?;
+    let tree = with_key(alloc, tree, in_place, one, 1, &mut steps)?;
+    with_key(alloc, tree, in_place, "", 0, &mut steps)
 }
 
-/// Whether the tree holds three keys in byte order with their values.
-fn holds_twins(alloc: Global, tree: &Tree<u64>, one: &str, other: &str) -> Result<bool, NoMemory> {
+/// Whether the tree has 0, 1 and 2 at its keys in byte order.
+fn values_rise(alloc: Global, tree: &Tree<u64>) -> Result<bool, NoMemory> {
     let keys = tree.keys(alloc)?;
-    if keys.len() != 3 {
-        return Ok(false);
-    }
-    for ((key, wanted), value) in keys.as_slice().iter().zip(["", one, other]).zip([0, 1, 2]) {
-        if key.as_str() != wanted || tree.get(wanted).copied() != Some(value) {
+    let mut value: u64 = 0;
+    for key in keys.as_slice() {
+        if tree.get(key.as_str()).copied() != Some(value) {
             return Ok(false);
         }
+        value = value.wrapping_add(1);
     }
-    Ok(true)
+    Ok(value == 3)
+}
+
+/// Whether the tree has 2 at the second key, and the value at the first.
+fn has_second(tree: &Tree<u64>, one: &str, found: Option<u64>, other: &str) -> bool {
+    tree.get(one).copied() == found && tree.get(other).copied() == Some(2)
+}
+
+/// Whether two keys of one digest are two keys, and one of them is taken out alone.
+fn stay_apart(alloc: Global, in_place: bool, one: &str, other: &str) -> Result<bool, NoMemory> {
+    let tree = twin_tree(alloc, in_place, one, other)?;
+    if !values_rise(alloc, &tree)? || !has_second(&tree, one, Some(1), other) {
+        return Ok(false);
+    }
+    let rest = tree.remove(alloc, one, &mut Counts::new())?;
+    Ok(has_second(&rest, one, None, other))
 }
 
 #[test]
@@ -364,12 +354,8 @@ fn keys_of_one_digest_stay_apart(rt: HostRuntime) -> Result<(), Fail> {
     let alloc = rt.alloc();
     let (one, other) = twins(alloc)?;
     let (one, other) = (one.as_str(), other.as_str());
-    assert_eq!(rt; digest(one), digest(other));
-    let tree = twin_tree(alloc, one, other)?;
-    assert!(rt; holds_twins(alloc, &tree, one, other)?);
-    assert!(rt; holds_twins(alloc, &put_twins(alloc, one, other)?, one, other)?);
-    let rest = without_key(alloc, &tree, one)?;
-    assert!(rt; rest.get(one).is_none());
-    assert!(rt; rest.get(other).copied() == Some(2));
+    assert!(rt; digest(one) == digest(other));
+    assert!(rt; stay_apart(alloc, false, one, other)?);
+    assert!(rt; stay_apart(alloc, true, one, other)?);
     Ok(())
 }
