@@ -13,6 +13,3 @@ mod values;
 pub use event::{LineReader, read_event};
 pub use fault::LineFault;
 pub use store_model::{Answer, Command, Commands, EdgeEdit, Event, Part, Target};
-
-#[cfg(test)]
-mod tests;

@@ -17,6 +17,3 @@ pub use event::{Answer, Event, Part, Target};
 pub use facts::{Fact, FactList, FactRow, Facts, HandleFact, HandleFacts};
 pub use leads::leads_is_least;
 pub use payload_fault::{Cause, PathStep, PathSteps, PayloadFault};
-
-#[cfg(test)]
-mod tests;

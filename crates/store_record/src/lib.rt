@@ -9,6 +9,3 @@ pub mod record;
 pub use field::{Field, FieldEntry, Fields, SharedField};
 pub use keys::{client_id, field_key, field_keys_differ, handle_key, handle_keys_differ};
 pub use record::{Record, Shared, Slot};
-
-#[cfg(test)]
-mod tests;

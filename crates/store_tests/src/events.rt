@@ -1,4 +1,4 @@
-use crate::{Command, Event, LineFault, LineReader, read_event};
+use event_script::{Command, Event, LineFault, LineReader, read_event};
 use gql_plain::NoMemory;
 use serde_json::Value;
 use std::alloc::{AllocError, Global};

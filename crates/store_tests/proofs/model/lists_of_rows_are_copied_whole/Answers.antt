@@ -1,7 +1,7 @@
 use Rattle.std.proofs.Common.{◌≡◌, ◌++◌, refl, sym, ap, ◌∙◌, subst}
 use Rattle.store_model.proofs.FactRowOrder.{after_row}
 use Rattle.store_model.specs.FactRows.{facts_of_row, IsRowAfter}
-use Rattle.store_model.proofs.tests.lists_of_rows_are_copied_whole.Goals as goal
+use Rattle.store_tests.proofs.model.lists_of_rows_are_copied_whole.Goals as goal
 
 -- 4 stands before 5
 pub push_row-requires-2-clause-after : goal.push_row-requires-2-clause-after

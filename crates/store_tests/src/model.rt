@@ -1,13 +1,13 @@
 ghost use Rattle.std.specs.Prelude.{◌≡◌, IfOk};
 ghost use Rattle.store_model.specs.FactRows.{IsFactRow};
 
-use crate::{
-    Command, Commands, EdgeEdit, Entry, Fact, FactList, FactRow, Facts, HandleFact, HandleFacts,
-    PathStep, PathSteps,
-};
 use gql_plain::{NoMemory, OptIds, Pairs, Plain, Words};
 use std::alloc::Global;
 use std::test::Fail;
+use store_model::{
+    Command, Commands, EdgeEdit, Entry, Fact, FactList, FactRow, Facts, HandleFact, HandleFacts,
+    PathStep, PathSteps,
+};
 use store_record::{Field, Fields};
 
 fn word(alloc: Global, text: &str) -> Result<Words, NoMemory>
