@@ -1,10 +1,5 @@
 pub mod CallView
-pub mod Named
 pub mod GivenNames
 pub mod Literals
 pub mod Directives
-pub mod UseView
-pub mod Parts
-pub mod UsesByName
-pub mod Needs
-pub mod Fragments
+pub mod UsesIn

@@ -6,11 +6,7 @@ mod call;
 mod calls;
 mod check;
 mod fragments;
-mod index;
-mod needs;
-mod order;
 mod rules;
 mod uses;
-mod uses_by_name;
 
 pub use check::{check_args, check_args_of};

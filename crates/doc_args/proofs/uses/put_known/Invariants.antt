@@ -3,7 +3,7 @@ use Rattle.std.proofs.Common.{◌≡◌, ◌++◌, map, drop}
 use Rattle.schema_types.specs.ArgumentRules as rules
 use Rattle.gql_graph.specs.Rules.{each}
 use Rattle.doc_sites.specs.SitesView.{argument_of}
-use Rattle.doc_args.specs.UseView.{use_of}
+use Rattle.doc_uses.specs.UseView.{use_of}
 use Rattle.doc_args.proofs.uses.put_known.Given as goal
 
 abbrev pub invariant-arguments : goal.invariant-arguments

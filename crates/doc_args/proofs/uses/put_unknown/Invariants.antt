@@ -2,7 +2,8 @@
 use Rattle.std.proofs.Common.{◌≡◌, ◌++◌, map, drop}
 use Rattle.gql_graph.specs.Rules.{each}
 use Rattle.doc_sites.specs.SitesView.{argument_of}
-use Rattle.doc_args.specs.UseView.{use_of, uses_unknown}
+use Rattle.doc_uses.specs.UseView.{use_of}
+use Rattle.doc_args.specs.UsesIn.{uses_unknown}
 use Rattle.doc_args.proofs.uses.put_unknown.Given as goal
 
 abbrev pub invariant-arguments : goal.invariant-arguments

@@ -5,7 +5,7 @@ use Rattle.schema_trees.specs.LocatedView.{name_of}
 use Rattle.schema_trees.specs.declared.located.NameAt.{NameAt}
 use Rattle.schema_rules.proofs.FoundAt.{get_or_own}
 use Rattle.gql_graph.proofs.LeastSteps.{each_next}
-use Rattle.doc_args.proofs.Steps.{noted_if_not}
+use Rattle.doc_uses.proofs.Steps.{noted_if_not}
 use Rattle.doc_args.proofs.rules.arguments.note_not_among.Goals as goal
 
 none : NameAt

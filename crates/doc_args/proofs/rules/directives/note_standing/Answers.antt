@@ -3,7 +3,7 @@ use Rattle.std.proofs.Common.{arith}
 use Rattle.schema_types.specs.ArgumentRules as rules
 use Rattle.doc_sites.specs.SitesView.{directive_of}
 use Rattle.gql_graph.proofs.LeastSteps.{each_next}
-use Rattle.doc_args.proofs.Steps.{noted_if_not}
+use Rattle.doc_uses.proofs.Steps.{noted_if_not}
 use Rattle.doc_args.proofs.rules.directives.note_standing.Goals as goal
 
 pub directives-preserved : goal.directives-preserved

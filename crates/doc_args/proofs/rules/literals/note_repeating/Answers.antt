@@ -1,6 +1,6 @@
 -- One more of the list.
 use Rattle.std.proofs.Common.{arith}
-use Rattle.doc_args.proofs.Steps.{noted_if_not}
+use Rattle.doc_uses.proofs.Steps.{noted_if_not}
 use Rattle.doc_sites.specs.SitesView.{argument_of}
 use Rattle.doc_args.specs.Literals.{repeating}
 use Rattle.gql_graph.proofs.LeastSteps.{each_next}

@@ -5,7 +5,7 @@ use Rattle.schema_types.specs.ArgumentRules as rules
 use Rattle.schema_tables.specs.Views.{InputDef}
 use Rattle.doc_sites.specs.SitesView.{argument_of}
 use Rattle.gql_graph.proofs.LeastSteps.{each_next}
-use Rattle.doc_args.proofs.Steps.{noted_if_not}
+use Rattle.doc_uses.proofs.Steps.{noted_if_not}
 use Rattle.doc_args.proofs.rules.literals.note_unfit_for.Goals as goal
 
 pub arguments-preserved : goal.arguments-preserved

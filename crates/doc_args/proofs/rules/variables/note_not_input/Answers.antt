@@ -4,7 +4,7 @@ use Rattle.schema_types.specs.ArgumentRules as rules
 use Rattle.gql_graph.proofs.LeastSteps.{each_next}
 use Rattle.doc_sites.specs.SitesView.{variable_of}
 use Rattle.doc_sites.specs.declared.site.VariableAt.{VariableAt}
-use Rattle.doc_args.proofs.Steps.{noted_if_not}
+use Rattle.doc_uses.proofs.Steps.{noted_if_not}
 use Rattle.doc_args.proofs.rules.variables.note_not_input.Goals as goal
 
 pub variables-preserved : goal.variables-preserved

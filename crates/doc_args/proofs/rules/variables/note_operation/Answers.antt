@@ -4,14 +4,13 @@ use Rattle.schema_types.specs.ArgumentRules as rules
 use Rattle.schema_rules.specs.Rules.{each, repeated_names}
 use Rattle.schema_types.specs.Sites as spec
 use Rattle.doc_sites.specs.SitesView.{operation_of}
-use Rattle.doc_args.specs.Parts.{uses_in_operation, variable_names}
-use Rattle.doc_args.proofs.Steps.{noted_four}
+use Rattle.doc_args.specs.UsesIn.{uses_in_operation, variable_names}
+use Rattle.doc_args.proofs.Steps.{noted_parts}
 use Rattle.doc_args.proofs.rules.variables.note_operation.Goals as goal
 
 pub returns : goal.returns
 returns c = λ fs d.
     let o : spec.OperationAt = operation_of c.args.operation.now in
-    noted_four _ _ _ _ _ (repeated_names (variable_names o.variables)) (each (rules.not_input c.args.schema.now) o.variables)
+    noted_parts _ _ _ _ (repeated_names (variable_names o.variables)) (each (rules.not_input c.args.schema.now) o.variables)
     (each (rules.use_wrong o.variables []) (uses_in_operation c.args.schema.now o)) (each (rules.uses_wrong_in c.args.schema.now fs o) fs)
-    c.in_ok-note_repeated_variables.ensures c.note_not_input.ensures (c.in_ok-note_own.ensures o.variables c.in_ok-table.ensures)
-    (c.in_ok-note_beyond.ensures fs d c.in_ok-table.ensures)
+    c.in_ok-note_repeated_variables.ensures c.note_not_input.ensures (c.in_ok-note_uses.ensures fs d)

@@ -1,18 +1,19 @@
--- One more use.
-use Rattle.std.proofs.Common.{[], Option, ap, option_map, ◌∙◌, arith}
+-- The uses that are looked at are those of the operation.
+use Rattle.std.proofs.Common.{◌≡◌, [], List, ◌++◌, map, OnOk, ap, subst, ◌∙◌}
 use Rattle.schema_types.specs.ArgumentRules as rules
-use Rattle.schema_types.specs.Sites.{VariableAt}
-use Rattle.gql_graph.proofs.LeastSteps.{each_next}
-use Rattle.doc_args.specs.UseView.{place_of, use_of}
-use Rattle.doc_sites.proofs.ListSteps.{noted_end}
-use Rattle.doc_args.proofs.Steps.{noted_if_not}
+use Rattle.schema_types.specs.Sites as spec
+use Rattle.gql_graph.specs.Leasts.{least_from}
+use Rattle.gql_graph.specs.Rules.{each}
+use Rattle.doc_sites.specs.SitesView.{directive_of, operation_of, site_of}
+use Rattle.doc_uses.specs.UseView.{use_of}
+use Rattle.doc_args.specs.UsesIn.{uses_in_fragment, uses_in_operation}
 use Rattle.doc_args.proofs.rules.variables.note_uses.Goals as goal
 
-pub uses-preserved : goal.uses-preserved
-uses-preserved c = λ vs h.
-    each_next use_of (rules.use_wrong vs []) c.args.uses.now c.uses.one-index c.one-item.result _ _ _ (omega arith) c.one-item.is
-    (noted_if_not _ _ c.is_allowed-is_good.result _ _ c.note_if.ensures
-    (c.is_allowed-is_good.ensures ∙ ap (λ (v : Option VariableAt). rules.is_allowed v (option_map place_of c.one-item.result.place)) (c.find-variable.ensures vs h))) (c.uses.invariant vs h)
-
 pub returns : goal.returns
-returns c = λ vs h. noted_end use_of (rules.use_wrong vs []) c.args.uses.now c.uses.one-index _ _ (omega arith) (c.uses.invariant vs h)
+returns c = λ fs d.
+    let o : spec.OperationAt = operation_of c.args.operation.now in
+    let own : map use_of c.deref-3.result.now ≡ uses_in_operation c.args.schema.now o =
+    ap (map use_of) c.deref-3.ensures.value ∙ c.in_ok-uses.ensures
+    ∙ (λ k. rules.uses_of c.args.schema.now (map directive_of (c.deref.ensures.value k)) (map site_of (c.deref-2.ensures.value k))) in
+    subst (λ (us : List rules.Use). OnOk c.note_wrong_uses.result (c.note_wrong_uses.new.least.at ≡ least_from c.args.least.now.at (each (rules.use_wrong o.variables []) us ++ each (rules.uses_wrong_in c.args.schema.now fs o) fs)))
+    own (c.note_wrong_uses.ensures fs (uses_in_fragment c.args.schema.now) d)

@@ -2,7 +2,7 @@
 use Rattle.std.proofs.Common.{◌≡◌, ◌++◌, map, drop}
 use Rattle.schema_trees.specs.LocatedView.{name_of}
 use Rattle.doc_sites.specs.SitesView.{variable_of}
-use Rattle.doc_args.specs.Parts.{variable_names}
+use Rattle.doc_args.specs.UsesIn.{variable_names}
 use Rattle.doc_args.proofs.rules.variables.variable_names.Given as goal
 
 abbrev pub invariant-variables : goal.invariant-variables

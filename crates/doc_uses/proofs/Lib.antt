@@ -1,0 +1,5 @@
+pub mod Steps
+pub mod UseSteps
+pub mod Absorbing
+pub mod Gathering
+pub mod NeedSteps
