@@ -1,0 +1,17 @@
+-- What is gathered and what is left are the whole.
+use Rattle.std.proofs.Common.{◌≡◌, ◌++◌, List, map, drop}
+use Rattle.schema_types.specs.ArgumentRules.{Use}
+use Rattle.schema_types.specs.Sites.{FragmentAt}
+use Rattle.gql_graph.specs.Rules.{each}
+use Rattle.gql_graph.specs.Texts.{Text}
+use Rattle.doc_sites.specs.SitesView.{definition_of}
+use Rattle.doc_uses.specs.UsesByName.{Gathers, named_in}
+use Rattle.relay_dirs.specs.Spreads.{uses_in_fragment}
+use Rattle.relay_dirs.specs.Tables.{Suits}
+use Rattle.relay_dirs.proofs.fragment_uses.gather.Given as goal
+
+abbrev pub invariant-definitions : goal.invariant-definitions
+invariant-definitions l = (fs : List FragmentAt) → Suits l.table fs
+    → (tells : Text → List Use) × Gathers l.gathered tells
+    × ((n : Text) → tells n ++ each (λ d. named_in (uses_in_fragment l.schema fs) d n) (map definition_of (drop l.definition-index l.definitions))
+    ≡ each (λ d. named_in (uses_in_fragment l.schema fs) d n) (map definition_of l.definitions))

@@ -1,0 +1,11 @@
+-- What is noted and what is left are the whole.
+use Rattle.std.proofs.Common.{◌≡◌, map, drop}
+use Rattle.gql_graph.specs.Leasts.{least_from}
+use Rattle.gql_graph.specs.Rules.{each}
+use Rattle.doc_sites.specs.SitesView.{site_of}
+use Rattle.relay_dirs.specs.RelayRules as rules
+use Rattle.relay_dirs.proofs.rules.aliases.note_sites.Given as goal
+
+abbrev pub invariant-sites : goal.invariant-sites
+invariant-sites l =
+    least_from l.least.at (each (rules.alias_wrong_at) (map site_of (drop l.site-index l.sites))) ≡ least_from l.initial.least.at (each (rules.alias_wrong_at) (map site_of l.sites))

@@ -1,0 +1,11 @@
+-- One more of the list.
+use Rattle.std.proofs.Common.{arith}
+use Rattle.gql_graph.specs.Rules.{each}
+use Rattle.gql_graph.proofs.LeastSteps.{each_next}
+use Rattle.doc_sites.specs.SitesView.{definition_of}
+use Rattle.relay_dirs.specs.Connections as spec
+use Rattle.schema_types.specs.NameRules.{sites_of}
+use Rattle.relay_dirs.proofs.rules.connections.connections_wrong.Goals as goal
+
+pub definitions-preserved : goal.definitions-preserved
+definitions-preserved c = each_next definition_of (λ d. each (spec.type_wrong_at c.args.schema.now) (sites_of d)) c.args.definitions.now c.definitions.definition-index c.definition-item.result _ _ _ (omega arith) c.definition-item.is c.note_definition.ensures c.definitions.invariant

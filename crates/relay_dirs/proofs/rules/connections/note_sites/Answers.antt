@@ -1,0 +1,9 @@
+-- One more of the list.
+use Rattle.std.proofs.Common.{arith}
+use Rattle.gql_graph.proofs.LeastSteps.{each_next}
+use Rattle.doc_sites.specs.SitesView.{site_of}
+use Rattle.relay_dirs.specs.Connections as spec
+use Rattle.relay_dirs.proofs.rules.connections.note_sites.Goals as goal
+
+pub sites-preserved : goal.sites-preserved
+sites-preserved c = each_next site_of (spec.type_wrong_at c.args.schema.now) c.args.sites.now c.sites.site-index c.site-item.result _ _ _ (omega arith) c.site-item.is c.note_site.ensures c.sites.invariant

@@ -1,0 +1,12 @@
+-- What is noted and what is left are the whole.
+use Rattle.std.proofs.Common.{◌≡◌, map, drop}
+use Rattle.gql_graph.specs.Leasts.{least_from}
+use Rattle.gql_graph.specs.Rules.{each}
+use Rattle.doc_sites.specs.SitesView.{definition_of}
+use Rattle.relay_dirs.specs.Connections as spec
+use Rattle.schema_types.specs.NameRules.{sites_of}
+use Rattle.relay_dirs.proofs.rules.keys.keys_wrong.Given as goal
+
+abbrev pub invariant-definitions : goal.invariant-definitions
+invariant-definitions l =
+    least_from l.least.at (each (λ d. each (spec.key_wrong_at l.schema) (sites_of d)) (map definition_of (drop l.definition-index l.definitions))) ≡ least_from l.initial.least.at (each (λ d. each (spec.key_wrong_at l.schema) (sites_of d)) (map definition_of l.definitions))

@@ -1,0 +1,10 @@
+-- One more of the list.
+use Rattle.std.proofs.Common.{arith}
+use Rattle.gql_graph.specs.Rules.{each}
+use Rattle.gql_graph.proofs.LeastSteps.{each_next}
+use Rattle.doc_sites.specs.SitesView.{definition_of}
+use Rattle.relay_dirs.specs.RelayRules as rules
+use Rattle.relay_dirs.proofs.rules.locals.locals_wrong.Goals as goal
+
+pub definitions-preserved : goal.definitions-preserved
+definitions-preserved c = each_next definition_of (λ d. each (rules.locals_wrong_in c.args.schema.now) (rules.directives_of_fragment d)) c.args.definitions.now c.definitions.definition-index c.definition-item.result _ _ _ (omega arith) c.definition-item.is c.in_ok-note_definition.ensures c.definitions.invariant

@@ -1,0 +1,9 @@
+-- One more of the list.
+use Rattle.std.proofs.Common.{arith}
+use Rattle.gql_graph.proofs.LeastSteps.{each_next}
+use Rattle.doc_sites.specs.SitesView.{directive_of}
+use Rattle.relay_dirs.specs.RelayRules as rules
+use Rattle.relay_dirs.proofs.rules.masks.note_directives.Goals as goal
+
+pub directives-preserved : goal.directives-preserved
+directives-preserved c = each_next directive_of (rules.mask_wrong) c.args.directives.now c.directives.directive-index c.directive-item.result _ _ _ (omega arith) c.directive-item.is c.note_directive.ensures c.directives.invariant

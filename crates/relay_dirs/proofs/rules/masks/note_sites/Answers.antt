@@ -1,0 +1,9 @@
+-- One more of the list.
+use Rattle.std.proofs.Common.{arith}
+use Rattle.gql_graph.proofs.LeastSteps.{each_next}
+use Rattle.doc_sites.specs.SitesView.{site_of}
+use Rattle.relay_dirs.specs.RelayRules as rules
+use Rattle.relay_dirs.proofs.rules.masks.note_sites.Goals as goal
+
+pub sites-preserved : goal.sites-preserved
+sites-preserved c = each_next site_of (rules.masks_wrong_at) c.args.sites.now c.sites.site-index c.site-item.result _ _ _ (omega arith) c.site-item.is c.note_site.ensures c.sites.invariant

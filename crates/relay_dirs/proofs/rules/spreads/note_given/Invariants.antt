@@ -1,0 +1,12 @@
+-- What is noted and what is left are the whole.
+use Rattle.std.proofs.Common.{◌≡◌, List, map, drop}
+use Rattle.gql_graph.specs.Leasts.{least_from}
+use Rattle.schema_types.specs.Sites.{FragmentAt}
+use Rattle.doc_sites.specs.SitesView.{definition_of}
+use Rattle.relay_dirs.specs.Spreads.{given_wrong}
+use Rattle.relay_dirs.specs.Tables.{Suits}
+use Rattle.relay_dirs.proofs.rules.spreads.note_given.Given as goal
+
+abbrev pub invariant-definitions : goal.invariant-definitions
+invariant-definitions l = (fs : List FragmentAt) → Suits l.table fs
+    → least_from l.least.at (given_wrong l.schema fs (map definition_of (drop l.definition-index l.definitions))) ≡ least_from l.initial.least.at (given_wrong l.schema fs (map definition_of l.definitions))

@@ -1,0 +1,12 @@
+-- The selections of the definition.
+use Rattle.std.proofs.Common.{◌≡◌, OnOk, List, subst}
+use Rattle.gql_graph.specs.Leasts.{least_from}
+use Rattle.gql_graph.specs.Rules.{each}
+use Rattle.schema_types.specs.Sites.{Site}
+use Rattle.relay_dirs.specs.Spreads.{given_wrong_at}
+use Rattle.relay_dirs.proofs.rules.spreads.note_given_in.Goals as goal
+
+pub returns : goal.returns
+returns c = λ fs h.
+    subst (λ (ss : List Site). OnOk c.note_given_among.result (c.note_given_among.new.least.at ≡ least_from c.args.least.now.at (each (given_wrong_at c.args.schema.now fs) ss)))
+    c.sites-sites.ensures (c.note_given_among.ensures fs h)

@@ -1,0 +1,11 @@
+-- Each so far is given.
+use Rattle.std.proofs.Common.{◌≡◌, List, map, drop}
+use Rattle.std.specs.List.{list_all}
+use Rattle.gql_graph.specs.Seen.{Knows}
+use Rattle.gql_graph.specs.Texts.{Text}
+use Rattle.gql_plain.specs.Order.{has_text}
+use Rattle.relay_dirs.proofs.spread_arguments.are_given.Given as goal
+
+abbrev pub invariant-required : goal.invariant-required
+invariant-required l = (ns : List Text) → Knows l.names.names ns
+    → list_all (has_text ns) (map (λ n. n.now) (drop l.name-index l.required)) ≡ list_all (has_text ns) (map (λ n. n.now) l.required)

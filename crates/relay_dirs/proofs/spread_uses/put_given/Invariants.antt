@@ -1,0 +1,14 @@
+-- What is put and what is left are the whole.
+use Rattle.std.proofs.Common.{◌≡◌, ◌++◌, List, map, drop, option_map}
+use Rattle.gql_graph.specs.Rules.{each}
+use Rattle.doc_sites.specs.SitesView.{argument_of}
+use Rattle.relay_dirs.specs.Locals.{Local}
+use Rattle.relay_dirs.specs.Spreads.{uses_of_given}
+use Rattle.relay_dirs.specs.Tables.{Finds}
+use Rattle.doc_uses.specs.UseView.{use_of}
+use Rattle.relay_dirs.proofs.spread_uses.put_given.Given as goal
+
+abbrev pub invariant-given : goal.invariant-given
+invariant-given l = (ls : List Local) → Finds (option_map (λ t. t.now) l.locals) ls
+    → map use_of l.uses.items ++ each (uses_of_given l.schema l.at ls) (map argument_of (drop l.argument-index l.given))
+    ≡ map use_of l.initial.uses.items ++ each (uses_of_given l.schema l.at ls) (map argument_of l.given)

@@ -1,0 +1,32 @@
+//! Values of arguments, by the names of the arguments (GraphQL, October 2021, section 2.6).
+ghost use Rattle.std.specs.Prelude.{◌≡◌, map, option_map};
+ghost use Rattle.gql_ast.specs.ValueView as tree;
+ghost use Rattle.doc_sites.specs.SitesView.{argument_of};
+ghost use Rattle.relay_dirs.specs.Connections as connections;
+
+use doc_sites::ArgumentAt;
+use gql_ast::{Arguments, ValueTree};
+
+/// The value of the argument of a name, where it is given; takes no memory.
+pub(crate) fn value_named<'a>(arguments: &[ArgumentAt<'a>], name: &str) -> Option<&'a ValueTree>
+    ensures { option_map (λ v. tree.value_of v.now) result ≡ connections.value_named (map argument_of arguments.now) name.now }
+{
+    'arguments: for argument in arguments {
+        if argument.name.name == name {
+            return Some(argument.value.of);
+        }
+    }
+    None
+}
+
+/// The same of arguments without places.
+pub(crate) fn value_of_name<'a>(arguments: &'a Arguments, name: &str) -> Option<&'a ValueTree>
+    ensures { option_map (λ v. tree.value_of v.now) result ≡ connections.value_of_name arguments.now name.now }
+{
+    'arguments: for argument in arguments.as_slice() {
+        if argument.name.as_str() == name {
+            return Some(&argument.value);
+        }
+    }
+    None
+}
