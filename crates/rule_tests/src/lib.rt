@@ -1,4 +1,5 @@
-//! Tests of schemas, of the rules on documents, and of whole projects, over what their crates offer.
+//! Tests of schemas, of the rules on documents, of plans, and of whole projects, over what their
+//! crates offer.
 #![tactic(auto)]
 
 #[cfg(test)]
@@ -7,6 +8,8 @@ mod arguments;
 mod fields;
 #[cfg(test)]
 mod names;
+#[cfg(test)]
+mod plans;
 #[cfg(test)]
 mod projects;
 #[cfg(test)]
