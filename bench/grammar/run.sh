@@ -1,7 +1,8 @@
 #!/bin/bash
 # Times parse_document and parse_schema on generated texts of 1, 2 and 4 MiB, beside `wc` on the same
-# file, and tells the peak memory. The program is made and run in a folder of its own outside the
-# repository, where the crates that it stands on are proved first.
+# file, and tells the peak memory. Times are processor times, the least of nine rounds. The program is
+# made and run in a folder of its own outside the repository, where the crates that it stands on are
+# proved first.
 set -eu
 repository=$(cd "$(dirname "$0")/../.." && pwd)
 folder=$(mktemp -d)
@@ -67,7 +68,7 @@ END
 (cd crates/grammar_bench && rt run > /dev/null)
 
 cat > measure.py <<'END'
-import os, resource, subprocess, sys, time
+import os, subprocess
 
 def document(kind, size):
     parts, total, n = [], 0, 0
@@ -92,22 +93,30 @@ def schema(kind, size):
     return "".join(parts)
 
 def run(words):
-    start = time.monotonic()
+    """The processor time of a run and its most memory in MiB."""
     child = subprocess.Popen(words, stdout=subprocess.DEVNULL)
     _, status, usage = os.wait4(child.pid, 0)
     assert status == 0
-    return time.monotonic() - start, usage.ru_maxrss / 1024
+    return usage.ru_utime + usage.ru_stime, usage.ru_maxrss / 1024
 
 program = os.path.abspath("crates/grammar_bench/out/grammar_bench")
-print("text               MiB    ms    wc ms  ratio  peak MiB")
+SIZES, ROUNDS = [1, 2, 4], 9
+print("text               MiB    ms  times the half    wc ms  ratio  peak MiB")
 for name, make, kind, ending in [("fields", document, "fields", ".graphql"), ("strings", document, "strings", ".graphql"),
                                  ("comments", document, "comments", ".graphql"), ("60 deep", document, "deep", ".graphql"),
                                  ("schema", schema, "schema", ".graphqls")]:
-    for mebibytes in [1, 2, 4]:
-        path = f"text{ending}"
-        open(path, "w").write(make(kind, mebibytes * 2**20 - 1024)[:])
-        took, peak = min(run([program, path]) for _ in range(3))
-        count, _ = min(run(["wc", path]) for _ in range(3))
-        print(f"{name:17}  {mebibytes:4}  {took*1000:6.0f}  {count*1000:5.0f}  {took/count:5.1f}  {peak:6.0f}")
+    for mebibytes in SIZES:
+        open(f"text{mebibytes}{ending}", "w").write(make(kind, mebibytes * 2**20 - 1024))
+    # Rounds over all sizes, so that what else the machine does meets each of them
+    best, counted = {}, {}
+    for _ in range(ROUNDS):
+        for mebibytes in SIZES:
+            path = f"text{mebibytes}{ending}"
+            best[mebibytes] = min(best.get(mebibytes, (60, 0)), run([program, path]))
+            counted[mebibytes] = min(counted.get(mebibytes, (60, 0)), run(["wc", path]))
+    for mebibytes in SIZES:
+        (took, peak), (count, _), half = best[mebibytes], counted[mebibytes], best.get(mebibytes // 2)
+        more = f"{took/half[0]:.2f}" if half else ""
+        print(f"{name:17}  {mebibytes:4}  {took*1000:6.0f}  {more:>14}  {count*1000:7.0f}  {took/count:5.1f}  {peak:8.0f}", flush=True)
 END
 python3 measure.py

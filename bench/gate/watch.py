@@ -1,0 +1,64 @@
+"""watch.py RECORDS ci [NAME..]: runs `rt ci` as it is, and writes a line into RECORDS for each prover
+that it started.
+
+A line: crate, phase (proof, tests, seed, edit), edit, processor seconds, peak memory in MiB; tabs
+between them. The seed is the check that a crate's must-fail edits begin with, and the short one after
+them. The numbers come from wait4(2): they hold what the process and all its own children used,
+whatever ran beside it.
+"""
+
+import importlib.machinery
+import importlib.util
+import os
+import shutil
+import subprocess
+import sys
+import threading
+
+records, words = sys.argv[1], sys.argv[2:]
+place = os.path.realpath(shutil.which("rt"))
+loader = importlib.machinery.SourceFileLoader("rt_command", place)
+spec = importlib.util.spec_from_loader("rt_command", loader)
+rt = importlib.util.module_from_spec(spec)
+sys.modules["rt_command"] = rt
+loader.exec_module(rt)
+here, lock = threading.local(), threading.Lock()
+
+
+def labelled(call, label_of):
+    """The call, which labels what it starts in its thread, unless a call around it does."""
+
+    def called(*given, **named):
+        before = getattr(here, "label", None)
+        here.label = before or label_of(*given)
+        try:
+            return call(*given, **named)
+        finally:
+            here.label = before
+
+    return called
+
+
+def waited(self, flags):
+    """Stands for Popen._try_wait, and notes what the process used."""
+    try:
+        found, status, usage = os.wait4(self.pid, flags)
+    except ChildProcessError:
+        return self.pid, 0
+    used = usage.ru_utime + usage.ru_stime
+    line = [str(it) for it in self.args] if isinstance(self.args, (list, tuple)) else []
+    if found and "--crate-name" in line:
+        crate = line[line.index("--crate-name") + 1]
+        phase, edit = getattr(here, "label", None) or ("tests" if "--test" in line else "proof", "")
+        with lock, open(records, "a", encoding="utf-8") as file:
+            print(crate, phase, edit, f"{used:.2f}", usage.ru_maxrss // 1024, sep="\t", file=file)
+    return found, status
+
+
+rt.must_fail = labelled(rt.must_fail, lambda crate, edit, *more: ("edit", os.path.basename(edit)[: -len(".edit")]))
+rt.checked = labelled(rt.checked, lambda crate, *more: ("seed", ""))
+subprocess.Popen._try_wait = waited
+sys.argv[0] = place
+status = rt.main(words)
+sys.stdout.flush()
+sys.exit(status)
