@@ -36,7 +36,7 @@ impl Ids {
     }
 
     /// The distinct texts of a list, in byte order.
-    pub fn sorted(mut words: Vec<Words>) -> Result<Ids, NoMemory>
+    pub fn sort(mut words: Vec<Words>) -> Result<Ids, NoMemory>
         ensures { IfOk result (AreSortedOf words.items) }
     {
         words.sort()?;

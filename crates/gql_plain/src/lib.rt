@@ -24,6 +24,3 @@ pub use steps::{Counts, Steps};
 pub use to_text::{text_of, write_plain};
 pub use to_value::value_of;
 pub use words::{Id, Name, Words, is_name};
-
-#[cfg(test)]
-mod tests;

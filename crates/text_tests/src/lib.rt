@@ -10,6 +10,8 @@ mod documents;
 #[cfg(test)]
 mod lexing;
 #[cfg(test)]
+mod plain;
+#[cfg(test)]
 mod schemas;
 #[cfg(test)]
 mod texts;

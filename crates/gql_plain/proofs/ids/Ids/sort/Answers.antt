@@ -1,7 +1,7 @@
 use Rattle.std.proofs.Common.{◌≡◌, subst, sym}
 use Rattle.std.proofs.lemmas.Result.{IfOk-weaker}
 use Rattle.gql_plain.proofs.InOrder.{AreSortedOf-dedup}
-use Rattle.gql_plain.proofs.ids.Ids.sorted.Goals as goal
+use Rattle.gql_plain.proofs.ids.Ids.sort.Goals as goal
 use Rattle.gql_plain.specs.Order.{AreSortedOf}
 
 pub in_order-requires : goal.in_order-requires

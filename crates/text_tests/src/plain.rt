@@ -1,4 +1,4 @@
-use crate::{
+use gql_plain::{
     Conn, Ids, NoMemory, OptIds, Pairs, Plain, PlainFault, SharedText, Words, is_name, plain_of,
     text_of, value_of,
 };
@@ -62,7 +62,7 @@ fn ids_of(alloc: Global, text: &str) -> Result<Ids, NoMemory> {
     for line in text.lines() {
         words.push(Words::new(alloc, line)?)?;
     }
-    Ids::sorted(words)
+    Ids::sort(words)
 }
 
 #[test]
