@@ -34,6 +34,6 @@ Once [] = Unit {0}
 Once (n ∷ ns) = (has_text ns n ≡ false) × Once ns
 
 -- those that are not seen yet, each once
-abbrev pub unseen : (seen : List Text) → List Text → List Text
-unseen seen [] = []
-unseen seen (n ∷ ns) = cond (has_text seen n) (unseen seen ns) (n ∷ unseen (n ∷ seen) ns)
+abbrev pub unseen_names : (seen : List Text) → List Text → List Text
+unseen_names seen [] = []
+unseen_names seen (n ∷ ns) = cond (has_text seen n) (unseen_names seen ns) (n ∷ unseen_names (n ∷ seen) ns)

@@ -134,24 +134,24 @@ fn round<'t>(
     names: &[&'t str],
 ) -> Result<Vec<&'t str>, NoMemory>
     ensures rest { (ns : List Text) → Knows seen.old.names ns
-        → IfOk result (λ rest. map (λ n. n.now) rest.items ≡ graphs.unseen ns (map (λ n. n.now) names.now)) }
+        → IfOk result (λ rest. map (λ n. n.now) rest.items ≡ graphs.unseen_names ns (map (λ n. n.now) names.now)) }
     ensures known { (ns : List Text) → Knows seen.old.names ns
         → OnOk result (Knows seen.new.names (map (λ n. n.now) names.now ++ ns)) }
     ensures all { IfOk result (λ rest. all.new.items ≡ all.old.items ++ rest.items) }
 {
-    let rest = unseen(alloc, seen, names)?;
+    let rest = unseen_names(alloc, seen, names)?;
     all.extend_from_slice(&rest)?;
     Ok(rest)
 }
 
 /// Those that are not seen yet, each once. From now on all of them are seen.
-fn unseen<'t>(
+fn unseen_names<'t>(
     alloc: Global,
     seen: &mut Seen<'t>,
     names: &[&'t str],
 ) -> Result<Vec<&'t str>, NoMemory>
     ensures rest { (ns : List Text) → Knows seen.old.names ns
-        → IfOk result (λ rest. map (λ n. n.now) rest.items ≡ graphs.unseen ns (map (λ n. n.now) names.now)) }
+        → IfOk result (λ rest. map (λ n. n.now) rest.items ≡ graphs.unseen_names ns (map (λ n. n.now) names.now)) }
     ensures known { (ns : List Text) → Knows seen.old.names ns
         → OnOk result (Knows seen.new.names (map (λ n. n.now) names.now ++ ns)) }
 {
@@ -169,7 +169,7 @@ fn put_unseen<'t>(
     name: &'t str,
 ) -> Result<(), NoMemory>
     ensures rest { (ns : List Text) → Knows seen.old.names ns
-        → OnOk result (map (λ n. n.now) rest.new.items ≡ map (λ n. n.now) rest.old.items ++ graphs.unseen ns (name.now ∷ [])) }
+        → OnOk result (map (λ n. n.now) rest.new.items ≡ map (λ n. n.now) rest.old.items ++ graphs.unseen_names ns (name.now ∷ [])) }
     ensures known { (ns : List Text) → Knows seen.old.names ns
         → OnOk result (Knows seen.new.names (name.now ∷ ns)) }
 {

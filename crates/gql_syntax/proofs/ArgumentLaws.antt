@@ -7,7 +7,7 @@ use Rattle.gql_lex.specs.Toks.{Tok}
 use Rattle.gql_ast.specs.Value.{Val, val_depth, members_depth, members_of}
 use Rattle.gql_syntax.specs.FirstFault.{Shallow}
 use Rattle.gql_syntax.proofs.Shapes.{ShapedValue, ShapedArguments}
-use Rattle.gql_syntax.specs.Machine.{want, outer, Given, Arguing, first, called, inside, more, given, arguments_step}
+use Rattle.gql_syntax.specs.Machine.{want, outer, Given, Arguing, first, called, inside, more, then_argument, arguments_step}
 use Rattle.gql_syntax.specs.Run.{Halt, unexpected, too_deep}
 use Rattle.gql_syntax.specs.Spelling.{spell_value, spell_members, spell_arguments}
 use Rattle.gql_syntax.proofs.Forms.{AreToks, zero_fits, toks-append}
@@ -30,7 +30,7 @@ module _ {S A : Type 0} (G : Ground A) (limit : ℕ) (into : Arguing A → S) (h
   module _ (so_far : S → List Leveled → List Leveled)
       (at_into : (r : Arguing A) (ts : List Leveled) → so_far (into r) ts ≡ arguments_so_far G r ts)
       (at_hand : (a : A) (xs : List (List ℕ × Val)) (ts : List Leveled) → so_far (hand a xs) ts ≡ G.front a (spell_arguments mark_level xs ts)) where
-    given_front : (g : Given A) (v : Val) (ts : List Leveled) → so_far (given limit into hand g v) ts ≡ (given_ground G).front g (spell_value mark_level v 0 ts)
+    given_front : (g : Given A) (v : Val) (ts : List Leveled) → so_far (then_argument limit into hand g v) ts ≡ (given_ground G).front g (spell_value mark_level v 0 ts)
     given_front g v ts =
         at_into (more g.constant (g.before ++ (g.name, v) ∷ []) g.on) ts
         ∙ ap (λ w. G.front g.on ((tok.open_paren, 0) ∷ w))
@@ -42,7 +42,7 @@ module _ {S A : Type 0} (G : Ground A) (limit : ℕ) (into : Arguing A → S) (h
     arguments_sounds (first c a) _ h = tt
     arguments_sounds (called g) tok.colon h = λ ts. at_into (inside (want g.constant limit (outer g))) ts
     arguments_sounds (called g) _ h = tt
-    arguments_sounds (inside r) t h = value_sounds (given_ground G) (λ r. into (inside r)) (given limit into hand) so_far (λ r ts. at_into (inside r) ts) given_front r t
+    arguments_sounds (inside r) t h = value_sounds (given_ground G) (λ r. into (inside r)) (then_argument limit into hand) so_far (λ r ts. at_into (inside r) ts) given_front r t
     arguments_sounds (more c xs a) (tok.name n) h = λ ts. at_into (called (record { constant = c; before = xs; name = n; on = a })) ts
     arguments_sounds (more c xs a) tok.close_paren h = λ ts. at_hand a xs ts ∙ ap (λ w. G.front a w) (spelled_some xs ts h.1)
     arguments_sounds (more c xs a) _ h = tt
@@ -56,7 +56,7 @@ module _ {S A : Type 0} (G : Ground A) (limit : ℕ) (into : Arguing A → S) (h
   arguments_shallows (first c a) _ h = tt
   arguments_shallows (called g) tok.colon h = omega arith
   arguments_shallows (called g) _ h = tt
-  arguments_shallows (inside r) t h = value_shallows (given_ground G) (λ r. into (inside r)) (given limit into hand) limit r t h
+  arguments_shallows (inside r) t h = value_shallows (given_ground G) (λ r. into (inside r)) (then_argument limit into hand) limit r t h
   arguments_shallows (more c xs a) (tok.name n) h = omega arith
   arguments_shallows (more c xs a) tok.close_paren h = omega arith
   arguments_shallows (more c xs a) _ h = tt
@@ -69,7 +69,7 @@ module _ {S A : Type 0} (G : Ground A) (limit : ℕ) (into : Arguing A → S) (h
   arguments_deeps (first c a) _ h = tt
   arguments_deeps (called g) tok.colon h = tt
   arguments_deeps (called g) _ h = tt
-  arguments_deeps (inside r) t h = value_deeps (given_ground G) (λ r. into (inside r)) (given limit into hand) limit r t h
+  arguments_deeps (inside r) t h = value_deeps (given_ground G) (λ r. into (inside r)) (then_argument limit into hand) limit r t h
   arguments_deeps (more c xs a) (tok.name n) h = tt
   arguments_deeps (more c xs a) tok.close_paren h = tt
   arguments_deeps (more c xs a) _ h = tt
@@ -80,7 +80,7 @@ module _ {S A : Type 0} (G : Ground A) (limit : ℕ) (into : Arguing A → S) (h
   module _ (Seated : S → Type 0)
       (at_into : (r : Arguing A) → SeatedArguments G limit r → Seated (into r))
       (at_hand : (a : A) (xs : List (List ℕ × Val)) → G.Seated limit a → SomeGiven xs → ShapedArguments (G.constant a) xs → Seated (hand a xs)) where
-    given_seated : (g : Given A) (v : Val) → (given_ground G).Seated limit g → ShapedValue g.constant v → Seated (given limit into hand g v)
+    given_seated : (g : Given A) (v : Val) → (given_ground G).Seated limit g → ShapedValue g.constant v → Seated (then_argument limit into hand g v)
     given_seated g v h f =
         at_into (more g.constant (g.before ++ (g.name, v) ∷ []) g.on) (h.0, some-push g.before (g.name, v), shaped_arguments-then g.constant g.before g.name v h.1 f, h.2)
 
@@ -89,7 +89,7 @@ module _ {S A : Type 0} (G : Ground A) (limit : ℕ) (into : Arguing A → S) (h
     arguments_seats (first c a) _ h = tt
     arguments_seats (called g) tok.colon h = at_into (inside (want g.constant limit (outer g))) (omega arith, refl, h)
     arguments_seats (called g) _ h = tt
-    arguments_seats (inside r) t h = value_seats (given_ground G) (λ r. into (inside r)) (given limit into hand) limit Seated (λ r h. at_into (inside r) h) given_seated r t h
+    arguments_seats (inside r) t h = value_seats (given_ground G) (λ r. into (inside r)) (then_argument limit into hand) limit Seated (λ r h. at_into (inside r) h) given_seated r t h
     arguments_seats (more c xs a) (tok.name n) h = at_into (called (record { constant = c; before = xs; name = n; on = a })) (h.0, h.2, h.3)
     arguments_seats (more c xs a) tok.close_paren h = at_hand a xs h.3 h.1 (subst (λ c. ShapedArguments c xs) h.0 h.2)
     arguments_seats (more c xs a) _ h = tt
@@ -108,7 +108,7 @@ module _ {S A : Type 0} (G : Ground A) (limit : ℕ) (into : Arguing A → S) (h
     arguments_lifts (called g) tok.colon = ap (λ s. Ok s) (sym (at_into (inside (want g.constant limit (outer g)))))
     arguments_lifts (called g) _ = refl
     arguments_lifts (inside r) t =
-        value_lifts (given_ground G) (λ r. into (inside r)) (given limit into hand) (given (k + limit) into after) k lift (λ r. at_into (inside r))
+        value_lifts (given_ground G) (λ r. into (inside r)) (then_argument limit into hand) (then_argument (k + limit) into after) k lift (λ r. at_into (inside r))
         (λ g v. at_into (more g.constant (g.before ++ (g.name, v) ∷ []) g.on)) r t
     arguments_lifts (more c xs a) (tok.name n) = ap (λ s. Ok s) (sym (at_into (called (record { constant = c; before = xs; name = n; on = a }))))
     arguments_lifts (more c xs a) tok.close_paren = ap (λ s. Ok s) (sym (at_hand a xs))
@@ -128,7 +128,7 @@ module _ {S A : Type 0} (G : Ground A) (limit : ℕ) (into : Arguing A → S) (h
   arguments_opens after (first c a) _ = tt
   arguments_opens after (called g) tok.colon = tt
   arguments_opens after (called g) _ = tt
-  arguments_opens after (inside r) t = value_opens (given_ground G) (λ r. into (inside r)) (given limit into hand) (given (1 + limit) into after) r t
+  arguments_opens after (inside r) t = value_opens (given_ground G) (λ r. into (inside r)) (then_argument limit into hand) (then_argument (1 + limit) into after) r t
   arguments_opens after (more c xs a) (tok.name n) = tt
   arguments_opens after (more c xs a) tok.close_paren = tt
   arguments_opens after (more c xs a) _ = tt
@@ -199,7 +199,7 @@ module _ {S A : Type 0} (limit : ℕ) (into : Arguing A → S) (hand : A → Lis
       → reach step (into (called g)) (tok.colon ∷ spell_value token_mark v 0 ts) ≡ reach step (into (more g.constant (g.before ++ (g.name, v) ∷ []) g.on)) ts
   reads_given g v ts f d =
       arguments_on_token (called g) tok.colon (spell_value token_mark v 0 ts)
-      ∙ value_complete (λ r. into (inside r)) (given limit into hand) step (λ r t. agrees (inside r) t) g.constant limit (outer g) v 0 ts f d
+      ∙ value_complete (λ r. into (inside r)) (then_argument limit into hand) step (λ r t. agrees (inside r) t) g.constant limit (outer g) v 0 ts f d
 
   reads_more : (xs there : List (List ℕ × Val)) (c : Bool) (a : A) (ts : List Tok) → ShapedArguments c xs → members_depth (members_of xs) ≤ limit
       → reach step (into (more c there a)) (spell_members token_mark (members_of xs) 0 (tok.close_paren ∷ ts)) ≡ reach step (hand a (there ++ xs)) ts
@@ -236,7 +236,7 @@ module _ {S A : Type 0} (limit : ℕ) (into : Arguing A → S) (hand : A → Lis
       (h.0, arguments_on_token (first c a) (tok.name (codes "a")) (tok.colon ∷ tok.int (pos 0) ∷ tok.close_paren ∷ []) ∙ h.1)
   arguments_ends (called g) = given_end g
   arguments_ends (inside r) =
-      let h = value_ends (λ r. into (inside r)) (given limit into hand) step (λ r t. agrees (inside r) t) r in
+      let h = value_ends (λ r. into (inside r)) (then_argument limit into hand) step (λ r t. agrees (inside r) t) r in
       let g : Given A = value_on r in
       let xs : List (List ℕ × Val) = g.before ++ (g.name, h.0) ∷ [] in (
         xs,

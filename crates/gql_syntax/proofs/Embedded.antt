@@ -3,7 +3,7 @@ use Rattle.std.proofs.Common.{◌≡◌, ℕ, Bool, List, [], ◌∷◌, ◌++�
 use Rattle.gql_lex.specs.Sources.{Source, ended, faulty, token}
 use Rattle.gql_lex.specs.Toks.{Tok, tok_of_piece}
 use Rattle.gql_ast.specs.Value.{Val}
-use Rattle.gql_syntax.specs.Machine.{want, outer, Given, Arguing, first, inside, more, given, Applied, Directing, further, arguing, with_arguments}
+use Rattle.gql_syntax.specs.Machine.{want, outer, Given, Arguing, first, inside, more, then_argument, Applied, Directing, further, arguing, with_arguments}
 use Rattle.gql_syntax.specs.Parts.{Part, goes, done, done_before, One, never, part_from, stops, value_alone, value_read, arguments_alone, arguments_read, directives_alone, directives_there}
 use Rattle.gql_syntax.specs.Run.{Halt, unexpected, Stopped, stamp, code_of}
 use Rattle.gql_syntax.specs.Steps.{resume, arguments_on, directives_on}
@@ -47,7 +47,7 @@ pub value_inside : (size : ℕ) (g : Given One) (c : Bool) (room : ℕ) (src : S
 value_inside size g c room src =
     embedded value_alone (arguments_alone nesting_limit) never size (λ r. inside (map_reading (λ (o : One). g) r)) (behind_value g)
     (λ r t. same_value_step (λ (o : One). g) (Within (λ r. inside (map_reading (λ (o : One). g) r)) (behind_value g)) (λ h. refl) goes (λ r. goes (inside r)) (λ r. refl) (λ k v. done v)
-    (given nesting_limit goes (λ a xs. done xs)) (λ k v. refl) r t)
+    (then_argument nesting_limit goes (λ a xs. done xs)) (λ k v. refl) r t)
     (λ r. refl) src src (want c room (outer tt))
 
 -- arguments within a directive

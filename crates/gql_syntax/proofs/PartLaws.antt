@@ -7,7 +7,7 @@ use Rattle.gql_ast.specs.Value.{Val, variable, int, text, list, object, no_vals,
 use Rattle.gql_ast.specs.Ty as ty
 use Rattle.gql_ast.specs.Ty.{Ty}
 use Rattle.gql_ast.specs.declared.directive.Directive.{Directive}
-use Rattle.gql_syntax.specs.Machine.{Place, outer, item, of_member, Reading, want, dollar, items, members, named, vals_then, members_then, word_value, put, begin, value_step, Given, Arguing, first, called, inside, more, given, arguments_step, Applied, Directing, further, at_name, applied, arguing, with_arguments, next_directive, directives_step, Holder, whole, listed, Typing, want_type, typed, closing, put_type, type_step}
+use Rattle.gql_syntax.specs.Machine.{Place, outer, item, of_member, Reading, want, dollar, items, members, named, vals_then, members_then, word_value, put, begin, value_step, Given, Arguing, first, called, inside, more, then_argument, arguments_step, Applied, Directing, further, at_name, applied, arguing, with_arguments, next_directive, directives_step, Holder, whole, listed, Typing, want_type, typed, closing, put_type, type_step}
 use Rattle.gql_syntax.specs.Parts.{Part, goes, done, done_before, stops, part_from, part, One, never, value_alone, value_read, arguments_alone, arguments_read, directives_alone, directives_there, directives_read, type_alone, type_there, type_read}
 use Rattle.gql_syntax.specs.Run.{Halt, unexpected, too_deep, Stopped, code_of, stamp, at_end, run_from, run}
 use Rattle.gql_syntax.proofs.Standing.{directives_on, type_on}
@@ -224,8 +224,8 @@ module _ {S Z A B : Type 0} (f : A → B) (limit : ℕ) (Same : Result S Halt �
   same_arguments_step (called g) tok.colon = same_into (inside (want g.constant limit (outer g)))
   same_arguments_step (called g) _ = same_err unexpected
   same_arguments_step (inside r) t =
-      same_value_step (map_given f) Same same_err (λ r. into (inside r)) (λ r. into_other (inside r)) (λ r. same_into (inside r)) (given limit into hand)
-      (given limit into_other hand_other) (λ g v. same_into (given limit (λ r. r) (λ a xs. more g.constant xs a) g v)) r t
+      same_value_step (map_given f) Same same_err (λ r. into (inside r)) (λ r. into_other (inside r)) (λ r. same_into (inside r)) (then_argument limit into hand)
+      (then_argument limit into_other hand_other) (λ g v. same_into (then_argument limit (λ r. r) (λ a xs. more g.constant xs a) g v)) r t
   same_arguments_step (more c xs a) (tok.name n) = same_into (called (record { constant = c; before = xs; name = n; on = a }))
   same_arguments_step (more c xs a) tok.close_paren = same_hand a xs
   same_arguments_step (more c xs a) _ = same_err unexpected

@@ -95,15 +95,15 @@ pub data Arguing (A : Type 0) : Type 0 where
   more : (constant : Bool) → List (List ℕ × Val) → A → Arguing A
 
 module _ {S A : Type 0} (limit : ℕ) (into : Arguing A → S) (hand : A → List (List ℕ × Val) → S) where
-  abbrev pub given : Given A → Val → S
-  given g v = into (more g.constant (g.before ++ (g.name, v) ∷ []) g.on)
+  abbrev pub then_argument : Given A → Val → S
+  then_argument g v = into (more g.constant (g.before ++ (g.name, v) ∷ []) g.on)
 
   abbrev pub arguments_step : Arguing A → Tok → Result S Halt
   arguments_step (first c a) (tok.name n) = Ok (into (called (record { constant = c; before = []; name = n; on = a })))
   arguments_step (first c a) t = Err unexpected
   arguments_step (called g) tok.colon = Ok (into (inside (want g.constant limit (outer g))))
   arguments_step (called g) t = Err unexpected
-  arguments_step (inside r) t = value_step (λ r. into (inside r)) given r t
+  arguments_step (inside r) t = value_step (λ r. into (inside r)) then_argument r t
   arguments_step (more c xs a) (tok.name n) = Ok (into (called (record { constant = c; before = xs; name = n; on = a })))
   arguments_step (more c xs a) tok.close_paren = Ok (hand a xs)
   arguments_step (more c xs a) t = Err unexpected

@@ -26,19 +26,19 @@ use Rattle.schema_tables.specs.Types.{Text}
 -- ---- lists
 
 -- the texts with a character between each two
-abbrev pub joined : (between : ℕ) → List Text → Text
-joined c [] = []
-joined c (t ∷ []) = t
-joined c (t ∷ u ∷ more) = t ++ c ∷ joined c (u ∷ more)
+abbrev pub join_texts : (between : ℕ) → List Text → Text
+join_texts c [] = []
+join_texts c (t ∷ []) = t
+join_texts c (t ∷ u ∷ more) = t ++ c ∷ join_texts c (u ∷ more)
 
 -- the texts with a character between each two, and one in front and one behind
-abbrev pub enclosed : (opening between closing : ℕ) → List Text → Text
-enclosed o c e ts = o ∷ (joined c ts ++ e ∷ [])
+abbrev pub enclose : (opening between closing : ℕ) → List Text → Text
+enclose o c e ts = o ∷ (join_texts c ts ++ e ∷ [])
 
 -- nothing for no text
-abbrev pub enclosed_some : (opening between closing : ℕ) → List Text → Text
-enclosed_some o c e [] = []
-enclosed_some o c e (t ∷ more) = enclosed o c e (t ∷ more)
+abbrev pub enclose_some : (opening between closing : ℕ) → List Text → Text
+enclose_some o c e [] = []
+enclose_some o c e (t ∷ more) = enclose o c e (t ∷ more)
 
 -- the members with one put before the first whose name is not below its own
 abbrev pub with_member : {X : Type 0} → Text × X → List (Text × X) → List (Text × X)
@@ -66,8 +66,8 @@ abbrev mutual
   value_text (truth b) = truth_word b
   value_text null = null_word
   value_text (enum n) = n
-  value_text (list vs) = enclosed 91 44 93 (value_texts vs)
-  value_text (object ms) = enclosed 123 44 125 (pairs_text (member_texts ms))
+  value_text (list vs) = enclose 91 44 93 (value_texts vs)
+  value_text (object ms) = enclose 123 44 125 (pairs_text (member_texts ms))
 
   pub value_texts : Vals → List Text
   value_texts no_vals = []
@@ -80,7 +80,7 @@ abbrev mutual
 
 -- nothing, or `(name:value,name:value)`
 abbrev pub arguments_text : Arguments → Text
-arguments_text xs = enclosed_some 40 44 41 (pairs_text (map (λ x. (x.0, value_text x.1)) xs))
+arguments_text xs = enclose_some 40 44 41 (pairs_text (map (λ x. (x.0, value_text x.1)) xs))
 
 -- `@name(..)` of each, in written order
 abbrev pub directives_text : List Directive → Text
@@ -107,8 +107,8 @@ condition_text (Some t) = codes "...on " ++ t
 abbrev pub node_texts : Nodes → List Text
 node_texts end = []
 node_texts (field r n xs ds c of s p rest) =
-    (name_text r n ++ arguments_text xs ++ directives_text ds ++ enclosed_some 123 32 125 (node_texts s)) ∷ node_texts rest
-node_texts (inline o ds s p rest) = (condition_text o ++ directives_text ds ++ enclosed 123 32 125 (node_texts s)) ∷ node_texts rest
+    (name_text r n ++ arguments_text xs ++ directives_text ds ++ enclose_some 123 32 125 (node_texts s)) ∷ node_texts rest
+node_texts (inline o ds s p rest) = (condition_text o ++ directives_text ds ++ enclose 123 32 125 (node_texts s)) ∷ node_texts rest
 
 -- ---- the variables that are used
 
@@ -155,13 +155,13 @@ variable_text v =
     36 ∷ (v.name ++ 58 ∷ (type_text (ty_of v.of) ++ default_text (option_map value_of v.default) ++ directives_text v.directives))
 
 abbrev pub variables_text : List VariableDef → Text
-variables_text vs = enclosed_some 40 44 41 (map variable_text vs)
+variables_text vs = enclose_some 40 44 41 (map variable_text vs)
 
 -- the kind, a space, the name, the variables that are used, the directives, and the set
 abbrev pub operation_text : Expanded → Text
 operation_text e =
     kind_word (unwrap_or e.kind Query) ++ 32 ∷ (e.name ++ variables_text (used_variables e) ++ directives_text e.directives
-    ++ enclosed 123 32 125 (node_texts e.selections))
+    ++ enclose 123 32 125 (node_texts e.selections))
 
 -- ---- artifacts
 

@@ -78,7 +78,7 @@ fn sorted_texts(alloc: Global, values: &ValueTrees) -> Result<Ids, NoMemory>
     'values: for value in values.as_slice() {
         put_text(&mut texts, value)?;
     }
-    Ids::sorted(texts)
+    Ids::sort(texts)
 }
 
 /// Puts a value that is a text.

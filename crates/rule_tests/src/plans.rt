@@ -20,7 +20,7 @@ const PLACE: FilePlace = FilePlace {
 fn types(alloc: Global) -> Result<Ids, NoMemory> {
     let mut names = Vec::new(alloc);
     names.push(Words::new(alloc, "User")?)?;
-    Ids::sorted(names)
+    Ids::sort(names)
 }
 
 /// `(size: 2)`.

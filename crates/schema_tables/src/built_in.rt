@@ -90,7 +90,7 @@ fn put_definitions(alloc: Global, directives: &mut Vec<SchemaDef>) -> Result<(),
 fn conditional(alloc: Global, name: &str) -> Result<SchemaDef, NoMemory>
     ensures { IfOk result (λ d. d ≡ single.directive_tree name.now single.condition known.selection_locations) }
 {
-    let of = required(alloc, "Boolean")?;
+    let of = required_type(alloc, "Boolean")?;
     let condition = input(alloc, "if", of, None)?;
     let arguments = vec![in alloc; condition]?;
     let locations = vec![in alloc;
@@ -129,7 +129,7 @@ fn deprecation_reason(alloc: Global) -> Result<InputTree, NoMemory>
 fn specified_by(alloc: Global) -> Result<SchemaDef, NoMemory>
     ensures { IfOk result (λ d. d ≡ single.specified_by) }
 {
-    let of = required(alloc, "String")?;
+    let of = required_type(alloc, "String")?;
     let url = input(alloc, "url", of, None)?;
     let arguments = vec![in alloc; url]?;
     let locations = vec![in alloc; Location::Scalar]?;
@@ -140,7 +140,7 @@ fn specified_by(alloc: Global) -> Result<SchemaDef, NoMemory>
 fn connection(alloc: Global) -> Result<SchemaDef, NoMemory>
     ensures { IfOk result (λ d. d ≡ single.connection) }
 {
-    let of = required(alloc, "String")?;
+    let of = required_type(alloc, "String")?;
     let key = input(alloc, "key", of, None)?;
     let filters = connection_filters(alloc)?;
     let arguments = vec![in alloc; key, filters]?;
@@ -152,7 +152,7 @@ fn connection(alloc: Global) -> Result<SchemaDef, NoMemory>
 fn connection_filters(alloc: Global) -> Result<InputTree, NoMemory>
     ensures { IfOk result (λ i. i ≡ single.connection_filters) }
 {
-    let item = required(alloc, "String")?;
+    let item = required_type(alloc, "String")?;
     let of = TypeTree::List(TypeBox::new(alloc, item)?);
     input(alloc, "filters", of, None)
 }
@@ -161,7 +161,7 @@ fn connection_filters(alloc: Global) -> Result<InputTree, NoMemory>
 fn relay(alloc: Global) -> Result<SchemaDef, NoMemory>
     ensures { IfOk result (λ d. d ≡ single.relay) }
 {
-    let of = required(alloc, "Boolean")?;
+    let of = required_type(alloc, "Boolean")?;
     let mask = input(alloc, "mask", of, None)?;
     let arguments = vec![in alloc; mask]?;
     let locations = vec![in alloc; Location::FragmentSpread]?;
@@ -211,7 +211,7 @@ fn input(
 }
 
 /// The non-null form of a named type.
-fn required(alloc: Global, name: &str) -> Result<TypeTree, NoMemory>
+fn required_type(alloc: Global, name: &str) -> Result<TypeTree, NoMemory>
     ensures { IfOk result (λ t. t ≡ known.required_type name.now) }
 {
     let named = TypeTree::Named(Words::new(alloc, name)?);

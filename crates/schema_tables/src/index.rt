@@ -101,11 +101,11 @@ impl Index {
         'items: for (at, item) in items.iter().enumerate() {
             put(&mut pairs, item.name(), at)?;
         }
-        Index::sorted(alloc, pairs)
+        Index::sort(alloc, pairs)
     }
 
     /// The places of the names; of one that stands several times, the first that is given.
-    pub(crate) fn sorted(alloc: Global, mut pairs: Vec<NamePlace<'_>>) -> Result<Index, NoMemory>
+    pub(crate) fn sort(alloc: Global, mut pairs: Vec<NamePlace<'_>>) -> Result<Index, NoMemory>
         ensures { IfOk result (λ index. IsSortedFrom (map pair_of pairs.entry.items) index.places.items) }
     {
         pairs.sort_by_key(|pair| pair.name)?;

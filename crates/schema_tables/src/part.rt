@@ -86,7 +86,7 @@ fn sorted_values(alloc: Global, values: &[EnumValue]) -> Result<Ids, NoMemory>
     'values: for value in values {
         words.push(value.name.copy()?)?;
     }
-    Ids::sorted(words)
+    Ids::sort(words)
 }
 
 /// What is kept of each definition.

@@ -37,7 +37,7 @@ fn places_of_required(alloc: Global, inputs: &[InputTree]) -> Result<Index, NoMe
     'inputs: for (at, input) in inputs.iter().enumerate() {
         put_required(&mut pairs, input, at)?;
     }
-    Index::sorted(alloc, pairs)
+    Index::sort(alloc, pairs)
 }
 
 /// Puts the place of an input that has to be given.
@@ -63,7 +63,7 @@ pub(crate) fn places_of_types(alloc: Global, definitions: &[SchemaDef]) -> Resul
     'definitions: for (at, definition) in definitions.iter().enumerate() {
         put_type(&mut pairs, definition, at)?;
     }
-    Index::sorted(alloc, pairs)
+    Index::sort(alloc, pairs)
 }
 
 /// Puts the place of the type that a definition defines, where it defines one.
@@ -100,7 +100,7 @@ pub(crate) fn places_of_directives(
     'definitions: for (at, definition) in definitions.iter().enumerate() {
         put_directive(&mut pairs, definition, at)?;
     }
-    Index::sorted(alloc, pairs)
+    Index::sort(alloc, pairs)
 }
 
 /// The place of a directive; takes no memory.
@@ -138,7 +138,7 @@ pub(crate) fn places_of_objects(alloc: Global, definitions: &[SchemaDef]) -> Res
     'definitions: for (at, definition) in definitions.iter().enumerate() {
         put_object(&mut pairs, definition, at)?;
     }
-    Index::sorted(alloc, pairs)
+    Index::sort(alloc, pairs)
 }
 
 /// Whether an object type of a name is defined; takes no memory.

@@ -79,7 +79,7 @@ fn with_objects(
     if names.is_empty() {
         return Ok(Ids::new(alloc));
     }
-    Ids::sorted(names.items)
+    Ids::sort(names.items)
 }
 
 /// Puts a name at the end, if it is an object type.

@@ -240,6 +240,16 @@ impl Tables {
         matches!(self.kind_of(of), Some(TypeKind::Scalar | TypeKind::Enum))
     }
 
+    /// Whether the type is an object, an interface or a union (section 2.8).
+    pub fn is_composite(&self, of: &str) -> bool
+        ensures { result ≡ types.is_composite self.now of.now }
+    {
+        matches!(
+            self.kind_of(of),
+            Some(TypeKind::Object | TypeKind::Interface | TypeKind::Union)
+        )
+    }
+
     /// Whether the type has a field `id` of type `ID!` without arguments.
     pub fn has_id(&self, of: &str) -> bool
         ensures { result ≡ types.has_id self.now of.now }

@@ -22,7 +22,7 @@ use Rattle.gql_ast.specs.declared.variable.VariableDef.{VariableDef}
 use Rattle.gql_plain.specs.Tree as t
 use Rattle.schema_rules.specs.declared.fault.Rule.TheVariants as R
 use Rattle.schema_types.specs.DocumentRules.{name_rules, field_rules, argument_rules}
-use Rattle.schema_types.specs.Environments.{environment, first_failure, missing, unfit, evaluated}
+use Rattle.schema_types.specs.Environments.{environment, first_failure, missing, unfit, evaluation}
 use Rattle.gql_graph.specs.Rules.{first_broken}
 use Rattle.schema_types.specs.Sites.{all_definitions}
 use Rattle.schema_tables.specs.Types.{Text, Defs}
@@ -214,6 +214,6 @@ unfit_given_row : first_failure schema (variable_def (codes "a") int_type None �
 unfit_given_row = refl
 
 -- of two fields of one name the last counts, and a variable without a value is null
-last_counts_row : evaluated [] (object (v.member (codes "b") (int (pos 1)) (v.member (codes "a") (variable (codes "x")) (v.member (codes "b") (v.enum (codes "RED")) v.no_members))))
+last_counts_row : evaluation [] (object (v.member (codes "b") (int (pos 1)) (v.member (codes "a") (variable (codes "x")) (v.member (codes "b") (v.enum (codes "RED")) v.no_members))))
     ≡ t.object (t.members_of ((codes "a", t.null) ∷ (codes "b", t.text (codes "RED")) ∷ []))
 last_counts_row = refl

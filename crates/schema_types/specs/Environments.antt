@@ -112,27 +112,27 @@ with_new_pair n x (p ∷ ps) = match_ordering (slice_cmp nat_cmp n p.0) ((n, x) 
 
 -- what a value of the language is: a variable without a value is null, an enum name its text; of several fields of one name the last counts
 abbrev mutual
-  pub evaluated : Values → Val → Tree
-  evaluated env (v.variable n) = value_in env n
-  evaluated env (v.int n) = t.whole n
-  evaluated env (v.text s) = t.text s
-  evaluated env (v.truth b) = t.truth b
-  evaluated env v.null = t.null
-  evaluated env (v.enum n) = t.text n
-  evaluated env (v.list vs) = t.list (items_evaluated env vs)
-  evaluated env (v.object ms) = t.object (members_of (pairs_evaluated env ms))
+  pub evaluation : Values → Val → Tree
+  evaluation env (v.variable n) = value_in env n
+  evaluation env (v.int n) = t.whole n
+  evaluation env (v.text s) = t.text s
+  evaluation env (v.truth b) = t.truth b
+  evaluation env v.null = t.null
+  evaluation env (v.enum n) = t.text n
+  evaluation env (v.list vs) = t.list (items_evaluated env vs)
+  evaluation env (v.object ms) = t.object (members_of (pairs_evaluated env ms))
 
   pub items_evaluated : Values → Vals → Trees
   items_evaluated env v.no_vals = no_trees
-  items_evaluated env (v.val x xs) = tree (evaluated env x) (items_evaluated env xs)
+  items_evaluated env (v.val x xs) = tree (evaluation env x) (items_evaluated env xs)
 
   pub pairs_evaluated : Values → v.Members → Values
   pairs_evaluated env v.no_members = []
-  pairs_evaluated env (v.member n x ms) = with_new_pair n (evaluated env x) (pairs_evaluated env ms)
+  pairs_evaluated env (v.member n x ms) = with_new_pair n (evaluation env x) (pairs_evaluated env ms)
 
 abbrev pub default_value : Option ValueTree → Tree
 default_value None = t.null
-default_value (Some x) = evaluated [] (value_of x)
+default_value (Some x) = evaluation [] (value_of x)
 
 -- the given value, else the default, else null
 abbrev pub value_or_default : Option Tree → Option ValueTree → Tree

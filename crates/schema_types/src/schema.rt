@@ -114,10 +114,7 @@ impl Schema {
     pub fn is_composite(&self, of: &str) -> bool
         ensures { result ≡ types.is_composite self.now of.now }
     {
-        matches!(
-            self.tables.kind_of(of),
-            Some(TypeKind::Object | TypeKind::Interface | TypeKind::Union)
-        )
+        self.tables.is_composite(of)
     }
 
     /// Whether the type has a field `id` of type `ID!` without arguments.

@@ -14,7 +14,7 @@ use Rattle.gql_ast.specs.declared.member.InputTree.{InputTree}
 use Rattle.gql_plain.specs.Tree as t
 use Rattle.gql_plain.specs.Tree.{Tree, Trees, members_of}
 use Rattle.schema_types.specs.Environments as env
-use Rattle.schema_types.specs.Environments.{Values, evaluated, items_evaluated, pairs_evaluated, with_new_pair, suits_meaning, has_key, gives_each_required, suits_as_object}
+use Rattle.schema_types.specs.Environments.{Values, evaluation, items_evaluated, pairs_evaluated, with_new_pair, suits_meaning, has_key, gives_each_required, suits_as_object}
 use Rattle.schema_tables.specs.Fits as lit
 use Rattle.schema_tables.specs.Fits.{Meaning, built_in, one_of, fields, anything, meaning_of, fits_meaning, item_of, is_list_type, is_non_null, is_required, has_member, gives_required, takes_object, takes_list, input_type, types_agree}
 use Rattle.schema_tables.specs.Types.{Text, Defs, base_of, input_named}
@@ -56,7 +56,7 @@ enum_suits n (one_of ns) h = h
 enum_suits n (fields is) h = no h
 enum_suits n anything h = refl
 
-may_be : (e : Values) (x : Val) (of : Ty) → is_constant x ≡ true → lit.may_be_item x of ≡ true → env.may_be_item (evaluated e x) of ≡ true
+may_be : (e : Values) (x : Val) (of : Ty) → is_constant x ≡ true → lit.may_be_item x of ≡ true → env.may_be_item (evaluation e x) of ≡ true
 may_be e (v.variable n) of c h = no c
 may_be e (v.int z) of c h = h
 may_be e (v.text s) of c h = h
@@ -106,7 +106,7 @@ put_key n x (p ∷ ps) k h = at (slice_cmp nat_cmp n p.0) refl (put_key n x ps k
 key_kept : (e : Values) (ms : v.Members) (k : Text) → has_member k ms ≡ true → has_key k (members_of (pairs_evaluated e ms)) ≡ true
 key_kept e v.no_members k h = no h
 key_kept e (v.member n x ms) k h =
-    put_key n (evaluated e x) (pairs_evaluated e ms) k (⊎_elim (λ w. or_left (bytes_eq n k) (has_key k (members_of (pairs_evaluated e ms))) w)
+    put_key n (evaluation e x) (pairs_evaluated e ms) k (⊎_elim (λ w. or_left (bytes_eq n k) (has_key k (members_of (pairs_evaluated e ms))) w)
     (λ w. or_right (bytes_eq n k) (has_key k (members_of (pairs_evaluated e ms))) (key_kept e ms k w)) (or_cases (bytes_eq n k) (has_member k ms) h))
 
 required_kept : (e : Values) (ms : v.Members) (is : List InputTree) → gives_required is ms ≡ true → gives_each_required is (members_of (pairs_evaluated e ms)) ≡ true
@@ -133,7 +133,7 @@ object_evaluates defs e ms (fields is) next h =
     and_from _ _ (required_kept e ms is q.0) (next is q.1)
 
 mutual
-  literal_evaluates : (defs : Defs) (e : Values) (x : Val) (of : Ty) → is_constant x ≡ true → lit.literal_fits defs x of ≡ true → env.fits defs (evaluated e x) of ≡ true
+  literal_evaluates : (defs : Defs) (e : Values) (x : Val) (of : Ty) → is_constant x ≡ true → lit.literal_fits defs x of ≡ true → env.fits defs (evaluation e x) of ≡ true
   literal_evaluates defs e (v.variable n) of c h = no c
   literal_evaluates defs e (v.int z) of c h = int_suits z (meaning_of defs (base_of of)) h
   literal_evaluates defs e (v.text s) of c h = text_suits s (meaning_of defs (base_of of)) h
@@ -162,7 +162,7 @@ mutual
       let q = and_parts (not (has_member n ms) && is_some (input_named is n) && lit.literal_fits defs x (input_type (input_named is n))) (lit.members_fit defs ms (fields is)) h in
       let r = and_parts (not (has_member n ms) && is_some (input_named is n)) (lit.literal_fits defs x (input_type (input_named is n))) q.0 in
       let s = and_parts (not (has_member n ms)) (is_some (input_named is n)) r.0 in
-      put_fits defs is n (evaluated e x) (pairs_evaluated e ms) s.1 (literal_evaluates defs e x (input_type (input_named is n)) k.0 r.1) (members_evaluate defs e ms is k.1 q.1)
+      put_fits defs is n (evaluation e x) (pairs_evaluated e ms) s.1 (literal_evaluates defs e x (input_type (input_named is n)) k.0 r.1) (members_evaluate defs e ms is k.1 q.1)
 
 pub literals_fit : LiteralsFit
 literals_fit defs e x of c h = literal_evaluates defs e x of c h

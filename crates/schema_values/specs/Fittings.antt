@@ -3,7 +3,7 @@ use Rattle.std.specs.Prelude.{◌≡◌, Bool, true, false, ◌&&◌}
 use Rattle.gql_ast.specs.Ty.{Ty}
 use Rattle.gql_ast.specs.Value.{Val, Vals, Members, variable, int, text, truth, null, enum, list, object, no_vals, val, no_members, member}
 use Rattle.gql_plain.specs.Tree.{Tree}
-use Rattle.schema_types.specs.Environments.{Values, evaluated, fits}
+use Rattle.schema_types.specs.Environments.{Values, evaluation, fits}
 use Rattle.schema_tables.specs.Fits.{literal_fits, types_agree}
 use Rattle.schema_tables.specs.Types.{Defs}
 
@@ -29,7 +29,7 @@ abbrev mutual
 
 -- a literal without variables that fits a type is a value that fits it
 abbrev pub LiteralsFit : Type 0
-LiteralsFit = (defs : Defs) (env : Values) (v : Val) (t : Ty) → is_constant v ≡ true → literal_fits defs v t ≡ true → fits defs (evaluated env v) t ≡ true
+LiteralsFit = (defs : Defs) (env : Values) (v : Val) (t : Ty) → is_constant v ≡ true → literal_fits defs v t ≡ true → fits defs (evaluation env v) t ≡ true
 
 -- where the type of a variable agrees with that of its place, what fits the one fits the other
 abbrev pub AgreeingTypesFit : Type 0

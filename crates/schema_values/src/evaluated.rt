@@ -15,7 +15,7 @@ use std::alloc::Global;
 /// What a value is in an environment: a variable without a value is null, and the name of an enum's
 /// value is its text. Of several fields of one name in an object the last counts.
 pub fn evaluate(alloc: Global, value: &ValueTree, env: &Env) -> Result<Plain, NoMemory>
-    ensures { IfOk result (λ plain. tree_of plain ≡ environments.evaluated env.now.values (value_of value.now)) }
+    ensures { IfOk result (λ plain. tree_of plain ≡ environments.evaluation env.now.values (value_of value.now)) }
 {
     evaluate_under(alloc, value, &env.values)
 }
@@ -28,7 +28,7 @@ pub(crate) fn evaluate_under(
     value: &ValueTree,
     values: &Pairs,
 ) -> Result<Plain, NoMemory>
-    ensures { IfOk result (λ plain. tree_of plain ≡ environments.evaluated values.now (value_of value.now)) }
+    ensures { IfOk result (λ plain. tree_of plain ≡ environments.evaluation values.now (value_of value.now)) }
 {
     match value {
         ValueTree::Variable(name) => value_in(values, name.as_str()),
@@ -45,7 +45,7 @@ pub(crate) fn evaluate_under(
 /// What the values of a list are.
 #[cycle(evaluate)]
 fn items_under(alloc: Global, items: &ValueTrees, values: &Pairs) -> Result<Plains, NoMemory>
-    ensures { IfOk result (λ plains. plains ≡ map (environments.evaluated values.now) items.now) }
+    ensures { IfOk result (λ plains. plains ≡ map (environments.evaluation values.now) items.now) }
 {
     let mut plains = Plains::new(alloc);
     'items: for item in &items.items {
@@ -70,7 +70,7 @@ fn fields_under(
     fields: &Arguments,
     values: &Pairs,
 ) -> Result<Vec<(Words, Plain)>, NoMemory>
-    ensures { IfOk result (λ pairs. shown_members pairs.items ≡ map (λ m. (m.0, environments.evaluated values.now m.1)) fields.now) }
+    ensures { IfOk result (λ pairs. shown_members pairs.items ≡ map (λ m. (m.0, environments.evaluation values.now m.1)) fields.now) }
 {
     let mut pairs = Vec::new(alloc);
     'fields: for field in &fields.items {

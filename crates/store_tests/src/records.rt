@@ -47,7 +47,7 @@ fn filters_in(alloc: Global, text: &str) -> Result<Option<Ids>, NoMemory> {
     for name in text.split(',').filter(|name| !name.is_empty()) {
         names.push(words(alloc, name)?)?;
     }
-    Ok(Some(Ids::sorted(names)?))
+    Ok(Some(Ids::sort(names)?))
 }
 
 #[test]

@@ -68,7 +68,7 @@ pub(crate) fn put_in_leaf<V: Drop, C: Steps>(
         None => Ok(Branch {
             link: Link::Leaf(leaf),
         }),
-        Some((middle, later)) => parted(alloc, leaf, middle, later, steps),
+        Some((middle, later)) => node_of_leaves(alloc, leaf, middle, later, steps),
     }
 }
 
@@ -93,12 +93,12 @@ pub(crate) fn with_in_leaf<V: Drop, C: Steps>(
         None => Ok(Branch {
             link: Link::Leaf(Rc::new(alloc, copy)?),
         }),
-        Some((middle, later)) => parted(alloc, Rc::new(alloc, copy)?, middle, later, steps),
+        Some((middle, later)) => node_of_leaves(alloc, Rc::new(alloc, copy)?, middle, later, steps),
     }
 }
 
 /// A node over two leaves, of which the later one is new.
-fn parted<V: Drop, C: Steps>(
+fn node_of_leaves<V: Drop, C: Steps>(
     alloc: Global,
     first: Rc<Leaf<V>>,
     middle: Item<V>,

@@ -159,7 +159,7 @@ impl<V: Drop> Tree<V> {
     {
         let mut items = Vec::new(alloc);
         self.root().add_keys(&mut items)?;
-        Ids::sorted(items)
+        Ids::sort(items)
     }
 
     /// The root, whose pairs stand in the order of the tree; takes no memory.

@@ -249,27 +249,7 @@ fn note_in_lists(tables: &Tables, least: &mut Least, fields: &[FieldAt<'_>])
 fn is_composite_in_lists(tables: &Tables, of: &TypeTree) -> bool
     ensures { result ≡ (nat_lt 1 (rules.list_depth (ty_of of.now)) && types.is_composite tables.now (types.base_of (ty_of of.now))) }
 {
-    has_lists(of) && is_composite(tables, base_of(of))
-}
-
-/// Whether a type is an object, an interface or a union.
-fn is_composite(tables: &Tables, name: &str) -> bool
-    ensures { result ≡ types.is_composite tables.now name.now }
-{
-    match tables.kind_of(name) {
-        Some(kind) => is_composite_kind(kind),
-        None => false,
-    }
-}
-
-/// Whether a kind is an object, an interface or a union.
-fn is_composite_kind(kind: TypeKind) -> bool
-    ensures { result ≡ types.is_composite_kind kind }
-{
-    match kind {
-        TypeKind::Object | TypeKind::Interface | TypeKind::Union => true,
-        TypeKind::Scalar | TypeKind::Enum | TypeKind::Input => false,
-    }
+    has_lists(of) && tables.is_composite(base_of(of))
 }
 
 /// Whether a type has more than one list.

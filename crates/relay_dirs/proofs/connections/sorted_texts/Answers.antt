@@ -16,5 +16,5 @@ returns c =
     sym (append-nil c.values.texts.items)
     ∙ sym (ap (λ (vs : List ValueTree). c.values.texts.items ++ texts_in (vals_of (map value_of vs))) (drop_all c.values.value-index c.as_slice-value-items.result.now (omega arith)))
     ∙ c.values.invariant in
-    IfOk-weaker c.sorted.result (AreSortedOf c.values.texts.items) (λ ids. ids ≡ sorted_texts_in (vals_of c.args.values.now))
-    (λ ids sorted. AreSortedOf-is c.values.texts.items ids sorted ∙ ap sorted_texts all) c.sorted.ensures
+    IfOk-weaker c.sort.result (AreSortedOf c.values.texts.items) (λ ids. ids ≡ sorted_texts_in (vals_of c.args.values.now))
+    (λ ids sorted. AreSortedOf-is c.values.texts.items ids sorted ∙ ap sorted_texts all) c.sort.ensures

@@ -8,6 +8,6 @@ use Rattle.schema_tables.proofs.part.sorted_values.Goals as goal
 
 pub returns : goal.returns
 returns c =
-    IfOk-weaker c.sorted.result (AreSortedOf c.values.words.items) (λ ids. ids ≡ sorted_texts (map (λ (v : EnumValue). v.name) c.args.values.now))
+    IfOk-weaker c.sort.result (AreSortedOf c.values.words.items) (λ ids. ids ≡ sorted_texts (map (λ (v : EnumValue). v.name) c.args.values.now))
     (λ ids sorted. AreSortedOf-is c.values.words.items ids sorted
-    ∙ ap sorted_texts (c.values.invariant ∙ ap (map (λ (v : EnumValue). v.name)) (take_all c.values.value-index c.args.values.now c.values-test.false))) c.sorted.ensures
+    ∙ ap sorted_texts (c.values.invariant ∙ ap (map (λ (v : EnumValue). v.name)) (take_all c.values.value-index c.args.values.now c.values-test.false))) c.sort.ensures

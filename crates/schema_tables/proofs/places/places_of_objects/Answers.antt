@@ -15,7 +15,7 @@ definitions-preserved c = λ n.
 
 pub returns : goal.returns
 returns c =
-    IfOk-weaker c.sorted.result (λ index. IsSortedFrom (map pair_of c.definitions.pairs.items) index.places.items) (λ index. IsIndexOf definition_name names_object c.args.definitions.now index.places.items)
+    IfOk-weaker c.sort.result (λ index. IsSortedFrom (map pair_of c.definitions.pairs.items) index.places.items) (λ index. IsIndexOf definition_name names_object c.args.definitions.now index.places.items)
     (λ index sorted.
     index_of definition_name names_object object_named c.args.definitions.now (map pair_of c.definitions.pairs.items) index.places.items sorted
-    (λ n. c.definitions.invariant n ∙ first_at-all (names_object n) c.args.definitions.now c.definitions.at c.definitions-test.false)) c.sorted.ensures
+    (λ n. c.definitions.invariant n ∙ first_at-all (names_object n) c.args.definitions.now c.definitions.at c.definitions-test.false)) c.sort.ensures

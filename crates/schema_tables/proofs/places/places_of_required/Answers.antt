@@ -15,7 +15,7 @@ inputs-preserved c = λ n.
 
 pub returns : goal.returns
 returns c =
-    IfOk-weaker c.sorted.result (λ index. IsSortedFrom (map pair_of c.inputs.pairs.items) index.places.items) (λ index. IsIndexOf input_name is_needed c.args.inputs.now index.places.items)
+    IfOk-weaker c.sort.result (λ index. IsSortedFrom (map pair_of c.inputs.pairs.items) index.places.items) (λ index. IsIndexOf input_name is_needed c.args.inputs.now index.places.items)
     (λ index sorted.
     index_of input_name is_needed needed_named c.args.inputs.now (map pair_of c.inputs.pairs.items) index.places.items sorted
-    (λ n. c.inputs.invariant n ∙ first_at-all (is_needed n) c.args.inputs.now c.inputs.at c.inputs-test.false)) c.sorted.ensures
+    (λ n. c.inputs.invariant n ∙ first_at-all (is_needed n) c.args.inputs.now c.inputs.at c.inputs-test.false)) c.sort.ensures

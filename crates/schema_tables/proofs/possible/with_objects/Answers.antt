@@ -34,6 +34,6 @@ returns c =
     let whole : c.names-2.inside.items.items ≡ c.args.group.now ++ filter (λ n. is_some (first_at (names_object n) c.args.definitions.now)) c.args.members.now =
     c.names-2.view_is ∙ c.members.invariant ∙ ap (λ g. g ++ filter (λ n. is_some (first_at (names_object n) c.args.definitions.now)) (take c.members.member-index c.args.members.now)) group
     ∙ ap (λ ms. c.args.group.now ++ filter (λ n. is_some (first_at (names_object n) c.args.definitions.now)) ms) (take_all c.members.member-index c.args.members.now c.members-test.false) in
-    IfOk-weaker c.sorted.result (AreSortedOf c.names-2.inside.items.items)
+    IfOk-weaker c.sort.result (AreSortedOf c.names-2.inside.items.items)
     (λ ids. ids ≡ sorted_texts (c.args.group.now ++ filter (λ n. is_some (first_at (names_object n) c.args.definitions.now)) c.args.members.now))
-    (λ ids sorted. AreSortedOf-is c.names-2.inside.items.items ids sorted ∙ ap sorted_texts whole) c.sorted.ensures
+    (λ ids sorted. AreSortedOf-is c.names-2.inside.items.items ids sorted ∙ ap sorted_texts whole) c.sort.ensures

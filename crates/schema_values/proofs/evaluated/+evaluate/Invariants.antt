@@ -1,11 +1,11 @@
 use Rattle.std.proofs.Common.{◌≡◌, map, take}
 use Rattle.gql_ast.specs.ValueView.{value_of, argument_of}
 use Rattle.gql_plain.specs.Shown.{shown_members}
-use Rattle.schema_types.specs.Environments.{evaluated}
+use Rattle.schema_types.specs.Environments.{evaluation}
 use Rattle.schema_values.proofs.evaluated.+evaluate.Given as goal
 
 abbrev pub invariant-items_under-items : goal.invariant-items_under-items
-invariant-items_under-items l = l.plains ≡ map (evaluated l.values) (map value_of (take l.item-index l.item-items))
+invariant-items_under-items l = l.plains ≡ map (evaluation l.values) (map value_of (take l.item-index l.item-items))
 
 abbrev pub invariant-fields_under-fields : goal.invariant-fields_under-fields
-invariant-fields_under-fields l = shown_members l.pairs.items ≡ map (λ m. (m.0, evaluated l.values m.1)) (map argument_of (take l.field-index l.field-items))
+invariant-fields_under-fields l = shown_members l.pairs.items ≡ map (λ m. (m.0, evaluation l.values m.1)) (map argument_of (take l.field-index l.field-items))

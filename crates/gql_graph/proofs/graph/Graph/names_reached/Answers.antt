@@ -1,7 +1,7 @@
 -- Round by round.
 use Rattle.std.proofs.Common.{◌≡◌, List, [], ◌++◌, map, ap, sym, subst, ◌∙◌, arith}
 use Rattle.std.proofs.lemmas.List.{map-append, nil_from_length}
-use Rattle.gql_graph.specs.Graphs.{unseen, Once}
+use Rattle.gql_graph.specs.Graphs.{unseen_names, Once}
 use Rattle.gql_graph.specs.Rules.{each}
 use Rattle.gql_graph.specs.Seen.{Knows}
 use Rattle.gql_graph.specs.Texts.{Text}
@@ -27,8 +27,8 @@ steps-preserved c =
     let names : List Text = map (λ (n : Bor Text). n.now) c.in_ok-names.names.items in
     let before : List Text = map (λ (n : Bor Text). n.now) c.steps.all.items in
     let then : List Text = map (λ (n : Bor Text). n.now) c.in_ok-frontier-2.frontier.items in
-    let rest : (ns : List Text) → Knows c.steps.seen.names ns → then ≡ unseen ns names =
-    λ ns k. c.in_ok-frontier-2.ensures.rest ns k ∙ ap (λ (l : List (Bor Text)). unseen ns (map (λ (n : Bor Text). n.now) l)) c.deref-in-steps.ensures.value in
+    let rest : (ns : List Text) → Knows c.steps.seen.names ns → then ≡ unseen_names ns names =
+    λ ns k. c.in_ok-frontier-2.ensures.rest ns k ∙ ap (λ (l : List (Bor Text)). unseen_names ns (map (λ (n : Bor Text). n.now) l)) c.deref-in-steps.ensures.value in
     let known : (ns : List Text) → Knows c.steps.seen.names ns → Knows c.round-in-steps.new.seen.names (names ++ ns) =
     λ ns k. subst (λ (l : List (Bor Text)). Knows c.round-in-steps.new.seen.names (map (λ (n : Bor Text). n.now) l ++ ns)) c.deref-in-steps.ensures.value (c.in_ok-frontier-2.ensures.known ns k) in
     let all : map (λ (n : Bor Text). n.now) c.round-in-steps.new.all.items ≡ before ++ then =

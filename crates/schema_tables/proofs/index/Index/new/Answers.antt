@@ -17,7 +17,7 @@ items-preserved g c = λ n.
 pub returns : goal.returns
 returns g c =
     let name = g.T.Named.name in
-    IfOk-weaker c.sorted.result (λ index. IsSortedFrom (map pair_of c.items.pairs.items) index.places.items) (IsNameIndex name c.args.items.now)
+    IfOk-weaker c.sort.result (λ index. IsSortedFrom (map pair_of c.items.pairs.items) index.places.items) (IsNameIndex name c.args.items.now)
     (λ index sorted.
     index_of name (is_named name) (has_that_name name) c.args.items.now (map pair_of c.items.pairs.items) index.places.items sorted
-    (λ n. c.items.invariant n ∙ first_at-all (is_named name n) c.args.items.now c.items.at c.items-test.false)) c.sorted.ensures
+    (λ n. c.items.invariant n ∙ first_at-all (is_named name n) c.args.items.now c.items.at c.items-test.false)) c.sort.ensures

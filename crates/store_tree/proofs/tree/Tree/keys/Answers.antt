@@ -9,5 +9,5 @@ pub returns-clause-keys : goal.returns-clause-keys
 returns-clause-keys g c =
     let items = c.add_keys.new.keys.items in
     let made : items ≡ keys_of c.root.result.now.pairs = rw c.new-items.ensures.items at c.in_ok-add_keys.ensures in
-    IfOk-weaker c.sorted.result (AreSortedOf items) (λ ids. ids ≡ keys_of c.args.self.now.pairs)
-    (λ ids h. sorted_keys c.root.result.now.pairs items ids made h ∙ ap keys_of c.root.ensures.pairs) c.sorted.ensures
+    IfOk-weaker c.sort.result (AreSortedOf items) (λ ids. ids ≡ keys_of c.args.self.now.pairs)
+    (λ ids h. sorted_keys c.root.result.now.pairs items ids made h ∙ ap keys_of c.root.ensures.pairs) c.sort.ensures

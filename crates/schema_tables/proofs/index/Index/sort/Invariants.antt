@@ -1,5 +1,5 @@
 use Rattle.std.proofs.Common.{◌≡◌, map, take}
-use Rattle.schema_tables.proofs.index.Index.sorted.Given as goal
+use Rattle.schema_tables.proofs.index.Index.sort.Given as goal
 use Rattle.schema_tables.specs.declared.index.NamePlace.{NamePlace}
 
 abbrev pub invariant-pairs : goal.invariant-pairs

@@ -6,7 +6,7 @@ use Rattle.std.specs.List.{dedup}
 use Rattle.std.specs.List.Sorted.{IsStableBy, IsSortedBy}
 use Rattle.std.specs.Ordering.{is_lt}
 use Rattle.schema_tables.proofs.Pairs.{at_of, key, sorted_pairs}
-use Rattle.schema_tables.proofs.index.Index.sorted.Goals as goal
+use Rattle.schema_tables.proofs.index.Index.sort.Goals as goal
 
 pub returns : goal.returns
 returns c =

@@ -1,13 +1,13 @@
 -- One more name.
 use Rattle.std.proofs.Common.{List, [], ◌++◌, map, refl, ap, arith}
-use Rattle.gql_graph.specs.Graphs.{unseen}
+use Rattle.gql_graph.specs.Graphs.{unseen_names}
 use Rattle.gql_graph.specs.Texts.{Text}
 use Rattle.gql_graph.proofs.Searching.{puts_next, puts_end, all_known}
-use Rattle.gql_graph.proofs.graph.unseen.Goals as goal
+use Rattle.gql_graph.proofs.graph.unseen_names.Goals as goal
 use denote.Ref.{Bor}
 
 pub names-init : goal.names-init
-names-init c = λ ns k. (ns, k, ap (λ (l : List (Bor Text)). map (λ (n : Bor Text). n.now) l ++ unseen ns (map (λ (n : Bor Text). n.now) c.args.names.now)) c.new-rest.ensures.items, λ m. refl)
+names-init c = λ ns k. (ns, k, ap (λ (l : List (Bor Text)). map (λ (n : Bor Text). n.now) l ++ unseen_names ns (map (λ (n : Bor Text). n.now) c.args.names.now)) c.new-rest.ensures.items, λ m. refl)
 
 pub names-preserved : goal.names-preserved
 names-preserved c = λ ns k.
