@@ -1,5 +1,5 @@
 -- Each place where a rule on the directives after Relay or on aliases does not hold is that of a node of the documents.
-use Rattle.std.proofs.Common.{◌≡◌, ℕ, ◌<◌, not, cond, List, [], ◌∷◌, ◌++◌, map, Option, Some, None, IfSome, bytes_eq, codes}
+use Rattle.std.proofs.Common.{◌≡◌, ℕ, ◌<◌, Bool, not, cond, List, [], ◌∷◌, ◌++◌, map, Option, Some, None, IfSome, bytes_eq, codes}
 use Rattle.std.specs.List.{AllByRecursion}
 use Rattle.gql_ast.specs.declared.document.Document.{Document}
 use Rattle.doc_uses.specs.Parts.{uses_wrong_in}
@@ -11,7 +11,7 @@ use Rattle.relay_dirs.specs.RelayRules.{relay_rules}
 use Rattle.relay_dirs.specs.Spreads as spreads
 use Rattle.schema_rules.specs.Rules.{each, wrong, first_broken}
 use Rattle.schema_rules.specs.declared.fault.Rule.{Rule}
-use Rattle.schema_tables.specs.Types.{Text, Defs}
+use Rattle.schema_tables.specs.Types.{Defs}
 use Rattle.schema_tables.specs.Views.{FieldDef}
 use Rattle.schema_trees.proofs.BelowSteps.{all_append, all_each, below_append, below_wrong, below_cond, below_each, below_first}
 use Rattle.schema_trees.specs.Located.{Located}
@@ -89,11 +89,10 @@ module _ (m : ℕ) where
   V18 : (defs : Defs) (ds : List DefinitionAt) → DefinitionsBelow m ds → Below m (spreads.spreads_wrong defs ds)
   V18 defs ds h =
       let fs = fragments ds in
-      below_append m (spreads.given_wrong defs fs ds) (each (spreads.local_uses_wrong defs fs) fs ++ each (spreads.uses_of_operation_wrong defs fs) (operations ds))
-      (given_below defs fs ds h)
-      (below_append m (each (spreads.local_uses_wrong defs fs) fs) (each (spreads.uses_of_operation_wrong defs fs) (operations ds))
-      (below_each m (FragmentIn m) (spreads.local_uses_wrong defs fs) (local_uses_below defs fs) fs (fragments_here m ds h))
-      (below_each m (OperationIn m) (spreads.uses_of_operation_wrong defs fs) (operation_uses_below defs fs (fragments_here m ds h)) (operations ds) (operations_here m ds h)))
+      below_append m (spreads.given_wrong defs fs ds ++ each (spreads.local_uses_wrong defs fs) fs) (each (spreads.uses_of_operation_wrong defs fs) (operations ds))
+      (below_append m (spreads.given_wrong defs fs ds) (each (spreads.local_uses_wrong defs fs) fs) (given_below defs fs ds h)
+      (below_each m (FragmentIn m) (spreads.local_uses_wrong defs fs) (local_uses_below defs fs) fs (fragments_here m ds h)))
+      (below_each m (OperationIn m) (spreads.uses_of_operation_wrong defs fs) (operation_uses_below defs fs (fragments_here m ds h)) (operations ds) (operations_here m ds h))
 
   -- ---- V19, V20
 
