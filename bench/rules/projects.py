@@ -85,6 +85,36 @@ def many_variables(count):
         yield f"fragment F{n} on User {{ a{n}: friends(first: $v{n}) {{ edges {{ cursor }} }} ...F{n + 1} }}\n"
     yield f"fragment F{count - 1} on User {{ friends(first: $v{count - 1}) {{ edges {{ cursor }} }} }}\n"
 
+LOCAL = '@argumentDefinitions(first: {type: "Int", defaultValue: 10})'
+
+def given_on(count):
+    """A chain of fragments of one local variable each, of which each gives its own to the next."""
+    yield "query Q { me { ...F0 @arguments(first: 1) } }\n"
+    for n in range(count - 1):
+        yield f"fragment F{n} on User {LOCAL} {{ ...F{n + 1} @arguments(first: $first) }}\n"
+    yield f"fragment F{count - 1} on User {LOCAL} {{ friends(first: $first) {{ edges {{ cursor }} }} }}\n"
+
+def given_to_one(count):
+    """Operations of one variable, all over one chain of as many fragments, of which the last one gives it to a local variable."""
+    for n in range(count):
+        yield f"query Q{n}($first: Int) {{ me {{ ...F0 }} }}\n"
+    for n in range(count - 1):
+        yield f"fragment F{n} on User {{ ...F{n + 1} }}\n"
+    yield f"fragment F{count - 1} on User {{ ...Last @arguments(first: $first) }}\n"
+    yield f"fragment Last on User {LOCAL} {{ friends(first: $first) {{ edges {{ cursor }} }} }}\n"
+
+def pages(count):
+    """The schema with types of connections."""
+    yield SCHEMA.replace("edges: [Friend]", "edges: [Friend] pageInfo: PageInfo!")
+    yield "type PageInfo { hasNextPage: Boolean hasPreviousPage: Boolean startCursor: String endCursor: String }\n"
+
+def connections(count):
+    """A selection with so many connections."""
+    yield "query Q { me {\n"
+    for n in range(count):
+        yield f'  a{n}: friends(first: {n}) @connection(key: "Q_a{n}", filters: ["first", "after"]) {{ edges {{ cursor }} }}\n'
+    yield "} }\n"
+
 def fault(rule, line, column):
     """The line that a project with a fault in its document is refused by."""
     return f'{{"column":{column},"file":"d.graphql","line":{line},"rule":"{rule}"}}\n'
@@ -104,7 +134,7 @@ def plain(count):
 
 # name, schema, documents, how many definitions, and the answer that is due
 PROJECTS = [
-    ("operations", plain, operations, [250, 500, 1_000], lambda count: NOT_TAKEN),
+    ("operations", plain, operations, [1_000, 2_000, 4_000], lambda count: NOT_TAKEN),
     ("fragments in a chain", plain, chain, [10_000, 20_000, 40_000], lambda count: NOT_TAKEN),
     ("below a subscription", plain, subscription, [10_000, 20_000, 40_000], lambda count: NOT_TAKEN),
     ("many subscriptions", plain, subscriptions, [1_000, 2_000, 4_000], lambda count: NOT_TAKEN),
@@ -112,5 +142,8 @@ PROJECTS = [
     ("a cycle at the end", plain, cycle, [10_000, 20_000, 40_000], last_spread),
     ("all over one chain", plain, over_one_chain, [1_000, 2_000, 4_000], lambda count: NOT_TAKEN),
     ("without a variable", plain, without_variable, [1_000, 2_000, 4_000], last_use),
+    ("given on and on", plain, given_on, [5_000, 10_000, 20_000], lambda count: NOT_TAKEN),
+    ("given below a chain", plain, given_to_one, [1_000, 2_000, 4_000], lambda count: NOT_TAKEN),
+    ("connections", pages, connections, [5_000, 10_000, 20_000], lambda count: NOT_TAKEN),
     ("many variables", plain, many_variables, [1_000, 2_000, 4_000], lambda count: NOT_TAKEN),
 ]
