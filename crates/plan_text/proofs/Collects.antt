@@ -14,7 +14,7 @@ use Rattle.plan_ir.specs.Nodes.{Nodes, end, field, inline, nodes_append}
 use Rattle.plan_ir.specs.Substitution.{Arguments, Scope, operation_scope, scope_at_spread, substitute_in}
 use Rattle.plan_text.proofs.AddedFields.{Added, IsBare, all_added, nothing_added, printed-append}
 use Rattle.plan_text.proofs.Evaluating.{Means, arguments-printed, means_inside}
-use Rattle.plan_text.specs.Collecting.{Around, CollectTheSame, Field, Group, Part, SameField, SameGroup, TextCollectsTheSame, applies, arguments_in_environment, collect, collect_inside, collect_part, collect_parts, collect_with, environment_inside, field_of, fragment_selections, grouped_onto, groups_at, is_left_out, is_true, leaves_out, members, parts, with_additions, with_field}
+use Rattle.plan_text.specs.Collecting.{Around, CollectTheSame, Field, Group, Part, SameField, SameGroup, TextCollectsTheSame, applies, arguments_in_environment, collect, collect_inside, collect_part, collect_parts, collect_with, environment_inside, field_of, fragment_selections, group_onto, groups_at, is_left_out, is_true, leaves_out, members, parts, with_additions, with_field}
 use Rattle.plan_text.specs.Printed.{alias_of, printed_arguments, printed_directive, printed_directives, printed_selections}
 use Rattle.schema_tables.specs.Types.{Text, Defs, base_of, root}
 use Rattle.schema_trees.specs.Located.{directives_nodes}
@@ -59,8 +59,10 @@ module _ (own env : Values) (scope : Scope) (means : Means own scope env) where
     where
       kept : List Directive
       kept = filter (λ (x : Directive). shows x.name) ds
+
       sub : Directive → Directive
       sub x = record { name = x.name; arguments = substitute_in scope x.arguments }
+
       at : is_left_out own (printed_directives (directives_such shows scope ds)) ≡ is_left_out env ds → (b : Bool) → shows d.name ≡ b
           → is_left_out own (printed_directives (map sub (cond b (d ∷ kept) kept))) ≡ (leaves_out env d || is_left_out env ds)
       at rest true e = λ i. leaves-printed d i || rest i
@@ -136,11 +138,13 @@ bare_items w T k env enter sels.end h = tt
 bare_items w T k env enter (sels.spread n ds rest) h = absurd h
 bare_items w T k env enter (sels.field a n xs ds s rest) h =
     zip-kept (Item w) (is_left_out env ds) (is_left_out w.own ds) (ap (is_left_out w.own) h.1 ∙ sym (ap (is_left_out env) h.1))
-    (field_of k env a n xs s ∷ []) (field_of zero w.own a n xs s ∷ []) (collect_with enter w.project.defs T k env rest) (collect_with no_spread w.project.defs T zero w.own rest)
-    (record {
-      alike = record { response = refl; name = refl; arguments = ap (arguments_in_environment env) h.0 ∙ sym (ap (arguments_in_environment w.own) h.0) };
-      below = inr (record { bare = h.2; same = refl; environment = refl; spreads = refl });
-    }, tt)
+    (field_of k env a n xs s ∷ []) (field_of zero w.own a n xs s ∷ []) (collect_with enter w.project.defs T k env rest) (collect_with no_spread w.project.defs T zero w.own rest) (
+      record {
+        alike = record { response = refl; name = refl; arguments = ap (arguments_in_environment env) h.0 ∙ sym (ap (arguments_in_environment w.own) h.0) };
+        below = inr (record { bare = h.2; same = refl; environment = refl; spreads = refl });
+      },
+      tt,
+    )
     (bare_items w T k env enter rest h.3)
 bare_items w T k env enter (sels.inline o ds s rest) h =
     zip-kept (Item w) (is_left_out env ds) (is_left_out w.own ds) (ap (is_left_out w.own) h.0 ∙ sym (ap (is_left_out env) h.0))
@@ -162,9 +166,8 @@ module _ (w : Around) (T : Text) (k : ℕ) (enter : (from : ℕ) → Text → Li
     (scope : Scope) (env : Values) (means : Means w.own scope env)
     (whole : (from : ℕ) (around : Option Text) (s : Sels) → expansion k w.project scope from around s ≡ expansion_with enter w.project scope from around s)
     (entered : (from : ℕ) (n : Text) (ds : List Directive) (rest : Nodes) (more : List Field)
-      → AllZip (Item w) more (collect_with no_spread w.project.defs T zero w.own (printed_selections rest))
-      → AllZip (Item w) (cond (is_left_out env ds) [] (gather n ds) ++ more) (collect_with no_spread w.project.defs T zero w.own (printed_selections (enter from n ds rest)))) where
-
+    → AllZip (Item w) more (collect_with no_spread w.project.defs T zero w.own (printed_selections rest))
+    → AllZip (Item w) (cond (is_left_out env ds) [] (gather n ds) ++ more) (collect_with no_spread w.project.defs T zero w.own (printed_selections (enter from n ds rest)))) where
   abbrev from_source : Sels → List Field
   from_source s = collect_with gather w.project.defs T k env s
 
@@ -185,28 +188,30 @@ module _ (w : Around) (T : Text) (k : ℕ) (enter : (from : ℕ) → Text → Li
       (left-printed w.own env scope means is_printed not_printed ds)
       (field_of k env a n xs (sels_append (with_additions w.project.defs w.place under s) (printed_selections old)) ∷ [])
       (field_of zero w.own (alias_of (response_key a n) n) n (printed_arguments (substitute_in scope xs)) (printed_selections (nodes_append (expansion_with enter w.project scope inner under s) new)) ∷ [])
-      (from_source (with_additions w.project.defs w.place around rest)) (from_text more)
-      (record {
-        alike = record {
-          response = alias_back (response_key a n) n;
-          name = refl;
-          arguments = sym (arguments-printed w.own env scope means xs);
-        };
-        below = inl (record {
-          scope = scope;
-          means = means;
-          from = inner;
-          around = under;
-          written = s;
-          text_added = new;
-          source_added = old;
-          added = all_added w.project.defs (w.project.place from) w.place is_connection of s;
-          source = refl;
-          text = ap (λ ns. printed_selections (nodes_append ns new)) (sym (whole inner under s));
-          environment = refl;
-          spreads = refl;
-        });
-      }, tt)
+      (from_source (with_additions w.project.defs w.place around rest)) (from_text more) (
+        record {
+          alike = record {
+            response = alias_back (response_key a n) n;
+            name = refl;
+            arguments = sym (arguments-printed w.own env scope means xs);
+          };
+          below = inl (record {
+            scope = scope;
+            means = means;
+            from = inner;
+            around = under;
+            written = s;
+            text_added = new;
+            source_added = old;
+            added = all_added w.project.defs (w.project.place from) w.place is_connection of s;
+            source = refl;
+            text = ap (λ ns. printed_selections (nodes_append ns new)) (sym (whole inner under s));
+            environment = refl;
+            spreads = refl;
+          });
+        },
+        tt,
+      )
       (items_with (inner + selections_nodes s) around rest)
   items_with from around (sels.spread n ds rest) =
       entered from n ds (expansion_with enter w.project scope (from + 2 + directives_nodes ds) around rest) (from_source (with_additions w.project.defs w.place around rest))
@@ -238,12 +243,12 @@ items w T (suc k) scope env means =
     (λ n ds. collect_inside (λ f. collect k w T (environment_inside w.own env ds f) (fragment_selections w f)) w.project.defs T (fragment_named w.project.fragments n))
     scope env means (λ from around s. refl)
     (λ from n ds rest more h. entered ds
-        (λ f. items w T k (scope_at_spread scope ds f) (environment_inside w.own env ds f) (means_inside w.own env scope means ds f) (selections_from f) (Some f.on.name) f.selections)
-        from rest more h (fragment_named w.project.fragments n))
+    (λ f. items w T k (scope_at_spread scope ds f) (environment_inside w.own env ds f) (means_inside w.own env scope means ds f) (selections_from f) (Some f.on.name) f.selections)
+    from rest more h (fragment_named w.project.fragments n))
   where
     entered : (ds : List Directive)
         → ((f : FragmentAt) → AllZip (Item w) (collect k w T (environment_inside w.own env ds f) (fragment_selections w f))
-            (collect zero w T w.own (printed_selections (expansion k w.project (scope_at_spread scope ds f) (selections_from f) (Some f.on.name) f.selections))))
+        (collect zero w T w.own (printed_selections (expansion k w.project (scope_at_spread scope ds f) (selections_from f) (Some f.on.name) f.selections))))
         → (from : ℕ) (rest : Nodes) (more : List Field)
         → AllZip (Item w) more (collect_with no_spread w.project.defs T zero w.own (printed_selections rest)) → (f : Option FragmentAt)
         → AllZip (Item w)
@@ -299,7 +304,7 @@ part_items w T f g (inl h) =
     let written : Sels = with_additions w.project.defs w.place h.around h.written in
     let whole : Nodes = expansion f.spreads w.project h.scope h.from h.around h.written in
     let both : AllZip (Item w) (collect f.spreads w T f.environment written ++ collect f.spreads w T f.environment (printed_selections h.source_added))
-        (collect zero w T w.own (printed_selections whole) ++ collect zero w T w.own (printed_selections h.source_added)) =
+    (collect zero w T w.own (printed_selections whole) ++ collect zero w T w.own (printed_selections h.source_added)) =
     zip-append (Item w) (collect f.spreads w T f.environment written) (collect zero w T w.own (printed_selections whole))
     (collect f.spreads w T f.environment (printed_selections h.source_added)) (collect zero w T w.own (printed_selections h.source_added))
     (items w T f.spreads h.scope f.environment h.means h.from h.around h.written)
@@ -344,7 +349,7 @@ with_field-same w a b i (g ∷ gs) (k ∷ ks) h =
     at rest false true e = absurd cc
     at rest false false e = (h.0, rest)
 
-grouped-same : (w : Around) (xs ys : List Field) → AllZip (Item w) xs ys → (gs hs : List Group) → AllZip (Grouped w) gs hs → AllZip (Grouped w) (grouped_onto gs xs) (grouped_onto hs ys)
+grouped-same : (w : Around) (xs ys : List Field) → AllZip (Item w) xs ys → (gs hs : List Group) → AllZip (Grouped w) gs hs → AllZip (Grouped w) (group_onto gs xs) (group_onto hs ys)
 grouped-same w [] [] h gs hs all = all
 grouped-same w [] (y ∷ ys) h gs hs all = absurd h
 grouped-same w (x ∷ xs) [] h gs hs all = absurd h
@@ -379,18 +384,20 @@ sels_append-end (sels.inline o ds s rest) = ap (sels.inline o ds s) (sels_append
 
 pub text_collects_the_same : TextCollectsTheSame
 text_collects_the_same w o depth =
-    collect_the_same w depth _ _
-    (inl (record {
-      scope = operation_scope;
-      means = λ n. refl;
-      from = operation_from o;
-      around = root w.project.defs o.kind;
-      written = o.selections;
-      text_added = end;
-      source_added = end;
-      added = nothing_added;
-      source = sym (sels_append-end (with_additions w.project.defs w.place (root w.project.defs o.kind) o.selections));
-      text = ap printed_selections (sym (nodes_append-end (expansion (spreads_in w.project) w.project operation_scope (operation_from o) (root w.project.defs o.kind) o.selections)));
-      environment = refl;
-      spreads = refl;
-    }), tt)
+    collect_the_same w depth _ _ (
+      inl (record {
+        scope = operation_scope;
+        means = λ n. refl;
+        from = operation_from o;
+        around = root w.project.defs o.kind;
+        written = o.selections;
+        text_added = end;
+        source_added = end;
+        added = nothing_added;
+        source = sym (sels_append-end (with_additions w.project.defs w.place (root w.project.defs o.kind) o.selections));
+        text = ap printed_selections (sym (nodes_append-end (expansion (spreads_in w.project) w.project operation_scope (operation_from o) (root w.project.defs o.kind) o.selections)));
+        environment = refl;
+        spreads = refl;
+      }),
+      tt,
+    )

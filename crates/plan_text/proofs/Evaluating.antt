@@ -14,7 +14,7 @@ use Rattle.gql_plain.specs.Tree.{Tree}
 use Rattle.plan_ir.specs.Locals.{Local, argument_named, locals_of}
 use Rattle.plan_ir.specs.OperationText.{by_name, with_member}
 use Rattle.plan_ir.specs.Substitution.{Arguments, Scope, arguments_at_spread, arguments_in, default_named, scope_at_spread, substitute, substitute_in, substitute_items, substitute_members, value_of_local, value_or}
-use Rattle.plan_text.specs.Collecting.{arguments_in_environment, environment_inside, given_or, with_locals}
+use Rattle.plan_text.specs.Collecting.{arguments_in_environment, environment_inside, local_value, with_locals}
 use Rattle.plan_text.specs.Printed.{printed_arguments, printed_members, printed_pair, printed_value, printed_values}
 use Rattle.gql_ast.specs.declared.directive.Directive.{Directive}
 use Rattle.gql_graph.specs.Rules.{each}
@@ -62,6 +62,7 @@ new_pairs-swap a b v w greater (e ∷ es) = at (new_pairs-swap a b v w greater e
   where
     less : order a b ≡ Less
     less = turned b a Greater greater
+
     at : with_new_pair a v (with_new_pair b w es) ≡ with_new_pair b w (with_new_pair a v es)
         → (o : Ordering) → order a e.0 ≡ o → (q : Ordering) → order b e.0 ≡ q
         → with_new_pair a v (with_new_pair b w (e ∷ es)) ≡ with_new_pair b w (with_new_pair a v (e ∷ es))
@@ -169,7 +170,7 @@ module _ (own env : Values) (scope : Scope) (means : Means own scope env) where
       at rest true = refl
       at rest false = rest
 
-  value_or-given : (given default : Option Val) → evaluated own (value_or (option_map (substitute scope) given) default) ≡ given_or own env given default
+  value_or-given : (given default : Option Val) → evaluated own (value_or (option_map (substitute scope) given) default) ≡ local_value own env given default
   value_or-given (Some v) d = value-substituted v
   value_or-given None (Some d) = refl
   value_or-given None None = refl
@@ -184,6 +185,7 @@ found-with_pair n x (p ∷ ps) m = at (found-with_pair n x ps m) (order n p.0) r
         → cond (bytes_eq n m) (Some x) (member_at ps m) ≡ cond (bytes_eq n m) (Some x) (cond b (Some p.1) (member_at ps m))
     behind_equal false f e = refl
     behind_equal true f e = let here : bytes_eq n m ≡ true = ap (λ k. bytes_eq k m) e ∙ f in rw here refl
+
     apart : (b c : Bool) → bytes_eq p.0 m ≡ b → bytes_eq n m ≡ c → order n p.0 ≡ Greater
         → cond b (Some p.1) (cond c (Some x) (member_at ps m)) ≡ cond c (Some x) (cond b (Some p.1) (member_at ps m))
     apart false c f g e = refl
@@ -193,6 +195,7 @@ found-with_pair n x (p ∷ ps) m = at (found-with_pair n x ps m) (order n p.0) r
         let second : n ≡ m = (bytes_eq-Decides n m).0 g in
         let tied : order n p.0 ≡ Equal = ap (λ k. order k p.0) (second ∙ sym first) ∙ tied_itself nat_list_cmp_total p.0 in
         cc
+
     at : member_at (with_pair n x ps) m ≡ cond (bytes_eq n m) (Some x) (member_at ps m) → (o : Ordering) → order n p.0 ≡ o
         → member_at (match_ordering o ((n, x) ∷ p ∷ ps) ((n, x) ∷ ps) (p ∷ with_pair n x ps)) m
         ≡ cond (bytes_eq n m) (Some x) (cond (bytes_eq p.0 m) (Some p.1) (member_at ps m))
@@ -207,16 +210,16 @@ module _ (own around : Values) (scope : Scope) (means : Means own scope around) 
   locals_mean [] n = refl
   locals_mean (l ∷ ls) n =
       at (locals_mean ls n) (bytes_eq l.name n) refl
-      ∙ sym (ap or_null (found-with_pair l.name (given_or own around (argument_named given l.name) l.default) (with_locals own around given ls) n))
+      ∙ sym (ap or_null (found-with_pair l.name (local_value own around (argument_named given l.name) l.default) (with_locals own around given ls) n))
     where
       at : evaluated own (value_of_local (substitute_in scope given) n (default_named ls n)) ≡ value_in (with_locals own around given ls) n
           → (b : Bool) → bytes_eq l.name n ≡ b
           → evaluated own (value_of_local (substitute_in scope given) n (cond b (Some l.default) (default_named ls n)))
-          ≡ or_null (cond b (Some (given_or own around (argument_named given l.name) l.default)) (member_at (with_locals own around given ls) n))
+          ≡ or_null (cond b (Some (local_value own around (argument_named given l.name) l.default)) (member_at (with_locals own around given ls) n))
       at rest true e =
           ap (λ (v : Option Val). evaluated own (value_or v l.default)) (argument_named-substituted own around scope means given n)
           ∙ value_or-given own around scope means (argument_named given n) l.default
-          ∙ ap (λ k. given_or own around (argument_named given k) l.default) (sym ((bytes_eq-Decides l.name n).0 e))
+          ∙ ap (λ k. local_value own around (argument_named given k) l.default) (sym ((bytes_eq-Decides l.name n).0 e))
       at rest false e = rest
 
 -- the scope of a fragment that is spread says what the environment inside it says

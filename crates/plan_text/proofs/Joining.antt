@@ -4,27 +4,27 @@ use Rattle.plan_ir.specs.OperationText.{enclose, join_texts}
 use Rattle.schema_tables.specs.Types.{Text}
 
 -- what is left to write, behind other texts or at the beginning
-abbrev pub joined_from : (begun : Bool) → (between : ℕ) → List Text → Text
-joined_from b c [] = []
-joined_from b c (t ∷ ts) = cond b (c ∷ []) [] ++ (t ++ joined_from true c ts)
+abbrev pub join_from : (begun : Bool) → (between : ℕ) → List Text → Text
+join_from b c [] = []
+join_from b c (t ∷ ts) = cond b (c ∷ []) [] ++ (t ++ join_from true c ts)
 
-pub joined_from-join_texts : (c : ℕ) (ts : List Text) → joined_from false c ts ≡ join_texts c ts
-joined_from-join_texts c [] = refl
-joined_from-join_texts c (t ∷ []) = append-nil t
-joined_from-join_texts c (t ∷ u ∷ more) = ap (λ z. t ++ c ∷ z) (joined_from-join_texts c (u ∷ more))
+pub join_from-join_texts : (c : ℕ) (ts : List Text) → join_from false c ts ≡ join_texts c ts
+join_from-join_texts c [] = refl
+join_from-join_texts c (t ∷ []) = append-nil t
+join_from-join_texts c (t ∷ u ∷ more) = ap (λ z. t ++ c ∷ z) (join_from-join_texts c (u ∷ more))
 
 -- one more text is written
 pub one_more : (b : Bool) (c : ℕ) (out between new t : Text) (ts : List Text) (whole : Text)
-    → between ≡ out ++ cond b (c ∷ []) [] → new ≡ between ++ t → out ++ joined_from b c (t ∷ ts) ≡ whole → new ++ joined_from true c ts ≡ whole
+    → between ≡ out ++ cond b (c ∷ []) [] → new ≡ between ++ t → out ++ join_from b c (t ∷ ts) ≡ whole → new ++ join_from true c ts ≡ whole
 one_more b c out between new t ts whole e f h =
     let s : Text = cond b (c ∷ []) [] in
-    let r : Text = joined_from true c ts in
+    let r : Text = join_from true c ts in
     ap (λ z. z ++ r) (f ∙ ap (λ z. z ++ t) e) ∙ append_assoc (out ++ s) t r ∙ append_assoc out s (t ++ r) ∙ h
 
 -- nothing is left to write
-pub all_written : (b : Bool) (c : ℕ) (old out : Text) (left texts : List Text) → left ≡ [] → out ++ joined_from b c left ≡ old ++ joined_from false c texts → out ≡ old ++ join_texts c texts
+pub all_written : (b : Bool) (c : ℕ) (old out : Text) (left texts : List Text) → left ≡ [] → out ++ join_from b c left ≡ old ++ join_from false c texts → out ≡ old ++ join_texts c texts
 all_written b c old out left texts none h =
-    sym (append-nil out) ∙ ap (λ ts. out ++ joined_from b c ts) (sym none) ∙ h ∙ ap (λ z. old ++ z) (joined_from-join_texts c texts)
+    sym (append-nil out) ∙ ap (λ ts. out ++ join_from b c ts) (sym none) ∙ h ∙ ap (λ z. old ++ z) (join_from-join_texts c texts)
 
 -- what stands between two bytes
 pub enclosed_written : (o c e : ℕ) (old opened out closed : Text) (texts : List Text)

@@ -25,8 +25,8 @@ use Rattle.plan_ir.specs.declared.expanded.Expanded.{Expanded}
 use Rattle.plan_text.proofs.ReadBack.{comma_read, space_read, spread_read}
 use Rattle.plan_text.proofs.Spelling.{IsFree, Opens, Reads, at_sign_stands, bang_stands, behind_reads, chain, close_brace_stands, close_bracket_stands, close_paren_stands, colon_stands, dollar_stands, enclosed_reads, equals_stands, joined_reads, name_reads, nothing_left, nothing_reads, open_brace_stands, open_bracket_stands, open_paren_stands, then_reads}
 use Rattle.plan_text.proofs.ValuesRead.{arguments_open, arguments_read, mark, value_reads}
-use Rattle.plan_text.specs.Documents.{FormedExpanded, FormedNodes, SomeNode, SpellsPrinted, written}
-use Rattle.plan_text.specs.Printed.{alias_of, printed, printed_arguments, printed_default, printed_directives, printed_selections, printed_value, printed_variable}
+use Rattle.plan_text.specs.Documents.{FormedExpanded, FormedNodes, SomeNode, SpellsPrinted, document_parts}
+use Rattle.plan_text.specs.Printed.{alias_of, printed_operation, printed_arguments, printed_default, printed_directives, printed_selections, printed_value, printed_variable}
 use Rattle.schema_tables.specs.Types.{Text}
 
 -- ---- directives
@@ -189,4 +189,4 @@ spells_printed e h =
     ap tokens_of (sym (append-nil (kind ++ 32 ∷ rest)))
     ∙ then_reads kind (32 ∷ rest) (λ ts. tok.name kind ∷ ts) _ (name_reads kind (kind_is_name (unwrap_or e.kind Query)))
     (λ r free. space_read (rest ++ r) ∙ whole r free) (λ r free. refl) [] refl
-    ∙ ap (option_map (λ ts. spell_operation mark 1 (printed e) ts)) nothing_left
+    ∙ ap (option_map (λ ts. spell_operation mark 1 (printed_operation e) ts)) nothing_left

@@ -20,7 +20,7 @@ use Rattle.plan_text.proofs.OperationRead.{all-filter, spells_printed}
 use Rattle.plan_text.proofs.ValuesRead.{all-by_name}
 use Rattle.plan_text.specs.Documents as document
 use Rattle.plan_text.specs.Documents.{FormedExpanded, FormedNodes, IsOneDocument, SomeNode}
-use Rattle.plan_text.specs.Printed.{alias_of, printed, printed_arguments, printed_default, printed_directive, printed_directives, printed_members, printed_pair, printed_selections, printed_value, printed_values, printed_variable}
+use Rattle.plan_text.specs.Printed.{alias_of, printed_operation, printed_arguments, printed_default, printed_directive, printed_directives, printed_members, printed_pair, printed_selections, printed_value, printed_values, printed_variable}
 use Rattle.schema_tables.specs.Types.{Text}
 
 -- ---- values
@@ -93,7 +93,7 @@ selections_formed (inline o ds s p rest) h =
 
 -- ---- the operation
 
-operation_formed : (e : Expanded) → FormedExpanded e → FormedDefinition (D.Operation (printed e))
+operation_formed : (e : Expanded) → FormedExpanded e → FormedDefinition (D.Operation (printed_operation e))
 operation_formed e h = (
   h.name,
   variables_formed (used_variables e) (all-filter FormedVariable _ e.variables h.variables),
@@ -103,7 +103,7 @@ operation_formed e h = (
 
 pub is_one_document : IsOneDocument
 is_one_document file e h utf8 shallow = record {
-  written = document.written e;
+  written = document.document_parts e;
   tree = record { utf8 = utf8; tokens = spells_printed e h; formed = (tt, (operation_formed e h, tt)); shallow = shallow; places = refl };
   definitions = refl;
 }

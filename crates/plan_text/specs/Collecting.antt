@@ -15,7 +15,7 @@ use Rattle.plan_ir.specs.Additions.{additions, type_or}
 use Rattle.plan_ir.specs.Expansion.{Project, response_key, spreads_in, whole_operation}
 use Rattle.plan_ir.specs.Locals.{Local, argument_named, connection_of, locals_of}
 use Rattle.plan_ir.specs.Substitution.{Arguments, arguments_in}
-use Rattle.plan_text.specs.Printed.{printed, printed_selections}
+use Rattle.plan_text.specs.Printed.{printed_operation, printed_selections}
 use Rattle.schema_tables.specs.Types.{Text, Defs, base_of, possible, root}
 use Rattle.schema_types.specs.Environments.{Values, evaluated, pairs_evaluated, value_in, with_pair}
 use Rattle.schema_types.specs.NameRules.{fragment_named}
@@ -24,14 +24,14 @@ use Rattle.schema_types.specs.Sites.{FragmentAt, OperationAt, below, condition_o
 -- ---- the source with its additions
 
 -- the fields that are added to the set of a field, as selections
-abbrev pub added : Defs → (around : Option Text) → (name : Text) → List Directive → Sels → FilePlace → Sels
-added defs around n ds s place = printed_selections (additions defs (is_some (connection_of ds)) (base_of (type_or (field_type defs around n))) s place)
+abbrev pub field_additions : Defs → (around : Option Text) → (name : Text) → List Directive → Sels → FilePlace → Sels
+field_additions defs around n ds s place = printed_selections (additions defs (is_some (connection_of ds)) (base_of (type_or (field_type defs around n))) s place)
 
 -- the selections of a set with the type around it: to the set of each field its additions at the end
 abbrev pub with_additions : Defs → FilePlace → (around : Option Text) → Sels → Sels
 with_additions defs place around sels.end = sels.end
 with_additions defs place around (sels.field a n xs ds s rest) =
-    sels.field a n xs ds (sels_append (with_additions defs place (below defs around n) s) (added defs around n ds s place)) (with_additions defs place around rest)
+    sels.field a n xs ds (sels_append (with_additions defs place (below defs around n) s) (field_additions defs around n ds s place)) (with_additions defs place around rest)
 with_additions defs place around (sels.spread n ds rest) = sels.spread n ds (with_additions defs place around rest)
 with_additions defs place around (sels.inline o ds s rest) =
     sels.inline o ds (with_additions defs place (condition_or around o) s) (with_additions defs place around rest)
@@ -39,16 +39,16 @@ with_additions defs place around (sels.inline o ds s rest) =
 -- ---- environments inside fragments
 
 -- the value that is given, under the environment around the spread, else the default, else null
-abbrev pub given_or : (own around : Values) → (given default : Option Val) → Tree
-given_or own around (Some v) d = evaluated around v
-given_or own around None (Some d) = evaluated own d
-given_or own around None None = t.null
+abbrev pub local_value : (own around : Values) → (given default : Option Val) → Tree
+local_value own around (Some v) d = evaluated around v
+local_value own around None (Some d) = evaluated own d
+local_value own around None None = t.null
 
 -- each local variable has its value; all other names are the operation's own
 abbrev pub with_locals : (own around : Values) → (given : Arguments) → List Local → Values
 with_locals own around given [] = own
 with_locals own around given (l ∷ ls) =
-    with_pair l.name (given_or own around (argument_named given l.name) l.default) (with_locals own around given ls)
+    with_pair l.name (local_value own around (argument_named given l.name) l.default) (with_locals own around given ls)
 
 abbrev pub environment_inside : (own around : Values) → List Directive → FragmentAt → Values
 environment_inside own around ds f = with_locals own around (each arguments_in ds) (locals_of f)
@@ -158,13 +158,13 @@ with_field [] a = record { first = a; others = [] } ∷ []
 with_field (g ∷ groups) a =
     cond (bytes_eq g.first.response a.response) (record { first = g.first; others = g.others ++ a ∷ [] } ∷ groups) (g ∷ with_field groups a)
 
-abbrev pub grouped_onto : List Group → List Field → List Group
-grouped_onto groups [] = groups
-grouped_onto groups (a ∷ fields) = grouped_onto (with_field groups a) fields
+abbrev pub group_onto : List Group → List Field → List Group
+group_onto groups [] = groups
+group_onto groups (a ∷ fields) = group_onto (with_field groups a) fields
 
 -- the groups of parts on an object type, in order of first response key
 abbrev pub groups_at : Around → (object : Text) → List Part → List Group
-groups_at w T fs = grouped_onto [] (collect_parts w T fs)
+groups_at w T fs = group_onto [] (collect_parts w T fs)
 
 -- ---- the same groups
 
@@ -173,7 +173,7 @@ pub record SameField (a b : Field) : Type 0 where
   pub name : a.name ≡ b.name
   pub arguments : a.arguments ≡ b.arguments
 
--- the same fields in the same order; what stands below them is related, all join_texts
+-- the same fields in the same order; what stands below them is related, all joined
 pub record SameGroup (r : List Part → List Part → Type 0) (g h : Group) : Type 0 where
   pub fields : AllZip SameField (members g) (members h)
   pub below : r (parts g) (parts h)
@@ -195,7 +195,7 @@ source_part w o = record {
 
 -- the operation that its text is; no spread is left
 abbrev pub printed_part : Around → OperationAt → Part
-printed_part w o = record { spreads = zero; environment = w.own; selections = (printed (whole_operation w.project o).expanded).selections }
+printed_part w o = record { spreads = zero; environment = w.own; selections = (printed_operation (whole_operation w.project o).expanded).selections }
 
 -- under each environment and on each object type, the operation that the text is and the source operation with its additions
 -- collect the same groups in the same order, all the way down

@@ -16,7 +16,7 @@ use Rattle.gql_syntax.specs.Words.{IsName}
 use Rattle.plan_ir.specs.Nodes.{Nodes, end, field, inline}
 use Rattle.plan_ir.specs.OperationText.{operation_text}
 use Rattle.plan_ir.specs.declared.expanded.Expanded.{Expanded}
-use Rattle.plan_text.specs.Printed.{printed}
+use Rattle.plan_text.specs.Printed.{printed_operation}
 
 abbrev pub SomeNode : Nodes → Type 0
 SomeNode end = ⊥
@@ -39,22 +39,22 @@ pub record FormedExpanded (e : Expanded) : Type 0 where
   pub selections : FormedNodes e.selections
 
 -- the document of the printed operation alone
-abbrev pub written : Expanded → List Written
-written e = full (D.Operation (printed e)) ∷ []
+abbrev pub document_parts : Expanded → List Written
+document_parts e = full (D.Operation (printed_operation e)) ∷ []
 
 -- the text of an expanded operation is the spelling of the printed operation: a document of one operation, of the same
 -- kind and name
 abbrev pub SpellsPrinted : Type 0
-SpellsPrinted = (e : Expanded) → FormedExpanded e → tokens_of (operation_text e) ≡ Some (documents.tokens (written e))
+SpellsPrinted = (e : Expanded) → FormedExpanded e → tokens_of (operation_text e) ≡ Some (documents.tokens (document_parts e))
 
 -- the document that the text is, with the places of its nodes
 abbrev pub document_of : (file : ℕ) → Expanded → Placed Document
 document_of file e = record {
-  tree = record { definitions = D.Operation (printed e) ∷ [] };
-  places = place_nodes file (operation_text e) [] (nodes_of (written e)) (lex_from 0 (operation_text e));
+  tree = record { definitions = D.Operation (printed_operation e) ∷ [] };
+  places = place_nodes file (operation_text e) [] (nodes_of (document_parts e)) (lex_from 0 (operation_text e));
 }
 
 -- the text is this document, where it is a text and its sets and values nest as deep as may be read
 abbrev pub IsOneDocument : Type 0
-IsOneDocument = (file : ℕ) (e : Expanded) → FormedExpanded e → IsUtf8 (operation_text e) → Shallow nesting_limit (documents.levels (written e))
+IsOneDocument = (file : ℕ) (e : Expanded) → FormedExpanded e → IsUtf8 (operation_text e) → Shallow nesting_limit (documents.levels (document_parts e))
     → IsDocument file (operation_text e) (document_of file e)

@@ -67,8 +67,8 @@ abbrev pub printed_variable : VariableDef → VariableDef
 printed_variable v =
     record { name = v.name; of = v.of; default = printed_default v.default; directives = printed_directives v.directives }
 
-abbrev pub printed : Expanded → Operation
-printed e = record {
+abbrev pub printed_operation : Expanded → Operation
+printed_operation e = record {
   kind = unwrap_or e.kind Query;
   name = Some e.name;
   variables = map printed_variable (used_variables e);

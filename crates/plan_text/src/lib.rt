@@ -18,6 +18,3 @@ mod variables;
 
 pub use artifact::{Artifact, artifact_line};
 pub use operation::operation_text;
-
-#[cfg(test)]
-mod tests;

@@ -3,7 +3,7 @@ use Rattle.std.proofs.Common.{◌≡◌, ◌+◌, ◌*◌, ◌++◌, false, map,
 use Rattle.gql_ast.specs.Value.{members_depth, members_of, val_depth, vals_depth, vals_of}
 use Rattle.gql_ast.specs.ValueView.{value_of}
 use Rattle.plan_ir.specs.OperationText.{by_name, value_texts}
-use Rattle.plan_text.proofs.Joining.{joined_from}
+use Rattle.plan_text.proofs.Joining.{join_from}
 use Rattle.plan_text.proofs.values.+values.Given as goal
 use Rattle.plan_text.specs.Pairs.{pair_of, pair_text}
 
@@ -19,11 +19,11 @@ decreases-write_pairs l = 2 * members_depth (members_of l.arguments.now) + 1
 abbrev pub invariant-write_values-items : goal.invariant-write_values-items
 invariant-write_values-items l =
     (map value_of l.value-items ≡ l.values)
-    × (string_bytes l.out ++ joined_from l.begun 44 (value_texts (vals_of (map value_of (drop l.value-index l.value-items))))
-    ≡ string_bytes l.initial.out ++ joined_from false 44 (value_texts (vals_of l.values)))
+    × (string_bytes l.out ++ join_from l.begun 44 (value_texts (vals_of (map value_of (drop l.value-index l.value-items))))
+    ≡ string_bytes l.initial.out ++ join_from false 44 (value_texts (vals_of l.values)))
 
 abbrev pub invariant-write_pairs-pairs : goal.invariant-write_pairs-pairs
 invariant-write_pairs-pairs l =
     (map pair_of l.pair-items ≡ by_name l.fn.arguments)
-    × (string_bytes l.out ++ joined_from l.begun 44 (map pair_text (drop l.pair-index l.pair-items))
-    ≡ string_bytes l.initial.out ++ joined_from false 44 (map pair_text l.pair-items))
+    × (string_bytes l.out ++ join_from l.begun 44 (map pair_text (drop l.pair-index l.pair-items))
+    ≡ string_bytes l.initial.out ++ join_from false 44 (map pair_text l.pair-items))

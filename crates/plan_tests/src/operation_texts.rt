@@ -4,11 +4,11 @@
 //! selections.
 ghost use Rattle.std.specs.Prelude.{◌<◌, length};
 
-use crate::{Artifact, artifact_line, operation_text};
 use gql_ast::{Definition, FilePlace, Kind, Operation, Selection, Selections, TypeTree};
 use gql_parse::parse_document;
 use gql_plain::{Name, Words};
 use plan_ir::{Expanded, Node, Nodes};
+use plan_text::{Artifact, artifact_line, operation_text};
 use std::alloc::Global;
 use std::test::Fail;
 
@@ -28,7 +28,8 @@ query B($x:Int=-0@d(z:"/"),$y:Int,$z:[[Int!]]!){a(p:{q:[{r:$z}]},n:-0)@e(i:$x)} 
 query C($x:Int,$y:Int)@d(a:$y){...@skip(if:true){a}} => query C($y:Int)@d(a:$y){...@skip(if:true){a}}"#;
 
 /// Texts of operations: each is its own text.
-const TEXTS: &str = r#"query Q0($x6:In!={sub:[2147483647,true]}){viewer{text@cache(on:"")@cache(on:3,z:$x6) ...on Either{__typename}}}
+const TEXTS: &str =
+    r#"query Q0($x6:In!={sub:[2147483647,true]}){viewer{text@cache(on:"")@cache(on:3,z:$x6) ...on Either{__typename}}}
 query Q2($b2:Boolean=true,$count:Int=2){...{k7:me@include(if:$b2){__typename ...on Item{id} ...on Page{id}}} search(id:-1,on:"\u001f",where:true){k8:feed(first:$count){edges{node{age title ...on Named{input input} ...on Named{input input} id} cursor} edges{cursor node{id}} pageInfo{endCursor hasNextPage hasPreviousPage startCursor id}} friend@include(if:$b2){__typename id} id}}
 subscription Op0($b1:Boolean!,$b2:Boolean=true){k3:tick@skip(if:$b1)@include(if:$b2){...on A1{flag@include(if:true)@skip(if:true)} flag items{...on A1@skip(if:true)@include(if:$b1){flag@include(if:$b1)@skip(if:$b1)} id} id title}}
 subscription Q0{y:changed{tags(by:-2147483648,size:[3]){__typename} ...on union{__typename}}}
