@@ -30,4 +30,4 @@ note_value-returns-in_ok-insert-in-Variable t c = λ n.
 pub note_value-returns-in-Object : goal.note_value-returns-in-Object
 note_value-returns-in-Object t c = λ n.
     subst (λ (b : Bool). OnOk c.note_arguments.result (has_name c.note_arguments.new.names n ≡ (has_name c.args.names.now n || b)))
-    (sym (members_use-arguments n _) ∙ ap (λ (v : ValueTree). value_uses n (value_of v)) (sym c.in-Object.is)) (c.note_arguments.ensures n)
+    (sym (members_use-arguments n c.in-Object.fields) ∙ ap (λ (v : ValueTree). value_uses n (value_of v)) (sym c.in-Object.is)) (c.note_arguments.ensures n)
