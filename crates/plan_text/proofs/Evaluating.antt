@@ -19,7 +19,7 @@ use Rattle.plan_text.specs.Printed.{printed_arguments, printed_members, printed_
 use Rattle.gql_ast.specs.declared.directive.Directive.{Directive}
 use Rattle.gql_graph.specs.Rules.{each}
 use Rattle.schema_tables.specs.Types.{Text}
-use Rattle.schema_types.specs.Environments.{Values, evaluated, items_evaluated, or_null, pairs_evaluated, value_in, with_new_pair, with_pair}
+use Rattle.schema_types.specs.Environments.{Values, evaluation, items_evaluated, or_null, pairs_evaluated, value_in, with_new_pair, with_pair}
 use Rattle.schema_types.specs.Sites.{FragmentAt}
 
 -- ---- names in order
@@ -88,28 +88,28 @@ new_pairs-swap a b v w greater (e ∷ es) = at (new_pairs-swap a b v w greater e
 
 -- names and values in byte order evaluate to the same pairs
 pairs-with_member : (env : Values) (x : Text × Val) (ps : Arguments)
-    → pairs_evaluated env (members_of (with_member x ps)) ≡ with_new_pair x.0 (evaluated env x.1) (pairs_evaluated env (members_of ps))
+    → pairs_evaluated env (members_of (with_member x ps)) ≡ with_new_pair x.0 (evaluation env x.1) (pairs_evaluated env (members_of ps))
 pairs-with_member env x [] = refl
 pairs-with_member env x (p ∷ ps) = at (pairs-with_member env x ps) (order x.0 p.0) refl
   where
-    at : pairs_evaluated env (members_of (with_member x ps)) ≡ with_new_pair x.0 (evaluated env x.1) (pairs_evaluated env (members_of ps))
+    at : pairs_evaluated env (members_of (with_member x ps)) ≡ with_new_pair x.0 (evaluation env x.1) (pairs_evaluated env (members_of ps))
         → (o : Ordering) → order x.0 p.0 ≡ o
         → pairs_evaluated env (members_of (match_ordering o (x ∷ p ∷ ps) (x ∷ p ∷ ps) (p ∷ with_member x ps)))
-        ≡ with_new_pair x.0 (evaluated env x.1) (with_new_pair p.0 (evaluated env p.1) (pairs_evaluated env (members_of ps)))
+        ≡ with_new_pair x.0 (evaluation env x.1) (with_new_pair p.0 (evaluation env p.1) (pairs_evaluated env (members_of ps)))
     at rest Less e = refl
     at rest Equal e = refl
     at rest Greater e =
-        ap (with_new_pair p.0 (evaluated env p.1)) rest
-        ∙ new_pairs-swap p.0 x.0 (evaluated env p.1) (evaluated env x.1) e (pairs_evaluated env (members_of ps))
+        ap (with_new_pair p.0 (evaluation env p.1)) rest
+        ∙ new_pairs-swap p.0 x.0 (evaluation env p.1) (evaluation env x.1) e (pairs_evaluated env (members_of ps))
 
 pairs-by_name : (env : Values) (xs : Arguments) → pairs_evaluated env (members_of (by_name xs)) ≡ pairs_evaluated env (members_of xs)
 pairs-by_name env [] = refl
-pairs-by_name env (x ∷ xs) = pairs-with_member env x (by_name xs) ∙ ap (with_new_pair x.0 (evaluated env x.1)) (pairs-by_name env xs)
+pairs-by_name env (x ∷ xs) = pairs-with_member env x (by_name xs) ∙ ap (with_new_pair x.0 (evaluation env x.1)) (pairs-by_name env xs)
 
 -- ---- printed values
 
 mutual
-  value-printed : (env : Values) (v : Val) → evaluated env (printed_value v) ≡ evaluated env v
+  value-printed : (env : Values) (v : Val) → evaluation env (printed_value v) ≡ evaluation env v
   value-printed env (variable n) = refl
   value-printed env (int z) = refl
   value-printed env (text s) = refl
@@ -131,11 +131,11 @@ mutual
 
 -- a scope says under the operation's environment what this environment says
 abbrev pub Means : (own : Values) → Scope → (env : Values) → Type 0
-Means own scope env = (n : Text) → evaluated own (scope n) ≡ value_in env n
+Means own scope env = (n : Text) → evaluation own (scope n) ≡ value_in env n
 
 module _ (own env : Values) (scope : Scope) (means : Means own scope env) where
   mutual
-    pub value-substituted : (v : Val) → evaluated own (substitute scope v) ≡ evaluated env v
+    pub value-substituted : (v : Val) → evaluation own (substitute scope v) ≡ evaluation env v
     value-substituted (variable n) = means n
     value-substituted (int z) = refl
     value-substituted (text s) = refl
@@ -170,7 +170,7 @@ module _ (own env : Values) (scope : Scope) (means : Means own scope env) where
       at rest true = refl
       at rest false = rest
 
-  value_or-given : (given default : Option Val) → evaluated own (value_or (option_map (substitute scope) given) default) ≡ local_value own env given default
+  value_or-given : (given default : Option Val) → evaluation own (value_or (option_map (substitute scope) given) default) ≡ local_value own env given default
   value_or-given (Some v) d = value-substituted v
   value_or-given None (Some d) = refl
   value_or-given None None = refl
@@ -206,18 +206,18 @@ found-with_pair n x (p ∷ ps) m = at (found-with_pair n x ps m) (order n p.0) r
 -- ---- inside a fragment
 
 module _ (own around : Values) (scope : Scope) (means : Means own scope around) (given : Arguments) where
-  locals_mean : (ls : List Local) (n : Text) → evaluated own (value_of_local (substitute_in scope given) n (default_named ls n)) ≡ value_in (with_locals own around given ls) n
+  locals_mean : (ls : List Local) (n : Text) → evaluation own (value_of_local (substitute_in scope given) n (default_named ls n)) ≡ value_in (with_locals own around given ls) n
   locals_mean [] n = refl
   locals_mean (l ∷ ls) n =
       at (locals_mean ls n) (bytes_eq l.name n) refl
       ∙ sym (ap or_null (found-with_pair l.name (local_value own around (argument_named given l.name) l.default) (with_locals own around given ls) n))
     where
-      at : evaluated own (value_of_local (substitute_in scope given) n (default_named ls n)) ≡ value_in (with_locals own around given ls) n
+      at : evaluation own (value_of_local (substitute_in scope given) n (default_named ls n)) ≡ value_in (with_locals own around given ls) n
           → (b : Bool) → bytes_eq l.name n ≡ b
-          → evaluated own (value_of_local (substitute_in scope given) n (cond b (Some l.default) (default_named ls n)))
+          → evaluation own (value_of_local (substitute_in scope given) n (cond b (Some l.default) (default_named ls n)))
           ≡ or_null (cond b (Some (local_value own around (argument_named given l.name) l.default)) (member_at (with_locals own around given ls) n))
       at rest true e =
-          ap (λ (v : Option Val). evaluated own (value_or v l.default)) (argument_named-substituted own around scope means given n)
+          ap (λ (v : Option Val). evaluation own (value_or v l.default)) (argument_named-substituted own around scope means given n)
           ∙ value_or-given own around scope means (argument_named given n) l.default
           ∙ ap (λ k. local_value own around (argument_named given k) l.default) (sym ((bytes_eq-Decides l.name n).0 e))
       at rest false e = rest

@@ -17,7 +17,7 @@ use Rattle.plan_ir.specs.Locals.{Local, argument_named, connection_of, locals_of
 use Rattle.plan_ir.specs.Substitution.{Arguments, arguments_in}
 use Rattle.plan_text.specs.Printed.{printed_operation, printed_selections}
 use Rattle.schema_tables.specs.Types.{Text, Defs, base_of, possible, root}
-use Rattle.schema_types.specs.Environments.{Values, evaluated, pairs_evaluated, value_in, with_pair}
+use Rattle.schema_types.specs.Environments.{Values, evaluation, pairs_evaluated, value_in, with_pair}
 use Rattle.schema_types.specs.NameRules.{fragment_named}
 use Rattle.schema_types.specs.Sites.{FragmentAt, OperationAt, below, condition_or, field_type}
 
@@ -40,8 +40,8 @@ with_additions defs place around (sels.inline o ds s rest) =
 
 -- the value that is given, under the environment around the spread, else the default, else null
 abbrev pub local_value : (own around : Values) → (given default : Option Val) → Tree
-local_value own around (Some v) d = evaluated around v
-local_value own around None (Some d) = evaluated own d
+local_value own around (Some v) d = evaluation around v
+local_value own around None (Some d) = evaluation own d
 local_value own around None None = t.null
 
 -- each local variable has its value; all other names are the operation's own
