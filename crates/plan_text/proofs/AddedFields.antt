@@ -1,5 +1,5 @@
 -- The fields that are added have no arguments and no directives, and are the same whatever place they get.
-use Rattle.std.proofs.Common.{◌≡◌, Bool, true, false, cond, not, ◌&&◌, List, [], ◌∷◌, codes, Option, Some, None, refl, sym, ap, subst, ◌∙◌}
+use Rattle.std.proofs.Common.{◌≡◌, Bool, true, false, cond, not, ◌&&◌, List, [], ◌∷◌, codes, Some, refl, sym, ap, subst, ◌∙◌}
 use Rattle.gql_ast.specs.Sels as sels
 use Rattle.gql_ast.specs.Sels.{Sels, sels_append}
 use Rattle.gql_ast.specs.Ty.{Ty}

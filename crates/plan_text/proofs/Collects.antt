@@ -2,7 +2,7 @@
 use Rattle.std.proofs.Common.{◌≡◌, ℕ, zero, suc, ◌+◌, Bool, true, false, cond, not, ◌&&◌, ◌||◌, List, [], ◌∷◌, ◌++◌, map, codes, Option, Some, None, bytes_eq, refl, sym, ap, subst, ◌∙◌, append_assoc, ◌⊎◌, inl, inr}
 use Rattle.std.specs.Prelude.{is_some}
 use Rattle.std.proofs.lemmas.Slice.Eq.{bytes_eq-Decides}
-use Rattle.std.specs.List.{AllZip, filter, list_any}
+use Rattle.std.specs.List.{AllZip, filter}
 use Rattle.gql_ast.specs.Sels as sels
 use Rattle.gql_ast.specs.Sels.{Sels, sels_append}
 use Rattle.gql_ast.specs.declared.directive.Directive.{Directive}
@@ -11,7 +11,7 @@ use Rattle.plan_ir.specs.Expansion as expansions
 use Rattle.plan_ir.specs.Expansion.{directives_such, enter_with, expansion, expansion_with, is_condition, is_printed, operation_from, printed_conditions, response_key, selections_from, spreads_in}
 use Rattle.plan_ir.specs.Locals.{connection_of}
 use Rattle.plan_ir.specs.Nodes.{Nodes, end, field, inline, nodes_append}
-use Rattle.plan_ir.specs.Substitution.{Arguments, Scope, operation_scope, scope_at_spread, substitute_in}
+use Rattle.plan_ir.specs.Substitution.{Scope, operation_scope, scope_at_spread, substitute_in}
 use Rattle.plan_text.proofs.AddedFields.{Added, IsBare, all_added, nothing_added, printed-append}
 use Rattle.plan_text.proofs.Evaluating.{Means, arguments-printed, means_inside}
 use Rattle.plan_text.specs.Collecting.{Around, CollectTheSame, Field, Group, Part, SameField, SameGroup, TextCollectsTheSame, applies, arguments_in_environment, collect, collect_inside, collect_part, collect_parts, collect_with, environment_inside, field_of, fragment_selections, group_onto, groups_at, is_left_out, is_true, leaves_out, members, parts, with_additions, with_field}

@@ -1,5 +1,5 @@
 -- A value whose local variables gave way, printed with its fields in order, evaluates to what the value as it is written does.
-use Rattle.std.proofs.Common.{◌≡◌, Bool, true, false, cond, List, [], ◌∷◌, map, Option, Some, None, option_map, Ordering, Less, Equal, Greater, nat_cmp, is_eq, bytes_eq, refl, sym, ap, subst, ◌∙◌}
+use Rattle.std.proofs.Common.{◌≡◌, Bool, true, false, cond, List, [], ◌∷◌, map, Option, Some, None, option_map, Ordering, Less, Equal, Greater, nat_cmp, is_eq, bytes_eq, refl, sym, ap, ◌∙◌}
 use Rattle.std.proofs.lemmas.Cmp.{tied_itself}
 use Rattle.std.proofs.lemmas.List.Sorted.{ranks_by}
 use Rattle.std.proofs.lemmas.Map.Text.{is_eq-slice_cmp}
@@ -13,7 +13,7 @@ use Rattle.gql_plain.specs.Tree as t
 use Rattle.gql_plain.specs.Tree.{Tree}
 use Rattle.plan_ir.specs.Locals.{Local, argument_named, locals_of}
 use Rattle.plan_ir.specs.OperationText.{by_name, with_member}
-use Rattle.plan_ir.specs.Substitution.{Arguments, Scope, arguments_at_spread, arguments_in, default_named, scope_at_spread, substitute, substitute_in, substitute_items, substitute_members, value_of_local, value_or}
+use Rattle.plan_ir.specs.Substitution.{Arguments, Scope, arguments_in, default_named, scope_at_spread, substitute, substitute_in, substitute_items, substitute_members, value_of_local, value_or}
 use Rattle.plan_text.specs.Collecting.{arguments_in_environment, environment_inside, local_value, with_locals}
 use Rattle.plan_text.specs.Printed.{printed_arguments, printed_members, printed_pair, printed_value, printed_values}
 use Rattle.gql_ast.specs.declared.directive.Directive.{Directive}

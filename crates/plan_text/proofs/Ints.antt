@@ -1,5 +1,5 @@
 -- Whole numbers are read back.
-use Rattle.std.proofs.Common.{◌≡◌, ℕ, zero, suc, ◌+◌, ◌-◌, ◌<◌, ◌≤◌, ◌^◌, Bool, true, false, cond, ◌&&◌, ◌||◌, ◌==◌, List, [], ◌∷◌, ◌++◌, length, take, drop, get_or, Option, Some, None, option_map, Result, Ok, Err, refl, sym, ap, ◌∙◌, subst, arith, eqb, ltb, leb, append_assoc, pos, negsuc, ℤ, neg_ℤ, true≢false, ◌⊎◌, inl, inr}
+use Rattle.std.proofs.Common.{◌≡◌, ℕ, suc, ◌+◌, ◌-◌, ◌<◌, ◌≤◌, ◌^◌, Bool, true, false, cond, ◌||◌, List, [], ◌∷◌, ◌++◌, length, take, drop, get_or, option_map, Ok, refl, sym, ap, ◌∙◌, subst, arith, eqb, pos, negsuc, ℤ, neg_ℤ, true≢false, ◌⊎◌, inl, inr}
 use Rattle.std.proofs.lemmas.Bool.Decides.{nat_tests}
 use Rattle.std.proofs.lemmas.Bool.{ne_eqb, lt-ltb, le-leb, cases_eq}
 use Rattle.std.proofs.lemmas.Fmt.{decimal_is_IsNumeral, first_decimal, decimal_digit}
@@ -9,10 +9,10 @@ use Rattle.std.specs.List.{prefix_len, AllByRecursion}
 use Rattle.std.specs.Str.Parse.{digits_value, AllDigits}
 use Rattle.plan_text.proofs.ReadBack.{found_read, take_front}
 use Rattle.gql_lex.specs.declared.tokens.TokenKind.TheVariants.{Int}
-use Rattle.gql_lex.specs.Characters.{is_digit, is_float_mark, is_ignored, is_punctuator, is_number_start}
+use Rattle.gql_lex.specs.Characters.{is_digit, is_float_mark, is_ignored, is_punctuator}
 use Rattle.gql_plain.specs.Names.{is_name_byte, is_name_start}
 use Rattle.gql_lex.specs.Heads.{head, number, int_before, string_head}
-use Rattle.gql_lex.specs.Numbers.{sign_len, digits_len, int_len, is_negative, magnitude, int_value, is_in_i64}
+use Rattle.gql_lex.specs.Numbers.{sign_len, digits_len, int_value, is_in_i64}
 use Rattle.gql_lex.specs.Toks.{Tok, tokens_of, tok_of}
 use Rattle.gql_lex.specs.Toks as tok
 

@@ -1,8 +1,7 @@
 -- The text of an operation is read back: it has the tokens of the printed operation.
-use Rattle.std.proofs.Common.{◌≡◌, ℕ, ◌+◌, Bool, true, false, cond, List, [], ◌∷◌, ◌++◌, map, codes, Option, Some, None, option_map, unwrap_or, bytes_eq, get_or, refl, sym, ap, subst, ◌∙◌, append-nil}
+use Rattle.std.proofs.Common.{ℕ, ◌+◌, Bool, true, false, cond, List, [], ◌∷◌, ◌++◌, map, Option, Some, None, option_map, unwrap_or, bytes_eq, refl, sym, ap, ◌∙◌, append-nil}
 use Rattle.std.specs.List.{AllByRecursion, filter}
 use Rattle.std.specs.Option.{IfSome}
-use Rattle.gql_ast.specs.Sels as sels
 use Rattle.gql_ast.specs.Ty as ty
 use Rattle.gql_ast.specs.Ty.{Ty}
 use Rattle.gql_ast.specs.TypeView.{ty_of}
@@ -14,18 +13,17 @@ use Rattle.gql_ast.specs.declared.value.ValueTree.{ValueTree}
 use Rattle.gql_ast.specs.declared.variable.VariableDef.{VariableDef}
 use Rattle.gql_lex.specs.Toks as tok
 use Rattle.gql_lex.specs.Toks.{Tok, tokens_of}
-use Rattle.gql_parse.specs.Documents.{FormedVariable, documents, spell_braces, spell_name, spell_on, spell_operation, spell_selections, spell_set, spell_variables, spell_variables_part}
+use Rattle.gql_parse.specs.Documents.{FormedVariable, spell_braces, spell_name, spell_on, spell_operation, spell_selections, spell_variables, spell_variables_part}
 use Rattle.gql_syntax.proofs.BuiltTrees.{value_of-value_tree}
-use Rattle.gql_syntax.specs.Formed.{FormedDefault, FormedDirective, FormedDirectives, FormedType}
+use Rattle.gql_syntax.specs.Formed.{FormedDefault, FormedDirectives, FormedType}
 use Rattle.gql_syntax.specs.Spelling.{spell_arguments, spell_default, spell_directives, spell_type, spell_value}
 use Rattle.gql_syntax.specs.Words.{IsName, kind_word, on_word}
 use Rattle.plan_ir.specs.Nodes.{Nodes, end, field, inline}
-use Rattle.plan_ir.specs.OperationText.{arguments_text, condition_text, default_text, directives_text, enclose, enclose_some, join_texts, name_text, node_texts, operation_text, type_text, used_variables, value_text, variable_text, variables_text}
-use Rattle.plan_ir.specs.declared.expanded.Expanded.{Expanded}
+use Rattle.plan_ir.specs.OperationText.{arguments_text, condition_text, default_text, directives_text, enclose, enclose_some, join_texts, name_text, node_texts, type_text, used_variables, value_text, variable_text, variables_text}
 use Rattle.plan_text.proofs.ReadBack.{comma_read, space_read, spread_read}
-use Rattle.plan_text.proofs.Spelling.{IsFree, Opens, Reads, at_sign_stands, bang_stands, behind_reads, chain, close_brace_stands, close_bracket_stands, close_paren_stands, colon_stands, dollar_stands, enclosed_reads, equals_stands, joined_reads, name_reads, nothing_left, nothing_reads, open_brace_stands, open_bracket_stands, open_paren_stands, then_reads}
+use Rattle.plan_text.proofs.Spelling.{Opens, Reads, at_sign_stands, bang_stands, behind_reads, chain, close_brace_stands, close_bracket_stands, close_paren_stands, colon_stands, dollar_stands, enclosed_reads, equals_stands, joined_reads, name_reads, nothing_left, nothing_reads, open_brace_stands, open_bracket_stands, open_paren_stands, then_reads}
 use Rattle.plan_text.proofs.ValuesRead.{arguments_open, arguments_read, mark, value_reads}
-use Rattle.plan_text.specs.Documents.{FormedExpanded, FormedNodes, SomeNode, SpellsPrinted, document_parts}
+use Rattle.plan_text.specs.Documents.{FormedNodes, SomeNode, SpellsPrinted}
 use Rattle.plan_text.specs.Printed.{alias_of, printed_operation, printed_arguments, printed_default, printed_directives, printed_selections, printed_value, printed_variable}
 use Rattle.schema_tables.specs.Types.{Text}
 

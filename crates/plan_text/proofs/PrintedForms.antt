@@ -1,5 +1,5 @@
 -- The printed operation is formed where the expanded one is.
-use Rattle.std.proofs.Common.{◌≡◌, Bool, true, false, cond, List, [], ◌∷◌, map, Option, Some, None, bytes_eq, IsUtf8, refl, sym, subst}
+use Rattle.std.proofs.Common.{Bool, true, false, cond, List, [], ◌∷◌, map, Option, Some, None, bytes_eq, refl, sym, subst}
 use Rattle.std.specs.List.{AllByRecursion}
 use Rattle.std.specs.Option.{IfSome}
 use Rattle.gql_ast.specs.Value.{Val, Vals, Members, variable, int, text, truth, null, enum, list, object, no_vals, val, no_members, member, members_of}
@@ -10,7 +10,7 @@ use Rattle.gql_ast.specs.declared.value.ValueTree.{ValueTree}
 use Rattle.gql_ast.specs.declared.variable.VariableDef.{VariableDef}
 use Rattle.gql_parse.specs.Documents.{FormedDefinition, FormedSelections, FormedVariable, SomeSelection}
 use Rattle.gql_syntax.proofs.BuiltTrees.{value_of-value_tree}
-use Rattle.gql_syntax.specs.Formed.{FormedArguments, FormedDefault, FormedDirective, FormedDirectives, FormedMembers, FormedValue, FormedValues}
+use Rattle.gql_syntax.specs.Formed.{FormedArguments, FormedDefault, FormedDirectives, FormedMembers, FormedValue, FormedValues}
 use Rattle.gql_syntax.specs.Words.{IsName}
 use Rattle.plan_ir.specs.Nodes.{Nodes, end, field, inline}
 use Rattle.plan_ir.specs.OperationText.{by_name, used_variables}
@@ -20,7 +20,7 @@ use Rattle.plan_text.proofs.OperationRead.{all-filter, spells_printed}
 use Rattle.plan_text.proofs.ValuesRead.{all-by_name}
 use Rattle.plan_text.specs.Documents as document
 use Rattle.plan_text.specs.Documents.{FormedExpanded, FormedNodes, IsOneDocument, SomeNode}
-use Rattle.plan_text.specs.Printed.{alias_of, printed_operation, printed_arguments, printed_default, printed_directive, printed_directives, printed_members, printed_pair, printed_selections, printed_value, printed_values, printed_variable}
+use Rattle.plan_text.specs.Printed.{printed_operation, printed_arguments, printed_default, printed_directives, printed_members, printed_pair, printed_selections, printed_value, printed_values, printed_variable}
 use Rattle.schema_tables.specs.Types.{Text}
 
 -- ---- values

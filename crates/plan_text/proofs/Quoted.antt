@@ -1,6 +1,6 @@
 -- Texts written as in JSON are read back.
-use Rattle.std.proofs.Common.{◌≡◌, ℕ, zero, suc, ◌+◌, ◌-◌, ◌<◌, ◌≤◌, Bool, true, false, cond, ◌&&◌, ◌||◌, ◌==◌, List, [], ◌∷◌, ◌++◌, length, drop, get_or, Option, Some, None, option_map, Result, Ok, Err, refl, sym, ap, ◌∙◌, subst, arith, eqb, ltb, leb, ◌⊎◌, inl, inr, append_assoc}
-use Rattle.std.proofs.lemmas.Bool.{cases_eq, cases_lt, ne_eqb, le-ltb}
+use Rattle.std.proofs.Common.{◌≡◌, ℕ, zero, suc, ◌+◌, ◌<◌, ◌≤◌, true, false, List, [], ◌∷◌, ◌++◌, length, get_or, option_map, Result, Ok, refl, sym, ap, ◌∙◌, subst, arith, eqb, ◌⊎◌, inl, inr, append_assoc}
+use Rattle.std.proofs.lemmas.Bool.{cases_eq, cases_lt, ne_eqb}
 use Rattle.std.proofs.lemmas.Bool.Decides.{nat_tests}
 use Rattle.std.proofs.lemmas.List.{length-append}
 use Rattle.json.specs.Print.{escape_byte, escape, quoted}
@@ -9,8 +9,8 @@ use Rattle.plan_text.proofs.ReadBack.{found_read}
 use Rattle.gql_lex.specs.declared.tokens.TokenKind.TheVariants.{Text}
 use Rattle.gql_lex.specs.Characters.{is_two_quotes, may_stand}
 use Rattle.gql_lex.specs.Heads.{head, string, string_head}
-use Rattle.gql_lex.specs.Strings.{text_end, text_step, further, and_then, escape_len}
-use Rattle.gql_lex.specs.Values.{text_value, text_value_step, escape_char, escaped_len}
+use Rattle.gql_lex.specs.Strings.{text_end, further, escape_len}
+use Rattle.gql_lex.specs.Values.{text_value}
 use Rattle.gql_lex.specs.Toks.{Tok, tokens_of, tok_of}
 use Rattle.gql_lex.specs.Toks as tok
 use Rattle.std.specs.Char.{encode_utf8}

@@ -1,14 +1,14 @@
 -- What is written is read back, token by token, from the last to the first.
-use Rattle.std.proofs.Common.{◌≡◌, ℕ, zero, suc, ◌+◌, ◌-◌, ◌<◌, ◌≤◌, Bool, true, false, cond, ◌&&◌, ◌||◌, List, [], ◌∷◌, ◌++◌, length, take, drop, get_or, Option, Some, None, option_map, Result, Ok, Err, refl, sym, ap, ◌∙◌, arith, eqb, leb}
+use Rattle.std.proofs.Common.{◌≡◌, ℕ, zero, suc, ◌+◌, true, false, cond, List, [], ◌∷◌, ◌++◌, length, take, Option, option_map, Ok, refl, ap, ◌∙◌, arith, eqb}
 use Rattle.std.proofs.lemmas.Bool.Decides.{nat_tests}
 use Rattle.std.specs.List.{prefix_len, AllByRecursion}
 use Rattle.gql_lex.specs.declared.tokens.TokenKind.{TokenKind}
 use Rattle.gql_lex.specs.declared.tokens.TokenKind.TheVariants.{Punct, Name, Int, Text, Block}
-use Rattle.gql_lex.specs.Characters.{is_punctuator, is_ignored, is_mark, is_spread, is_number_start}
+use Rattle.gql_lex.specs.Characters.{is_punctuator, is_ignored}
 use Rattle.gql_plain.specs.Names.{is_name_start, is_name_byte}
 use Rattle.gql_lex.proofs.Fronts.{comment_by, head_by, number_by, string_by}
 use Rattle.gql_lex.specs.Heads.{head, string_head}
-use Rattle.gql_lex.specs.Sources.{Piece, Source, ended, faulty, token, read_head, read, lex_from}
+use Rattle.gql_lex.specs.Sources.{read_head, read}
 use Rattle.gql_lex.specs.Toks.{Tok, toks_of, tok_of, tok_of_piece, tokens_of, punctuator_of}
 use Rattle.gql_lex.specs.Toks as tok
 

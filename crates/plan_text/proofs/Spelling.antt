@@ -8,7 +8,7 @@ use Rattle.gql_lex.specs.Sources.{read}
 use Rattle.gql_lex.specs.Toks as tok
 use Rattle.gql_lex.specs.Toks.{Tok, tokens_of}
 use Rattle.gql_lex.specs.declared.tokens.TokenKind.TheVariants.{Punct}
-use Rattle.gql_plain.specs.Names.{is_name, is_name_byte, is_name_start}
+use Rattle.gql_plain.specs.Names.{is_name_byte, is_name_start}
 use Rattle.gql_syntax.specs.Words.{IsName}
 use Rattle.plan_ir.specs.OperationText.{join_texts}
 use Rattle.plan_text.proofs.Ints.{Ends}

@@ -1,13 +1,12 @@
 -- A value that is written is read back: its text has the tokens of the printed value.
-use Rattle.std.proofs.Common.{◌≡◌, ℕ, zero, suc, ◌+◌, ◌<◌, ◌^◌, Bool, true, false, List, [], ◌∷◌, ◌++◌, length, map, get_or, Option, Some, None, option_map, Ordering, Less, Equal, Greater, nat_cmp, pos, negsuc, ℤ, refl, sym, ap, subst, ◌∙◌, arith}
-use Rattle.std.proofs.lemmas.List.{length-map}
+use Rattle.std.proofs.Common.{◌≡◌, ℕ, suc, ◌+◌, Bool, true, false, List, [], ◌∷◌, ◌++◌, length, map, get_or, Option, Some, None, option_map, Ordering, Less, Equal, Greater, nat_cmp, pos, negsuc, ℤ, refl, sym, ap, subst, ◌∙◌, arith}
 use Rattle.std.specs.Cmp.Lexicographic.{slice_cmp}
 use Rattle.std.specs.List.{AllByRecursion}
 use Rattle.std.specs.Ordering.{match_ordering}
 use Rattle.gql_ast.specs.Value.{Val, Vals, Members, variable, int, text, truth, null, enum, list, object, no_vals, val, no_members, member, members_of}
 use Rattle.gql_lex.specs.Toks as tok
 use Rattle.gql_lex.specs.Toks.{Tok, tokens_of}
-use Rattle.gql_syntax.proofs.BuiltTrees.{members_of-pairs_of, pairs_of-members_of}
+use Rattle.gql_syntax.proofs.BuiltTrees.{pairs_of-members_of}
 use Rattle.gql_syntax.specs.Built.{pairs_of}
 use Rattle.gql_syntax.specs.Formed.{FormedArguments, FormedMembers, FormedValue, FormedValues}
 use Rattle.gql_syntax.specs.Spelling.{Mark, spell_arguments, spell_members, spell_value, spell_values}

@@ -1,5 +1,5 @@
 -- The text of an operation as a document.
-use Rattle.std.specs.Prelude.{◌≡◌, ℕ, false, List, [], ◌∷◌, Option, Some, IfSome, IsUtf8}
+use Rattle.std.specs.Prelude.{◌≡◌, ℕ, false, List, [], ◌∷◌, Some, IfSome, IsUtf8}
 use Rattle.std.specs.List.{AllByRecursion}
 use Rattle.gql_ast.specs.declared.document.Definition.TheVariants as D
 use Rattle.gql_ast.specs.declared.document.Document.{Document}

@@ -2,7 +2,6 @@
 use Rattle.std.specs.Prelude.{codes}
 use Rattle.gql_plain.specs.ToJson.{compact}
 use Rattle.gql_plain.specs.Tree.{no_members, object}
-use Rattle.gql_syntax.specs.Words.{kind_word}
 use Rattle.plan_ir.specs.OperationText.{fragment_line, operation_line, text_member}
 use Rattle.plan_text.specs.declared.artifact.Artifact.{Artifact}
 use Rattle.plan_text.specs.declared.artifact.Artifact.TheVariants.{Operation, Fragment}

@@ -1,5 +1,5 @@
 -- What the writer wrote is the tree of the line.
-use Rattle.std.proofs.Common.{◌≡◌, ◌++◌, [], ◌∷◌, codes, sym, ap, ◌∙◌}
+use Rattle.std.proofs.Common.{◌≡◌, ◌++◌, [], ◌∷◌, codes, ap, ◌∙◌}
 use Rattle.gql_plain.proofs.Tokens.{print-tree_tokens}
 use Rattle.gql_plain.specs.ToJson.{tree_tokens}
 use Rattle.gql_plain.specs.Tree as tree

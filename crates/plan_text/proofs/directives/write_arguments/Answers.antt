@@ -1,5 +1,5 @@
 -- Arguments that are there stand between brackets.
-use Rattle.std.proofs.Common.{◌≡◌, ◌++◌, [], ◌∷◌, List, true, false, string_bytes, sym, ap, ◌∙◌, arith}
+use Rattle.std.proofs.Common.{◌≡◌, ◌++◌, [], ◌∷◌, List, string_bytes, sym, ap, ◌∙◌, arith}
 use Rattle.std.proofs.lemmas.Bool.{true≢false}
 use Rattle.plan_ir.specs.OperationText.{join_texts, pairs_text}
 use Rattle.plan_text.proofs.Joining.{enclosed_written}

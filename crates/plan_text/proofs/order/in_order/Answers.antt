@@ -1,5 +1,5 @@
 -- A stable sort of the pairs by name is their order.
-use Rattle.std.proofs.Common.{◌≡◌, map, nat_cmp, rules, ap, ◌∙◌}
+use Rattle.std.proofs.Common.{map, nat_cmp, rules, ap, ◌∙◌}
 use Rattle.std.proofs.lemmas.Fn.{always_returns_same}
 use Rattle.std.proofs.lemmas.List.{take_all}
 use Rattle.std.specs.Cmp.Lexicographic.{slice_cmp}

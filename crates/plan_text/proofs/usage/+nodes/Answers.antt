@@ -1,5 +1,5 @@
 -- What is noted, and what is left, is the whole.
-use Rattle.std.proofs.Common.{◌≡◌, [], ◌∷◌, ◌||◌, List, drop, refl, ap, ◌∙◌}
+use Rattle.std.proofs.Common.{List}
 use Rattle.plan_ir.specs.NodesView.{nodes_of}
 use Rattle.plan_ir.specs.OperationText.{nodes_use}
 use Rattle.plan_ir.specs.declared.node.Node.{Node}

@@ -1,5 +1,5 @@
 -- What is noted, and what is left, is the whole.
-use Rattle.std.proofs.Common.{◌≡◌, [], ◌∷◌, ◌||◌, List, drop, refl, ap, ◌∙◌}
+use Rattle.std.proofs.Common.{refl}
 use Rattle.gql_ast.specs.declared.directive.Directive.{Directive}
 use Rattle.plan_ir.specs.OperationText.{arguments_use, directives_use}
 use Rattle.plan_text.proofs.Using.{loop_noted}

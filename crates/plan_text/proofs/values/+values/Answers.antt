@@ -1,5 +1,5 @@
 -- What a list or an object holds is less deep than it; at the end of a loop all is written.
-use Rattle.std.proofs.Common.{◌≡◌, ◌≤◌, ◌++◌, [], drop, map, string_bytes, sym, ap, ◌∙◌, arith}
+use Rattle.std.proofs.Common.{◌≤◌, ◌++◌, drop, map, string_bytes, sym, ap, ◌∙◌, arith}
 use Rattle.std.proofs.lemmas.List.{drop_all}
 use Rattle.gql_ast.specs.Value.{members_depth, members_of, val_depth, vals_depth, vals_of}
 use Rattle.gql_ast.specs.ValueView.{value_of}

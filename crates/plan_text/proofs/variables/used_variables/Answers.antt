@@ -1,5 +1,5 @@
 -- What is left at the end is nothing; the test of the set is that of the definition.
-use Rattle.std.proofs.Common.{◌≡◌, Bool, List, [], ◌++◌, ◌||◌, drop, map, Bor, append-nil, sym, ap, ◌∙◌}
+use Rattle.std.proofs.Common.{◌≡◌, Bool, List, ◌++◌, ◌||◌, map, Bor, append-nil, sym, ap, ◌∙◌}
 use Rattle.std.proofs.lemmas.List.{drop_all}
 use Rattle.std.specs.List.{filter}
 use Rattle.gql_ast.specs.declared.variable.VariableDef.{VariableDef}
