@@ -1,0 +1,15 @@
+pub mod AddedFields
+pub mod Collects
+pub mod Evaluating
+pub mod Ints
+pub mod Joining
+pub mod Listing
+pub mod Naming
+pub mod OperationRead
+pub mod PrintedForms
+pub mod Quoted
+pub mod ReadBack
+pub mod Sorting
+pub mod Spelling
+pub mod Using
+pub mod ValuesRead

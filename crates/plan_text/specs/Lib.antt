@@ -1,0 +1,7 @@
+pub mod Collecting
+pub mod Documents
+pub mod Lines
+pub mod NodeTexts
+pub mod Pairs
+pub mod Printed
+pub mod UsedNames

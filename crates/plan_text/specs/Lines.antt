@@ -1,0 +1,17 @@
+-- The lines of artifacts (this project's own).
+use Rattle.std.specs.Prelude.{codes}
+use Rattle.gql_plain.specs.ToJson.{compact}
+use Rattle.gql_plain.specs.Tree.{no_members, object}
+use Rattle.plan_ir.specs.OperationText.{fragment_line, operation_line, text_member}
+use Rattle.plan_text.specs.declared.artifact.Artifact.{Artifact}
+use Rattle.plan_text.specs.declared.artifact.Artifact.TheVariants.{Operation, Fragment}
+use Rattle.schema_tables.specs.Types.{Text}
+
+abbrev pub line_of : Artifact → Text
+line_of (Operation k n t) = operation_line k n t
+line_of (Fragment n on) = fragment_line n on
+
+-- `{"kind":KIND,"name":NAME,KEY:VALUE}`
+abbrev pub three_texts : (kind name key value : Text) → Text
+three_texts k n key v =
+    compact (object (text_member (codes "kind") k (text_member (codes "name") n (text_member key v no_members))))
