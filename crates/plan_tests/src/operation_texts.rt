@@ -65,7 +65,7 @@ query Q2($b2:Boolean=true){viewer@include(if:$b2){__typename}}
 query A_0{viewer{__typename __typename}}"#;
 
 /// The bytes, or none where they are too many for a test.
-fn short(bytes: &[u8]) -> &[u8]
+fn text_within_limit(bytes: &[u8]) -> &[u8]
     ensures { length result.now < 2000 }
 {
     if bytes.len() < 2000 {
@@ -104,14 +104,16 @@ fn some_place() -> FilePlace {
 fn nodes_of(alloc: Global, selections: &Selections) -> Result<Nodes, Fail> {
     let mut nodes = Nodes::new(alloc);
     for selection in &selections.items {
-        push_node(alloc, &mut nodes, selection)?;
+        if let Some(node) = node_of(alloc, selection)? {
+            nodes.push(node)?;
+        }
     }
     Ok(nodes)
 }
 
-/// Puts a selection at the end of nodes, unless it is a spread.
+/// A selection as a node, unless it is a spread.
 #[cycle(nodes)]
-fn push_node(alloc: Global, nodes: &mut Nodes, selection: &Selection) -> Result<(), Fail> {
+fn node_of(alloc: Global, selection: &Selection) -> Result<Option<Node>, Fail> {
     match selection {
         Selection::Field {
             alias,
@@ -119,38 +121,32 @@ fn push_node(alloc: Global, nodes: &mut Nodes, selection: &Selection) -> Result<
             arguments,
             directives,
             selections,
-        } => {
-            nodes.push(Node::Field {
-                response: response_key(alias, name)?,
-                name: name.copy()?,
-                arguments: arguments.copy()?,
-                directives: directives.copy()?,
-                connection: None,
-                of: TypeTree::Named(Words::new(alloc, "T")?),
-                selections: nodes_of(alloc, selections)?,
-                place: some_place(),
-            })?;
-            Ok(())
-        }
+        } => Ok(Some(Node::Field {
+            response: response_key(alias, name)?,
+            name: name.copy()?,
+            arguments: arguments.copy()?,
+            directives: directives.copy()?,
+            connection: None,
+            of: TypeTree::Named(Words::new(alloc, "T")?),
+            selections: nodes_of(alloc, selections)?,
+            place: some_place(),
+        })),
         Selection::Inline {
             on,
             directives,
             selections,
-        } => {
-            nodes.push(Node::Inline {
-                on: copy_of(on)?,
-                directives: directives.copy()?,
-                selections: nodes_of(alloc, selections)?,
-                place: some_place(),
-            })?;
-            Ok(())
-        }
-        Selection::Spread { .. } => Ok(()),
+        } => Ok(Some(Node::Inline {
+            on: copy_of(on)?,
+            directives: directives.copy()?,
+            selections: nodes_of(alloc, selections)?,
+            place: some_place(),
+        })),
+        Selection::Spread { .. } => Ok(None),
     }
 }
 
 /// The expanded operation that has the selections of an operation.
-fn expanded(alloc: Global, operation: &Operation) -> Result<Expanded, Fail> {
+fn expansion_of(alloc: Global, operation: &Operation) -> Result<Expanded, Fail> {
     let nodes = nodes_of(alloc, &operation.selections)?;
     let name = match &operation.name {
         Some(name) => name.copy()?,
@@ -168,9 +164,9 @@ fn expanded(alloc: Global, operation: &Operation) -> Result<Expanded, Fail> {
 
 /// The text of the first definition of a document, if it is an operation.
 fn text_of(alloc: Global, document: &str) -> Result<Words, Fail> {
-    let document = parse_document(alloc, 0, short(document.as_bytes()))?;
+    let document = parse_document(alloc, 0, text_within_limit(document.as_bytes()))?;
     if let Some(Definition::Operation(operation)) = document.tree.definitions.as_slice().first() {
-        return Ok(operation_text(alloc, &expanded(alloc, operation)?)?);
+        return Ok(operation_text(alloc, &expansion_of(alloc, operation)?)?);
     }
     Ok(Words::new(alloc, "no operation")?)
 }
