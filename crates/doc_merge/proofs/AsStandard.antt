@@ -2,7 +2,7 @@
 use Rattle.std.proofs.Common.{◌≡◌, ℕ, zero, suc, ◌≤◌, Bool, true, false, true≢false, cond, not, ◌&&◌, ◌||◌, List, [], ◌∷◌, ◌++◌, bytes_eq, refl, ap, sym, ◌∙◌, arith}
 use Rattle.std.specs.List.{list_any}
 use Rattle.doc_merge.proofs.Anys.{any-append, or_true}
-use Rattle.doc_merge.specs.Merging.{Field, Fields, against, crossing, differ, differing, field, meet, no_fields}
+use Rattle.doc_merge.specs.Merging.{Field, Fields, against, crossing, differ, differences, field, meet, no_fields}
 use Rattle.doc_merge.specs.Places.{wrong}
 use Rattle.doc_merge.specs.Shapes.{same_shape}
 use Rattle.doc_merge.specs.Signatures.{same_signature}
@@ -83,9 +83,9 @@ abbrev within : Bool → Fields → List FilePlace
 within m no_fields = []
 within m (field a below next) = within m below ++ against m a (λ (n : Bool) (cs : Fields). crossing n below cs) next ++ within m next
 
-differing_within : (fs : Fields) → differing fs ≡ within true fs
-differing_within no_fields = refl
-differing_within (field a below next) = λ k. differing_within below k ++ against true a (λ (n : Bool) (cs : Fields). crossing n below cs) next ++ differing_within next k
+differences_within : (fs : Fields) → differences fs ≡ within true fs
+differences_within no_fields = refl
+differences_within (field a below next) = λ k. differences_within below k ++ against true a (λ (n : Bool) (cs : Fields). crossing n below cs) next ++ differences_within next k
 
 -- the three parts of a set
 into_below : (p : FilePlace → Bool) (m : Bool) (a : Field) (below next : Fields) → In p (within m below) → In p (within m (field a below next))
@@ -202,8 +202,8 @@ each_up p n (field a below next) e = split p (fields_in_set_can_merge n below ++
     (λ q. into_below p true a below next (split p (fields_in_set_can_merge n below) (each_set_can_merge n below) q (λ r. merge_up p n below r) (λ r. each_up p n below r)))
     (λ q. into_next p true a below next (each_up p n next q))
 
-pub standard_in_definition : (p : FilePlace → Bool) (n : ℕ) (fs : Fields) → In p (fields_in_set_can_merge n fs ++ each_set_can_merge n fs) → In p (differing fs)
-standard_in_definition p n fs e = ap (list_any p) (differing_within fs) ∙ split p (fields_in_set_can_merge n fs) (each_set_can_merge n fs) e (λ q. merge_up p n fs q) (λ q. each_up p n fs q)
+pub standard_in_definition : (p : FilePlace → Bool) (n : ℕ) (fs : Fields) → In p (fields_in_set_can_merge n fs ++ each_set_can_merge n fs) → In p (differences fs)
+standard_in_definition p n fs e = ap (list_any p) (differences_within fs) ∙ split p (fields_in_set_can_merge n fs) (each_set_can_merge n fs) e (λ q. merge_up p n fs q) (λ q. each_up p n fs q)
 
 -- ---- the definition's places are among the standard's, for a number of at least the depth
 
@@ -305,6 +305,6 @@ same_truth false true f g = g refl
 same_truth false false f g = refl
 
 -- the standard's form and the definition have the same places
-pub as_the_standard : (p : FilePlace → Bool) (fs : Fields) (n : ℕ) → depth fs ≤ n → list_any p (fields_in_set_can_merge n fs ++ each_set_can_merge n fs) ≡ list_any p (differing fs)
-as_the_standard p fs n h = same_truth (list_any p (fields_in_set_can_merge n fs ++ each_set_can_merge n fs)) (list_any p (differing fs)) (standard_in_definition p n fs)
-    (λ e. within_low p fs n h (sym (ap (list_any p) (differing_within fs)) ∙ e))
+pub as_the_standard : (p : FilePlace → Bool) (fs : Fields) (n : ℕ) → depth fs ≤ n → list_any p (fields_in_set_can_merge n fs ++ each_set_can_merge n fs) ≡ list_any p (differences fs)
+as_the_standard p fs n h = same_truth (list_any p (fields_in_set_can_merge n fs ++ each_set_can_merge n fs)) (list_any p (differences fs)) (standard_in_definition p n fs)
+    (λ e. within_low p fs n h (sym (ap (list_any p) (differences_within fs)) ∙ e))

@@ -2,7 +2,7 @@
 use Rattle.std.proofs.Common.{◌≡◌, Bool, true, false, cond, ◌&&◌, ◌||◌, List, [], ◌∷◌, ◌++◌, map, Option, Some, None, bytes_eq, refl, ap, sym, ◌∙◌}
 use Rattle.std.specs.List.{filter, list_any}
 use Rattle.doc_merge.proofs.Anys.{any-append, any-map, any_and, any_none, any_or, any_same, and_assoc, filter_any, or_assoc, or_false}
-use Rattle.doc_merge.specs.Merging.{Field, Fields, against, crossing, differ, differing, field, meet, no_fields}
+use Rattle.doc_merge.specs.Merging.{Field, Fields, against, crossing, differ, differences, field, meet, no_fields}
 use Rattle.doc_merge.specs.Paths.{Path, conflict, faulty, here, paths, place_of, under}
 use Rattle.doc_merge.specs.Places.{wrong}
 use Rattle.gql_ast.specs.declared.place.FilePlace.{FilePlace}
@@ -111,12 +111,12 @@ flat-under p a (x ∷ xs) =
     ∙ sym (filter_any (λ z. p (place_of z)) (conflict true x) xs)) k || flat-under p a xs k)
     ∙ sym (any-append (λ z. p (place_of z)) (filter (conflict true x) xs) (faulty (conflict true) xs))
 
-pub differing_is : (p : FilePlace → Bool) (fs : Fields) → list_any p (differing fs) ≡ flat p (paths fs)
-differing_is p no_fields = refl
-differing_is p (field a below next) =
+pub differences_are : (p : FilePlace → Bool) (fs : Fields) → list_any p (differences fs) ≡ flat p (paths fs)
+differences_are p no_fields = refl
+differences_are p (field a below next) =
     let inner : Bool → Fields → List FilePlace = λ (n : Bool) (cs : Fields). crossing n below cs in
-    any-append p (differing below ++ against true a inner next) (differing next)
-    ∙ (λ k. (any-append p (differing below) (against true a inner next) ∙ (λ j. differing_is p below j || against_is p true a inner (paths below) (λ n cs. crossing_is p below n cs) next j)) k || differing_is p next k)
+    any-append p (differences below ++ against true a inner next) (differences next)
+    ∙ (λ k. (any-append p (differences below) (against true a inner next) ∙ (λ j. differences_are p below j || against_is p true a inner (paths below) (λ n cs. crossing_is p below n cs) next j)) k || differences_are p next k)
     ∙ four (flat p (paths below)) (hits true p (here a) (paths next)) (list_any (λ x. hits true p x (paths next)) (map (under a) (paths below))) (flat p (paths next))
     ∙ (λ k. sym (first_hits) k || sym (flat-append p (map (under a) (paths below)) (paths next) ∙ ap (λ b. b || (any_cross true p (map (under a) (paths below)) (paths next) || flat p (paths next))) (flat-under p a (paths below))) k)
     ∙ sym (any-append (λ z. p (place_of z)) (filter (conflict true (here a)) (map (under a) (paths below) ++ paths next)) (faulty (conflict true) (map (under a) (paths below) ++ paths next))) where

@@ -5,12 +5,12 @@ use Rattle.std.proofs.lemmas.List.Elements.{All-cons, All-nil}
 use Rattle.gql_graph.proofs.TextSteps.{same_self}
 use Rattle.schema_tables.specs.Types.{Text}
 use Rattle.doc_merge.proofs.Anys.{any-append}
-use Rattle.doc_merge.proofs.Bridge.{differing_is}
+use Rattle.doc_merge.proofs.Bridge.{differences_are}
 use Rattle.doc_merge.proofs.Equals.{and_left, and_right}
 use Rattle.doc_merge.proofs.Levels.{none_or, one_type_meets}
 use Rattle.doc_merge.proofs.ShapeLaws.{same_shape-sound}
 use Rattle.doc_merge.specs.Collected.{AreAlike, HaveOneForm, Pairwise, is_collected, keys_of, last_field, may_be_on}
-use Rattle.doc_merge.specs.Merging.{Field, Fields, differ, differing, meet}
+use Rattle.doc_merge.specs.Merging.{Field, Fields, differ, differences, meet}
 use Rattle.doc_merge.specs.Paths.{Path, conflict, faulty, here, paths, under}
 use Rattle.doc_merge.specs.Shapes.{same_shape}
 use Rattle.doc_merge.specs.Signatures.{same_signature}
@@ -91,5 +91,5 @@ none_in_conflict {A = A} c r h (x ∷ xs) e =
     let parts : (list_any (λ y. true) (filter (c x) xs) || list_any (λ y. true) (faulty c xs)) ≡ false = sym (any-append (λ y. true) (filter (c x) xs) (faulty c xs)) ∙ e in
     (none_with c r h x xs (or_left _ _ parts), none_in_conflict c r h xs (or_right _ _ parts))
 
-pub collected_alike : (fs : Fields) → differing fs ≡ [] → Pairwise AreAlike (paths fs)
-collected_alike fs e = none_in_conflict (conflict true) AreAlike alike (paths fs) (sym (differing_is (λ p. true) fs) ∙ ap (list_any (λ p. true)) e)
+pub collected_alike : (fs : Fields) → differences fs ≡ [] → Pairwise AreAlike (paths fs)
+collected_alike fs e = none_in_conflict (conflict true) AreAlike alike (paths fs) (sym (differences_are (λ p. true) fs) ∙ ap (list_any (λ p. true)) e)

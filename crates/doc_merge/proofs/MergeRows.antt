@@ -19,7 +19,7 @@ use Rattle.schema_rules.specs.declared.fault.Rule.TheVariants as R
 use Rattle.schema_tables.specs.Types.{Text, Defs}
 use Rattle.doc_merge.specs.Faults.{first_fault}
 use Rattle.doc_merge.specs.Gathering.{fields_of}
-use Rattle.doc_merge.specs.Merging.{differing}
+use Rattle.doc_merge.specs.Merging.{differences}
 use Rattle.doc_merge.specs.Values.{nodes_unfit}
 
 abbrev member : Text → List InputTree → TypeTree → FieldTree
@@ -47,26 +47,26 @@ at n = record { file = 0; line = 1; column = n }
 abbrev int : Ty
 int = ty.named (codes "Int")
 
-abbrev aliased : Text → Text → Ty → ℕ → (subs rest : Nodes) → Nodes
-aliased r n of p s rest = field r n [] [] None of s (at p) rest
+abbrev alias_field : Text → Text → Ty → ℕ → (subs rest : Nodes) → Nodes
+alias_field r n of p s rest = field r n [] [] None of s (at p) rest
 
 -- `x:n`, of the type Int
 abbrev x : Text → ℕ → (rest : Nodes) → Nodes
-x n p rest = aliased (codes "x") n int p end rest
+x n p rest = alias_field (codes "x") n int p end rest
 
 -- `c{..}`, of the type I
 abbrev c : ℕ → (subs rest : Nodes) → Nodes
-c p s rest = aliased (codes "c") (codes "c") (ty.named (codes "I")) p s rest
+c p s rest = alias_field (codes "c") (codes "c") (ty.named (codes "I")) p s rest
 
 abbrev on : Text → (subs rest : Nodes) → Nodes
 on t s rest = inline (Some t) [] s (at 0) rest
 
 -- on the object type A, and on the interface
 abbrev on_object : Nodes → List FilePlace
-on_object s = differing (fields_of defs (codes "A") s)
+on_object s = differences (fields_of defs (codes "A") s)
 
 abbrev on_interface : Nodes → List FilePlace
-on_interface s = differing (fields_of defs (codes "I") s)
+on_interface s = differences (fields_of defs (codes "I") s)
 
 -- `x:a x:b`: the second
 pub two_names : on_object (x (codes "a") 1 (x (codes "b") 2 end)) ≡ at 2 ∷ []
@@ -81,7 +81,7 @@ pub two_objects : on_interface (on (codes "A") (x (codes "a") 1 end) (on (codes 
 two_objects = refl
 
 -- `...on A{x:a} ...on B{x:e}` of two shapes: the second
-pub two_objects_two_shapes : on_interface (on (codes "A") (x (codes "a") 1 end) (on (codes "B") (aliased (codes "x") (codes "e") (ty.named (codes "String")) 2 end end) end)) ≡ at 2 ∷ []
+pub two_objects_two_shapes : on_interface (on (codes "A") (x (codes "a") 1 end) (on (codes "B") (alias_field (codes "x") (codes "e") (ty.named (codes "String")) 2 end end) end)) ≡ at 2 ∷ []
 two_objects_two_shapes = refl
 
 -- `...on A{x:a} ...on B{x:b} x:a`: the third, which differs from the second
@@ -93,19 +93,19 @@ pub fourth_is_good : on_interface (on (codes "A") (x (codes "a") 1 end) (on (cod
 fourth_is_good = refl
 
 -- `x:c{c{x:a}} x:c{c{x:b}}`: the innermost field alone
-pub innermost : on_object (aliased (codes "x") (codes "c") (ty.named (codes "I")) 1 (c 2 (x (codes "a") 3 end) end) (aliased (codes "x") (codes "c") (ty.named (codes "I")) 4 (c 5 (x (codes "b") 6 end) end) end))
+pub innermost : on_object (alias_field (codes "x") (codes "c") (ty.named (codes "I")) 1 (c 2 (x (codes "a") 3 end) end) (alias_field (codes "x") (codes "c") (ty.named (codes "I")) 4 (c 5 (x (codes "b") 6 end) end) end))
     ≡ at 6 ∷ []
 innermost = refl
 
 -- `x:c{x:a} x:d{x:b}`: the second field and the one below it
-pub outer_and_inner : on_object (aliased (codes "x") (codes "c") (ty.named (codes "I")) 7 (x (codes "a") 8 end) (aliased (codes "x") (codes "d") (ty.named (codes "I")) 9 (x (codes "b") 4 end) end)) ≡ at 9 ∷ at 4 ∷ []
+pub outer_and_inner : on_object (alias_field (codes "x") (codes "c") (ty.named (codes "I")) 7 (x (codes "a") 8 end) (alias_field (codes "x") (codes "d") (ty.named (codes "I")) 9 (x (codes "b") 4 end) end)) ≡ at 9 ∷ at 4 ∷ []
 outer_and_inner = refl
 
 -- `...on A{c{x:a}} ...on B{c{x:b}}`: none below parents that do not meet; a shape is asked there too
 pub below_two_objects : on_interface (on (codes "A") (c 1 (x (codes "a") 2 end) end) (on (codes "B") (c 3 (x (codes "b") 4 end) end) end)) ≡ []
 below_two_objects = refl
 
-pub below_two_objects_two_shapes : on_interface (on (codes "A") (c 1 (x (codes "a") 2 end) end) (on (codes "B") (c 3 (aliased (codes "x") (codes "a") (ty.non_null int) 4 end end) end) end)) ≡ at 4 ∷ []
+pub below_two_objects_two_shapes : on_interface (on (codes "A") (c 1 (x (codes "a") 2 end) end) (on (codes "B") (c 3 (alias_field (codes "x") (codes "a") (ty.non_null int) 4 end end) end) end)) ≡ at 4 ∷ []
 below_two_objects_two_shapes = refl
 
 -- `c{x:a} ...on A{c{x:a}} ...on B{c{x:b}}`: the last
@@ -113,11 +113,11 @@ pub below_interface : on_interface (c 1 (x (codes "a") 2 end) (on (codes "A") (c
 below_interface = refl
 
 -- `x:a x:c{x:a}`: a leaf and a composite field
-pub leaf_and_composite : on_object (x (codes "a") 1 (aliased (codes "x") (codes "c") (ty.named (codes "I")) 2 (x (codes "a") 3 end) end)) ≡ at 2 ∷ []
+pub leaf_and_composite : on_object (x (codes "a") 1 (alias_field (codes "x") (codes "c") (ty.named (codes "I")) 2 (x (codes "a") 3 end) end)) ≡ at 2 ∷ []
 leaf_and_composite = refl
 
 -- lists and non-null forms
-pub list_and_none : on_object (x (codes "a") 1 (aliased (codes "x") (codes "a") (ty.list int) 2 end end)) ≡ at 2 ∷ []
+pub list_and_none : on_object (x (codes "a") 1 (alias_field (codes "x") (codes "a") (ty.list int) 2 end end)) ≡ at 2 ∷ []
 list_and_none = refl
 
 abbrev with_arguments : List (Text × Val) → ℕ → (rest : Nodes) → Nodes

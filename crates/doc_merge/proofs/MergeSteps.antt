@@ -5,7 +5,7 @@ use Rattle.std.specs.List.{filter, list_any}
 use Rattle.gql_ast.specs.declared.place.FilePlace.{FilePlace}
 use Rattle.schema_tables.specs.Types.{Text, Defs}
 use Rattle.doc_merge.proofs.Anys.{any-map, any_same}
-use Rattle.doc_merge.proofs.Bridge.{differing_is}
+use Rattle.doc_merge.proofs.Bridge.{differences_are}
 use Rattle.doc_merge.proofs.GroupLaws.{every_true, group_faults, group_places, own_rows}
 use Rattle.doc_merge.proofs.JoinedSets.{faulty_mapped, items_of_set}
 use Rattle.doc_merge.proofs.LeastSteps.{least-append, least_by_members}
@@ -14,7 +14,7 @@ use Rattle.doc_merge.proofs.SetLaws.{in_turn, in_turn_any, set_faults}
 use Rattle.doc_merge.specs.Cells.{Mark, mark_row, none_seen, others}
 use Rattle.doc_merge.specs.GroupView as kept
 use Rattle.doc_merge.specs.Joined.{every, has_key, inner_rows, is_parted, own_row, row_parent, rows_depth, shapes_unlike}
-use Rattle.doc_merge.specs.Merging.{Fields, no_fields, field, differing}
+use Rattle.doc_merge.specs.Merging.{Fields, no_fields, field, differences}
 use Rattle.doc_merge.specs.Paths.{Item, Path, Pattern, Row, clash, conflict, faulty, items, item_place, paths, place_of, places_of, rows_of}
 use Rattle.doc_merge.specs.Places.{least, least_from}
 use Rattle.doc_merge.specs.RowView.{mark_of, parent_of, row_of}
@@ -102,13 +102,13 @@ group_faulty defs rs = places_of (map (row_of defs) rs)
 -- what is kept under the keys, as far as the loop has come
 pub record Turn (defs : Defs) (rows : List code.Row) (i : ℕ) (now start : Option FilePlace) (tells : Text → List code.Row) : Type 0 where
   pub deep : (n : Text) → rows_depth (map (row_of defs) (tells n)) ≤ rows_depth (map (row_of defs) rows)
-  pub keyed : (n : Text) → every (has_key n) (map (row_of defs) (tells n))
+  pub has_keys : (n : Text) → every (has_key n) (map (row_of defs) (tells n))
   pub left : least_from now (in_turn (group_faulty defs) tells (keys (drop i rows))) ≡ least_from start (in_turn (group_faulty defs) (λ n. filter (kept.has_key n) rows) (keys rows))
 
 pub turn_first : (defs : Defs) (rows : List code.Row) (o : Option FilePlace) → Turn defs rows 0 o o (λ n. filter (kept.has_key n) rows)
 turn_first defs rows o = record {
   deep = λ n. let same : rows_depth (map (row_of defs) (filter (kept.has_key n) rows)) ≡ rows_depth (filter (has_key n) (map (row_of defs) rows)) = ap rows_depth (filtered_are defs n rows) in omega (arith, same, filter_depth n (map (row_of defs) rows));
-  keyed = λ n. subst (λ (ws : List Row). every (has_key n) ws) (sym (filtered_are defs n rows)) (filter_keyed n (map (row_of defs) rows));
+  has_keys = λ n. subst (λ (ws : List Row). every (has_key n) ws) (sym (filtered_are defs n rows)) (filter_keyed n (map (row_of defs) rows));
   left = refl;
 }
 
@@ -119,7 +119,7 @@ pub turn_next : (defs : Defs) (rows : List code.Row) (i : ℕ) (row : code.Row) 
     → group ≡ tells row.field.key.now → p ≡ least_from o (group_faulty defs group) → Turn defs rows i o start tells → Turn defs rows (i + 1) p start (without row.field.key.now tells)
 turn_next defs rows i row group o p start tells h is e f t = record {
   deep = λ n. deep n (bytes_eq row.field.key.now n);
-  keyed = λ n. keyed n (bytes_eq row.field.key.now n);
+  has_keys = λ n. has_keys n (bytes_eq row.field.key.now n);
   left =
       (λ j. least_from ((f ∙ ap (λ (rs : List code.Row). least_from o (group_faulty defs rs)) e) j) (in_turn (group_faulty defs) (without row.field.key.now tells) (keys (drop (i + 1) rows))))
       ∙ sym (least-append o (group_faulty defs (tells row.field.key.now)) (in_turn (group_faulty defs) (without row.field.key.now tells) (keys (drop (i + 1) rows))))
@@ -129,9 +129,9 @@ turn_next defs rows i row group o p start tells h is e f t = record {
   deep n true = omega arith
   deep n false = t.deep n
 
-  keyed : (n : Text) (b : Bool) → every (has_key n) (map (row_of defs) (cond b [] (tells n)))
-  keyed n true = tt
-  keyed n false = t.keyed n
+  has_keys : (n : Text) (b : Bool) → every (has_key n) (map (row_of defs) (cond b [] (tells n)))
+  has_keys n true = tt
+  has_keys n false = t.has_keys n
 
 pub turn_end : (defs : Defs) (rows : List code.Row) (i : ℕ) (o start : Option FilePlace) (tells : Text → List code.Row) → length rows ≤ i → Turn defs rows i o start tells
     → o ≡ least_from start (places_of (map (row_of defs) rows))
@@ -148,12 +148,12 @@ turn_end defs rows i o start tells h t =
 
 -- ---- the whole set
 
-pub whole_set : (fs : Fields) → least_from None (places_of (rows_of [] fs)) ≡ least (differing fs)
-whole_set fs = least_by_members None (places_of (rows_of [] fs)) (differing fs) (λ p.
+pub whole_set : (fs : Fields) → least_from None (places_of (rows_of [] fs)) ≡ least (differences fs)
+whole_set fs = least_by_members None (places_of (rows_of [] fs)) (differences fs) (λ p.
     any-map item_place p (faulty clash (items (rows_of [] fs)))
     ∙ ap (λ (xs : List Item). list_any (λ (x : Item). p (item_place x)) (faulty clash xs)) (items_of_set [] fs)
     ∙ sym (faulty_mapped (conflict true) clash (λ (s : Path). ([], s)) (λ (s : Path). p (place_of s)) (λ (x : Item). p (item_place x)) (λ s. true) (λ s t e f. refl) (λ s. refl) (paths fs) (every_true (paths fs)))
-    ∙ sym (differing_is p fs))
+    ∙ sym (differences_are p fs))
 
 -- ---- the rows below, one row more
 

@@ -20,8 +20,8 @@ path_key (under a s) = a.key
 abbrev item_key : Item → Text
 item_key x = path_key x.1
 
-abbrev keyed : Text → Item → Bool
-keyed k x = bytes_eq k (item_key x)
+abbrev has_item_key : Text → Item → Bool
+has_item_key k x = bytes_eq k (item_key x)
 
 clash_keys : (x y : Item) → clash x y ≡ true → item_key x ≡ item_key y
 clash_keys x y = on (all_meet x.0 y.0) x.1 y.1 where
@@ -31,18 +31,18 @@ clash_keys x y = on (all_meet x.0 y.0) x.1 y.1 where
   on m (here a) (under b t) e = absurd (true≢false (sym e))
   on m (under a s) (here b) e = absurd (true≢false (sym e))
 
-row_keyed : (k : Text) (w : Row) (b : Bool) → bytes_eq k w.1.key ≡ b → filter (keyed k) (items_of_row w) ≡ cond b (items_of_row w) []
+row_keyed : (k : Text) (w : Row) (b : Bool) → bytes_eq k w.1.key ≡ b → filter (has_item_key k) (items_of_row w) ≡ cond b (items_of_row w) []
 row_keyed k w true e =
-    (λ i. cond (e i) ((w.0, here w.1) ∷ filter (keyed k) (map (λ (s : Path). (w.0, under w.1 s)) (paths w.2))) (filter (keyed k) (map (λ (s : Path). (w.0, under w.1 s)) (paths w.2))))
-    ∙ ap (λ (xs : List Item). (w.0, here w.1) ∷ xs) (filter_map_all (keyed k) (λ (s : Path). (w.0, under w.1 s)) (λ s. e) (paths w.2))
+    (λ i. cond (e i) ((w.0, here w.1) ∷ filter (has_item_key k) (map (λ (s : Path). (w.0, under w.1 s)) (paths w.2))) (filter (has_item_key k) (map (λ (s : Path). (w.0, under w.1 s)) (paths w.2))))
+    ∙ ap (λ (xs : List Item). (w.0, here w.1) ∷ xs) (filter_map_all (has_item_key k) (λ (s : Path). (w.0, under w.1 s)) (λ s. e) (paths w.2))
 row_keyed k w false e =
-    (λ i. cond (e i) ((w.0, here w.1) ∷ filter (keyed k) (map (λ (s : Path). (w.0, under w.1 s)) (paths w.2))) (filter (keyed k) (map (λ (s : Path). (w.0, under w.1 s)) (paths w.2))))
-    ∙ filter_map_none (keyed k) (λ (s : Path). (w.0, under w.1 s)) (λ s. e) (paths w.2)
+    (λ i. cond (e i) ((w.0, here w.1) ∷ filter (has_item_key k) (map (λ (s : Path). (w.0, under w.1 s)) (paths w.2))) (filter (has_item_key k) (map (λ (s : Path). (w.0, under w.1 s)) (paths w.2))))
+    ∙ filter_map_none (has_item_key k) (λ (s : Path). (w.0, under w.1 s)) (λ s. e) (paths w.2)
 
-items_keyed : (k : Text) (ws : List Row) → filter (keyed k) (items ws) ≡ items (filter (has_key k) ws)
+items_keyed : (k : Text) (ws : List Row) → filter (has_item_key k) (items ws) ≡ items (filter (has_key k) ws)
 items_keyed k [] = refl
 items_keyed k (w ∷ ws) =
-    filter-append (keyed k) (items_of_row w) (items ws)
+    filter-append (has_item_key k) (items_of_row w) (items ws)
     ∙ (λ i. row_keyed k w (bytes_eq k w.1.key) refl i ++ items_keyed k ws i)
     ∙ on (bytes_eq k w.1.key) where
       on : (b : Bool) → cond b (items_of_row w) [] ++ items (filter (has_key k) ws) ≡ items (cond b (w ∷ filter (has_key k) ws) (filter (has_key k) ws))
@@ -52,7 +52,7 @@ items_keyed k (w ∷ ws) =
 -- ---- each item has the key of a row
 
 abbrev in_row : Item → Row → Bool
-in_row x w = keyed w.1.key x
+in_row x w = has_item_key w.1.key x
 
 abbrev is_in : List Row → Item → Bool
 is_in ws x = list_any (in_row x) ws
@@ -107,10 +107,10 @@ by_classes s cs q xs h =
 pub set_faults : (p : FilePlace → Bool) (ws : List Row) → list_any p (places_of ws) ≡ list_any (λ (w : Row). list_any p (places_of (filter (has_key w.1.key) ws))) ws
 set_faults p ws =
     any-map item_place p (faulty clash (items ws))
-    ∙ by_classes (λ (w : Row) (x : Item). keyed w.1.key x) ws (λ (x : Item). p (item_place x)) (faulty clash (items ws)) (every_faulty (is_in ws) clash (items ws) (items_in ws))
-    ∙ any_same (λ (w : Row). list_any (λ (x : Item). p (item_place x)) (filter (keyed w.1.key) (faulty clash (items ws)))) (λ (w : Row). list_any p (places_of (filter (has_key w.1.key) ws)))
+    ∙ by_classes (λ (w : Row) (x : Item). has_item_key w.1.key x) ws (λ (x : Item). p (item_place x)) (faulty clash (items ws)) (every_faulty (is_in ws) clash (items ws) (items_in ws))
+    ∙ any_same (λ (w : Row). list_any (λ (x : Item). p (item_place x)) (filter (has_item_key w.1.key) (faulty clash (items ws)))) (λ (w : Row). list_any p (places_of (filter (has_key w.1.key) ws)))
     (λ w. ap (list_any (λ (x : Item). p (item_place x)))
-    (class_faulty clash (keyed w.1.key) (λ x y e. ap (λ (n : Text). bytes_eq w.1.key n) (sym (clash_keys x y e))) (items ws) ∙ ap (faulty clash) (items_keyed w.1.key ws))
+    (class_faulty clash (has_item_key w.1.key) (λ x y e. ap (λ (n : Text). bytes_eq w.1.key n) (sym (clash_keys x y e))) (items ws) ∙ ap (faulty clash) (items_keyed w.1.key ws))
     ∙ sym (any-map item_place p (faulty clash (items (filter (has_key w.1.key) ws))))) ws
 
 -- ---- groups that are taken out in turn

@@ -7,7 +7,7 @@ use Rattle.schema_rules.specs.declared.fault.Rule.{Rule}
 use Rattle.schema_rules.specs.declared.fault.Rule.TheVariants as R
 use Rattle.schema_tables.specs.Types.{Defs}
 use Rattle.doc_merge.specs.Gathering.{fields_in}
-use Rattle.doc_merge.specs.Merging.{differing}
+use Rattle.doc_merge.specs.Merging.{differences}
 use Rattle.doc_merge.specs.Places.{least}
 use Rattle.doc_merge.specs.Values.{nodes_unfit}
 use Rattle.doc_merge.specs.declared.fault.MergeFault.{MergeFault}
@@ -20,8 +20,8 @@ values_unfit defs None e = []
 values_unfit defs (Some k) e = nodes_unfit defs e.variables e.root e.selections
 
 -- V24
-abbrev pub fields_differing : Defs → Expanded → List FilePlace
-fields_differing defs e = differing (fields_in defs e)
+abbrev pub field_differences : Defs → Expanded → List FilePlace
+field_differences defs e = differences (fields_in defs e)
 
 abbrev pub fault_of : Rule → FilePlace → PlaceFault
 fault_of r p = record { rule = r; place = p }
@@ -32,7 +32,7 @@ fault_or None (Some q) = Some (fault_of R.V24 q)
 fault_or None None = None
 
 abbrev pub first_fault : Defs → Expanded → Option PlaceFault
-first_fault defs e = fault_or (least (values_unfit defs e.kind e)) (least (fields_differing defs e))
+first_fault defs e = fault_or (least (values_unfit defs e.kind e)) (least (field_differences defs e))
 
 -- whether a check answers this fault
 abbrev pub IsFirstFault : Defs → Expanded → MergeFault → Type 0

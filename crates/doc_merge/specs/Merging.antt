@@ -43,6 +43,6 @@ crossing merging no_fields bs = []
 crossing merging (field a below next) bs = against merging a (λ (m : Bool) (cs : Fields). crossing m below cs) bs ++ crossing merging next bs
 
 -- the places of the later fields of the pairs that differ, in a set and in the sets below it
-abbrev pub differing : Fields → List FilePlace
-differing no_fields = []
-differing (field a below next) = differing below ++ against true a (λ (m : Bool) (cs : Fields). crossing m below cs) next ++ differing next
+abbrev pub differences : Fields → List FilePlace
+differences no_fields = []
+differences (field a below next) = differences below ++ against true a (λ (m : Bool) (cs : Fields). crossing m below cs) next ++ differences next

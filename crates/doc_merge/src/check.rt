@@ -4,7 +4,7 @@ ghost use Rattle.doc_merge.specs.Faults as spec;
 ghost use Rattle.doc_merge.specs.Faults.{IsFirstFault, first_fault};
 
 use crate::fault::{MergeFault, PlaceFault};
-use crate::merging::least_differing;
+use crate::merging::least_difference;
 use crate::values::least_unfit;
 use gql_ast::FilePlace;
 use plan_ir::Expanded;
@@ -25,7 +25,7 @@ pub fn check_merge(alloc: Global, schema: &Schema, expanded: &Expanded) -> Resul
     ensures fault { IfErr result (IsFirstFault schema.now expanded.now) }
 {
     let values = least_unfit(alloc, schema, expanded)?;
-    let fields = least_differing(alloc, schema, expanded)?;
+    let fields = least_difference(alloc, schema, expanded)?;
     match fault_or(values, fields) {
         Some(fault) => Err(MergeFault::Rule(fault)),
         None => Ok(()),

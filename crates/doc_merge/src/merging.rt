@@ -8,7 +8,7 @@ ghost use Rattle.std.specs.Prelude.{◌≡◌, map, IfOk, OnOk};
 ghost use Rattle.schema_tables.specs.Types.{Text};
 ghost use Rattle.doc_merge.specs.Gathering.{fields_in};
 ghost use Rattle.doc_merge.specs.Joined as joined;
-ghost use Rattle.doc_merge.specs.Merging.{differing};
+ghost use Rattle.doc_merge.specs.Merging.{differences};
 ghost use Rattle.doc_merge.specs.Paths.{places_of};
 ghost use Rattle.doc_merge.specs.Places.{least, least_from};
 ghost use Rattle.doc_merge.specs.RowView.{row_of};
@@ -27,12 +27,12 @@ use schema_types::Schema;
 use std::alloc::Global;
 
 /// The least place where the fields of an expanded operation or fragment differ.
-pub(crate) fn least_differing(
+pub(crate) fn least_difference(
     alloc: Global,
     schema: &Schema,
     expanded: &Expanded,
 ) -> Result<Option<FilePlace>, NoMemory>
-    ensures { IfOk result (λ found. found ≡ least (differing (fields_in schema.now expanded.now))) }
+    ensures { IfOk result (λ found. found ≡ least (differences (fields_in schema.now expanded.now))) }
 {
     let mut rows = Vec::new(alloc);
     let around = expanded.root.as_str();

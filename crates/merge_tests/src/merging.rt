@@ -38,6 +38,9 @@ ok||a { x:a@skip(if:true) x:a@skip(if:false) }";
 /// Fields on two object types need one shape alone.
 const OBJECTS: &str = "ok||i { ...A { x:a } ...B { x:b } }
 V24 5||i { ...A { x:a } ...B { x:e } }
+V24 5||i { ...A { x:a } ...B { x:n } }
+V24 5||i { ...A { x:a } ...B { x:l } }
+V24 5||i { ...A { x:a } ...B { x:c { a } } }
 V24 5||i { ...A { x:a } ...A { x:b } }
 V24 6||i { ...A { x:a } ...B { x:b } x:a }
 V24 6||i { ...A { x:a } ...B { x:b } x:a ...A { x:a } }
@@ -49,6 +52,10 @@ V24 4||a { x:a ...I { x:b } }";
 
 /// The sub-selections of fields that are merged.
 const BELOW: &str = "V24 7||a { x:c { c { k:a } } x:c { c { k:b } } }
+V24 7||a { x:c { c { k:a } } x:c { c { k:n } } }
+V24 7||a { x:c { c { k:a } } x:c { c { k:l } } }
+V24 7||a { x:c { c { k:a } } x:c { c { k:e } } }
+V24 7||a { x:c { c { k:a(p:1) } } x:c { c { k:a(p:2) } } }
 V24 4||a { x:c { k:a } x:d { k:b } }
 V24 5||#10 a { x:c { k:a } #20 x:d { #5 k:b } }
 ok||i { ...A { c { k:a } } ...B { c { k:b } } }

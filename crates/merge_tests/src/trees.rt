@@ -6,7 +6,9 @@
 ghost use Rattle.std.specs.Prelude.{◌<◌, length};
 
 use doc_merge::{MergeFault, check_merge};
-use gql_ast::{Definition, Directives, FilePlace, Kind, Operation, Selection, TypeTree, VariableDefs};
+use gql_ast::{
+    Definition, Directives, FilePlace, Kind, Operation, Selection, TypeTree, VariableDefs,
+};
 use gql_parse::parse_document;
 use gql_plain::Name;
 use gql_sdl::parse_schema;
@@ -20,11 +22,11 @@ use std::test::Fail;
 const SCHEMA: &str = "interface I{a(p:Int q:Int o:O):Int b:Int e:String n:Int! l:[Int] c:I d:I}\
     type A implements I{a(p:Int q:Int o:O):Int b:Int e:String n:Int! l:[Int] c:I d:I}\
     type B implements I{a(p:Int q:Int o:O):Int b:Int e:String n:Int! l:[Int] c:I d:I}\
-    input O{x:Int y:Int z:[Int!] m:[[Int]]}\
-    type Query{i:I a:A b:B f(s:Int! t:Int!=1 u:[Int!]):Int}";
+    input O{x:Int y:Int z:[Int!] m:[[Int]] o:O}\
+    type Query{i:I a:A b:B f(s:String! t:Int!=1 u:[Int!]):Int}";
 
 /// The bytes, or none where they are too many for a test.
-fn short(bytes: &[u8]) -> &[u8]
+fn shorten(bytes: &[u8]) -> &[u8]
     ensures { length result.now < 2000000 }
 {
     if bytes.len() < 2_000_000 {
@@ -34,13 +36,13 @@ fn short(bytes: &[u8]) -> &[u8]
 }
 
 fn schema(alloc: Global) -> Result<Schema, Fail> {
-    let tree = parse_schema(alloc, 0, short(SCHEMA.as_bytes()))?;
+    let tree = parse_schema(alloc, 0, shorten(SCHEMA.as_bytes()))?;
     Ok(Schema::build(alloc, tree.tree.definitions)?)
 }
 
 /// The first operation of a text.
 fn operation(alloc: Global, text: &str) -> Result<Operation, Fail> {
-    let document = parse_document(alloc, 0, short(text.as_bytes()))?;
+    let document = parse_document(alloc, 0, shorten(text.as_bytes()))?;
     for definition in document.tree.definitions.as_slice() {
         if let Definition::Operation(operation) = definition {
             return Ok(operation.copy()?);
@@ -56,7 +58,7 @@ fn name_or(alloc: Global, name: &Option<Name>, other: &str) -> Result<Name, Fail
     }
 }
 
-fn optional(name: &Option<Name>) -> Result<Option<Name>, Fail> {
+fn copy_name(name: &Option<Name>) -> Result<Option<Name>, Fail> {
     match name {
         Some(name) => Ok(Some(name.copy()?)),
         None => Ok(None),
@@ -110,7 +112,7 @@ fn head_of(
         }
         Selection::Inline { on, directives, .. } => {
             let node = Node::Inline {
-                on: optional(on)?,
+                on: copy_name(on)?,
                 directives: directives.copy()?,
                 selections: Nodes::new(alloc),
                 place,
@@ -133,7 +135,7 @@ fn text_of_word(alloc: Global, word: &str) -> Result<String, Fail> {
 }
 
 /// The node of a word.
-fn head(
+fn read_head(
     alloc: Global,
     schema: &Schema,
     around: &str,
@@ -154,7 +156,7 @@ fn head(
 }
 
 /// The node with this inside it.
-fn filled(node: Node, inside: Nodes) -> Node {
+fn fill(node: Node, inside: Nodes) -> Node {
     match node {
         Node::Field {
             response,
@@ -247,7 +249,7 @@ impl Walk {
         let inside = std::mem::replace(&mut self.nodes, level.before);
         let around = std::mem::replace(&mut self.around, level.around);
         self.last = Some(Head {
-            node: filled(level.node, inside),
+            node: fill(level.node, inside),
             inside: around,
         });
         Ok(())
@@ -262,7 +264,7 @@ impl Walk {
             return Ok(());
         }
         self.count = self.count.saturating_add(1);
-        let head = head(alloc, schema, self.around.as_str(), self.count, word)?;
+        let head = read_head(alloc, schema, self.around.as_str(), self.count, word)?;
         self.last = Some(head);
         Ok(())
     }
@@ -298,7 +300,7 @@ fn variables(alloc: Global, text: &str) -> Result<VariableDefs, Fail> {
 }
 
 /// A fragment on a type, or an operation with variables.
-fn expanded(alloc: Global, schema: &Schema, head: &str, text: &str) -> Result<Expanded, Fail> {
+fn expand(alloc: Global, schema: &Schema, head: &str, text: &str) -> Result<Expanded, Fail> {
     let (kind, root, defined) = match head.strip_prefix("on ") {
         Some(root) => (None, root, ""),
         None => (Some(Kind::Query), "Query", head),
@@ -315,7 +317,7 @@ fn expanded(alloc: Global, schema: &Schema, head: &str, text: &str) -> Result<Ex
 
 /// The rule that a tree does not meet, and the column; `ok` where it meets both.
 fn answer(alloc: Global, schema: &Schema, head: &str, text: &str) -> Result<String, Fail> {
-    let expanded = expanded(alloc, schema, head, text)?;
+    let expanded = expand(alloc, schema, head, text)?;
     match check_merge(alloc, schema, &expanded) {
         Ok(()) => Ok(format!(in alloc; "ok")?),
         Err(MergeFault::Rule(fault)) => {

@@ -10,6 +10,8 @@ V23 1||f(s:null)
 V23 1||f(s:\"s\",t:null)
 ok||a { a(o:{m:1}) }
 V23 2||a { a(o:{m:[1]}) }
+ok||a { a(o:{o:{o:{x:1}}}) }
+V23 2||a { a(o:{o:{o:{x:\"s\"}}}) }
 V23 2||a { ...@skip(if:1) { a } }
 V23 2||a { a@include(if:1) }
 V23 4||a { x:a x:b x:a(p:\"s\") }
@@ -22,6 +24,7 @@ V23 2|$v:String|a { a(p:$v) }
 ok|$v:Int|a { a(o:{x:$v}) }
 V23 2|$v:String|a { a(o:{x:$v}) }
 V23 2|$v:Int|a { a(o:{z:[$v]}) }
+V23 2|$v:Int|a { a(o:{o:{o:{z:[1,$v]}}}) }
 ok|$v:Int!|a { a(o:{z:[$v]}) }
 V23 1|$v:String|f(s:$v)
 ok|$v:String=\"x\"|f(s:$v)

@@ -10,6 +10,7 @@ use Rattle.plan_project.specs.Lookups.{definitions_in, or_else, first_of, compil
 use Rattle.plan_project.specs.Projects.{IsAccepted, IsAcceptedProject}
 use Rattle.plan_project.specs.declared.operations.Compiled.{Compiled}
 use Rattle.plan_project.specs.declared.operations.CompiledFragment.{CompiledFragment}
+use Rattle.relay_dirs.specs.RelayRules.{relay_rules}
 use Rattle.schema_types.specs.DocumentRules.{field_rules, argument_rules, trees_of}
 use Rattle.schema_types.specs.NameRules.{operations_not_named, fragments_not_unique, conditions_wrong, conditions_in, not_composite, fragments_not_there, spreads_on_cycles, without_root, roots_missing}
 use Rattle.gql_graph.specs.Rules.{each, wrong, first_broken}
@@ -137,7 +138,7 @@ module _ (defs : Defs) (ps : List (Placed Document)) (n : Text) (a : IsAcceptedP
   all = documents_at defs 0 (trees_of ps)
 
   abbrev others : List (Rule × List ℕ)
-  others = field_rules defs all ++ argument_rules defs all
+  others = field_rules defs all ++ (argument_rules defs all ++ relay_rules defs all)
 
   pub operation_has_root : IfSome (operation defs ps n) (HasRoot defs)
   operation_has_root =

@@ -6,6 +6,8 @@ use Rattle.gql_ast.specs.declared.schema.SchemaTree.{SchemaTree}
 use Rattle.gql_graph.specs.Rules.{first_broken}
 use Rattle.gql_sdl.specs.Trees.{IsSchema}
 use Rattle.plan_project.specs.Projects.{AreDocuments, document_rules}
+use Rattle.relay_dirs.proofs.RulePlaces.{relay_rules_below}
+use Rattle.relay_dirs.specs.RelayRules.{relay_rules}
 use Rattle.schema_rules.proofs.RulePlaces.{fault_below}
 use Rattle.schema_rules.specs.Checked.{first_fault}
 use Rattle.schema_rules.specs.declared.fault.NodeFault.{NodeFault}
@@ -43,8 +45,10 @@ node_below defs ds found e =
     let m = documents_nodes ds in
     let here = all_definitions defs ds in
     let below = all_below defs ds in
-    let later = all_append (λ (r : Rule × List ℕ). Below m r.1) (field_rules defs here) (argument_rules defs here) (field_rules_below m defs here below) (argument_rules_below m defs here below) in
-    let all = all_append (λ (r : Rule × List ℕ). Below m r.1) (name_rules defs here) (field_rules defs here ++ argument_rules defs here) (name_rules_below m defs here below) later in
+    let last = all_append (λ (r : Rule × List ℕ). Below m r.1) (argument_rules defs here) (relay_rules defs here) (argument_rules_below m defs here below) (relay_rules_below m defs here below) in
+    let later = all_append (λ (r : Rule × List ℕ). Below m r.1) (field_rules defs here) (argument_rules defs here ++ relay_rules defs here) (field_rules_below m defs here below) last in
+    let all =
+    all_append (λ (r : Rule × List ℕ). Below m r.1) (name_rules defs here) (field_rules defs here ++ (argument_rules defs here ++ relay_rules defs here)) (name_rules_below m defs here below) later in
     below_first m (document_rules defs here) all found e
 
 -- of documents that were read

@@ -1,9 +1,10 @@
--- The rules on documents in three groups, one after another.
+-- The rules on documents in four groups, one after another.
 use Rattle.std.proofs.Common.{List, ◌++◌, ◌∙◌}
 use Rattle.gql_ast.specs.declared.document.Document.{Document}
 use Rattle.gql_ast.specs.declared.place.Placed.{Placed}
 use Rattle.plan_project.specs.Projects.{document_rules}
 use Rattle.gql_graph.proofs.LeastSteps.{first_before, first_after}
+use Rattle.relay_dirs.specs.RelayRules.{relay_rules}
 use Rattle.schema_types.specs.DocumentRules.{Rules, name_rules, field_rules, argument_rules, trees_of, Meet, BreakRule, AreFaulty}
 use Rattle.schema_types.specs.Sites.{DefinitionAt, all_definitions}
 use Rattle.schema_tables.specs.Types.{Defs}
@@ -15,18 +16,30 @@ module _ (defs : Defs) (ps : List (Placed Document)) where
   abbrev ds : List DefinitionAt
   ds = all_definitions defs (trees_of ps)
 
-  -- the rules on fields and those on arguments
+  -- the rules on arguments, and those on the directives after Relay
+  abbrev last : Rules
+  last = argument_rules defs ds ++ relay_rules defs ds
+
+  -- the rules on fields, and those after them
   abbrev later : Rules
-  later = field_rules defs ds ++ argument_rules defs ds
+  later = field_rules defs ds ++ last
 
   names_broken : (f : NodeFault) → BreakRule name_rules defs ps f → BreakRule document_rules defs ps f
   names_broken f b = first_before (name_rules defs ds) later (f.rule, f.node) b
 
   fields_broken : (f : NodeFault) → Meet name_rules defs ps → BreakRule field_rules defs ps f → BreakRule document_rules defs ps f
-  fields_broken f names b = first_after (name_rules defs ds) later names ∙ first_before (field_rules defs ds) (argument_rules defs ds) (f.rule, f.node) b
+  fields_broken f names b = first_after (name_rules defs ds) later names ∙ first_before (field_rules defs ds) last (f.rule, f.node) b
 
   arguments_broken : (f : NodeFault) → Meet name_rules defs ps → Meet field_rules defs ps → BreakRule argument_rules defs ps f → BreakRule document_rules defs ps f
-  arguments_broken f names fields b = first_after (name_rules defs ds) later names ∙ first_after (field_rules defs ds) (argument_rules defs ds) fields ∙ b
+  arguments_broken f names fields b =
+      first_after (name_rules defs ds) later names ∙ first_after (field_rules defs ds) last fields
+      ∙ first_before (argument_rules defs ds) (relay_rules defs ds) (f.rule, f.node) b
+
+  relay_broken : (f : NodeFault) → Meet name_rules defs ps → Meet field_rules defs ps → Meet argument_rules defs ps → BreakRule relay_rules defs ps f
+      → BreakRule document_rules defs ps f
+  relay_broken f names fields arguments b =
+      first_after (name_rules defs ds) later names ∙ first_after (field_rules defs ds) last fields
+      ∙ first_after (argument_rules defs ds) (relay_rules defs ds) arguments ∙ b
 
   pub names_faulty : (e : RuleFault) → AreFaulty name_rules defs ps e → AreFaulty document_rules defs ps e
   names_faulty F.NoMemory h = tt
@@ -39,3 +52,13 @@ module _ (defs : Defs) (ps : List (Placed Document)) where
   pub arguments_faulty : (e : RuleFault) → Meet name_rules defs ps → Meet field_rules defs ps → AreFaulty argument_rules defs ps e → AreFaulty document_rules defs ps e
   arguments_faulty F.NoMemory names fields h = tt
   arguments_faulty (F.Rule f) names fields h = arguments_broken f names fields h
+
+  pub relay_faulty : (e : RuleFault) → Meet name_rules defs ps → Meet field_rules defs ps → Meet argument_rules defs ps → AreFaulty relay_rules defs ps e
+      → AreFaulty document_rules defs ps e
+  relay_faulty F.NoMemory names fields arguments h = tt
+  relay_faulty (F.Rule f) names fields arguments h = relay_broken f names fields arguments h
+
+  pub all_met : Meet name_rules defs ps → Meet field_rules defs ps → Meet argument_rules defs ps → Meet relay_rules defs ps → Meet document_rules defs ps
+  all_met names fields arguments relay =
+      first_after (name_rules defs ds) later names ∙ first_after (field_rules defs ds) last fields
+      ∙ first_after (argument_rules defs ds) (relay_rules defs ds) arguments ∙ relay

@@ -14,6 +14,7 @@ use Rattle.gql_syntax.specs.Texts.{IsParseFault}
 use Rattle.gql_graph.specs.Rules.{first_broken}
 use Rattle.plan_project.specs.Faults.{IsFound}
 use Rattle.plan_project.specs.declared.fault.ProjectFault.{ProjectFault}
+use Rattle.relay_dirs.specs.RelayRules.{relay_rules}
 use Rattle.schema_rules.specs.Checked.{IsSound, first_fault}
 use Rattle.schema_types.specs.DocumentRules.{Rules, name_rules, field_rules, argument_rules, trees_of, places_of, Meet}
 use Rattle.schema_types.specs.Sites.{DefinitionAt, all_definitions}
@@ -35,7 +36,7 @@ pub record AreTrees (schema : Text) (texts : List Text) (tree : Placed SchemaTre
 
 -- all rules on documents in their order
 abbrev pub document_rules : Defs → List DefinitionAt → Rules
-document_rules defs ds = name_rules defs ds ++ (field_rules defs ds ++ argument_rules defs ds)
+document_rules defs ds = name_rules defs ds ++ (field_rules defs ds ++ (argument_rules defs ds ++ relay_rules defs ds))
 
 -- ---- the accepted project: what its schema says, and its documents
 

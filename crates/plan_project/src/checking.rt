@@ -8,10 +8,12 @@ use doc_fields::check_fields_of;
 use doc_names::check_names_of;
 use doc_sites::definitions_at;
 use gql_ast::Documents;
+use relay_dirs::check_relay_of;
 use schema_types::{RuleFault, Schema};
 use std::alloc::Global;
 
-/// Whether documents meet the rules V1 to V16 (GraphQL, October 2021, section 5).
+/// Whether documents meet the rules V1 to V16 (GraphQL, October 2021, section 5), and V17 to V22 on
+/// the directives after Relay and on aliases.
 ///
 /// # Errors
 ///
@@ -27,5 +29,6 @@ pub(crate) fn check_documents(
     let definitions = definitions_at(alloc, schema, documents)?;
     check_names_of(alloc, schema, documents, &definitions)?;
     check_fields_of(alloc, schema, documents, &definitions)?;
-    check_args_of(alloc, schema, documents, &definitions)
+    check_args_of(alloc, schema, documents, &definitions)?;
+    check_relay_of(alloc, schema, documents, &definitions)
 }

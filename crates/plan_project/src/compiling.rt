@@ -27,7 +27,7 @@ pub enum CompileFault {
 /// # Errors
 ///
 /// The fault of the first file that is no text of its grammar; else the first of the rules S1 to S12
-/// that the schema does not meet; else the first of the rules V1 to V16 that the documents do not
+/// that the schema does not meet; else the first of the rules V1 to V22 that the documents do not
 /// meet; each at its least place by file, line and column. `NoMemory`.
 pub fn compile(alloc: Global, files: &[ProjectFile]) -> Result<Project, CompileFault>
     requires least { 2 ≤ length files.now }

@@ -1,3 +1,4 @@
 pub mod Rows
+pub mod RulePlaces
 pub mod SpreadSteps
 pub mod TypeSteps

@@ -7,10 +7,11 @@ use Rattle.gql_lex.specs.Sources.{read}
 use Rattle.schema_types.specs.Sites.{ArgumentAt, DirectiveAt, Site, spread, DefinitionAt, fragment}
 use Rattle.gql_graph.specs.Texts.{Text}
 use Rattle.relay_dirs.specs.Connections.{is_key, is_good_key, are_good_filters, filters_of_value}
-use Rattle.relay_dirs.specs.Locals.{Local, local_of, is_constant}
+use Rattle.relay_dirs.specs.Locals.{Local, local_of}
 use Rattle.relay_dirs.specs.RelayRules.{is_bad_alias, is_good_local, is_truth, aliases_wrong, locals_wrong, masks_wrong}
 use Rattle.relay_dirs.specs.Spreads.{are_given_well, spreads_wrong, use_allowed}
 use Rattle.relay_dirs.specs.TypeTexts.{type_in}
+use Rattle.schema_values.specs.Fittings.{is_constant}
 
 -- ---- the type that a text says
 

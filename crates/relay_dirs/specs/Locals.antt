@@ -1,8 +1,8 @@
 -- The local variables of a fragment: the arguments of its `@argumentDefinitions`, after Relay. Each is an object with `type`, a string that
 -- is a Type, and at most `defaultValue`, each once.
-use Rattle.std.specs.Prelude.{Bool, true, false, ◌&&◌, cond, List, [], ◌∷◌, codes, Option, Some, None, is_some, bytes_eq}
+use Rattle.std.specs.Prelude.{Bool, cond, List, [], ◌∷◌, codes, Option, Some, None, is_some, bytes_eq}
 use Rattle.gql_ast.specs.Ty.{Ty}
-use Rattle.gql_ast.specs.Value.{Val, Vals, Members, variable, text, list, object, no_vals, val, no_members, member}
+use Rattle.gql_ast.specs.Value.{Val, Members, text, object, no_members, member}
 use Rattle.gql_ast.specs.declared.directive.Directive.{Directive}
 use Rattle.gql_graph.specs.Rules.{each}
 use Rattle.schema_types.specs.Sites.{ArgumentAt, DirectiveAt}
@@ -99,20 +99,3 @@ locals_of ds = each locals_at ds
 abbrev pub local_named : List Local → Text → Option Local
 local_named [] n = None
 local_named (l ∷ ls) n = cond (bytes_eq l.name n) (Some l) (local_named ls n)
-
--- ---- values without variables
-
-abbrev mutual
-  pub is_constant : Val → Bool
-  is_constant (variable n) = false
-  is_constant (list vs) = are_constant vs
-  is_constant (object ms) = have_constants ms
-  is_constant v = true
-
-  pub are_constant : Vals → Bool
-  are_constant no_vals = true
-  are_constant (val v vs) = is_constant v && are_constant vs
-
-  pub have_constants : Members → Bool
-  have_constants no_members = true
-  have_constants (member n v ms) = is_constant v && have_constants ms

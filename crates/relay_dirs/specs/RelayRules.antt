@@ -12,8 +12,9 @@ use Rattle.schema_tables.specs.Types.{Text, Defs}
 use Rattle.schema_rules.specs.declared.fault.Rule.TheVariants as R
 use Rattle.gql_ast.specs.Ty.{Ty}
 use Rattle.relay_dirs.specs.Connections.{value_named, keys_wrong, connections_wrong}
-use Rattle.relay_dirs.specs.Locals.{Local, local_of, defines_locals, is_constant}
+use Rattle.relay_dirs.specs.Locals.{Local, local_of, defines_locals}
 use Rattle.relay_dirs.specs.Spreads.{spreads_wrong}
+use Rattle.schema_values.specs.Fittings.{is_constant}
 
 -- ---- V17: each argument of `@argumentDefinitions` says a local variable of an input type, whose default is a constant that fits; the place
 -- is the argument's name

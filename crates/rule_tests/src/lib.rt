@@ -5,6 +5,8 @@
 #[cfg(test)]
 mod arguments;
 #[cfg(test)]
+mod directives;
+#[cfg(test)]
 mod fields;
 #[cfg(test)]
 mod names;
@@ -12,6 +14,8 @@ mod names;
 mod plans;
 #[cfg(test)]
 mod projects;
+#[cfg(test)]
+mod relay_rows;
 #[cfg(test)]
 mod rows;
 #[cfg(test)]

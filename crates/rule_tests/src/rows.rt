@@ -104,7 +104,12 @@ fn first_fault(alloc: Global, schema: &str, documents: &str) -> Result<String, F
 }
 
 /// Compares what is told of each row with what it says.
-fn compare(rt: &impl Abort, alloc: Global, schema: &str, rows: &str) -> Result<(), Fail> {
+pub(crate) fn compare(
+    rt: &impl Abort,
+    alloc: Global,
+    schema: &str,
+    rows: &str,
+) -> Result<(), Fail> {
     for row in rows.lines() {
         if let Some((rule, documents)) = row.split_once(' ') {
             let place = mark_places(alloc, documents)?;

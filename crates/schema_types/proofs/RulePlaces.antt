@@ -36,28 +36,28 @@ value_some (v.list vs) = omega arith
 value_some (v.object ms) = omega arith
 
 module _ (m : ℕ) where
-  abbrev NameIn : Located → Type 0
+  abbrev pub NameIn : Located → Type 0
   NameIn n = n.at < m
 
   abbrev ValueIn : Val → ℕ → Type 0
   ValueIn x n = n + value_nodes x ≤ m
 
-  abbrev ArgumentIn : ArgumentAt → Type 0
+  abbrev pub ArgumentIn : ArgumentAt → Type 0
   ArgumentIn a = HoldsArgument (λ t n. n < m) ValueIn a
 
-  abbrev DirectiveIn : DirectiveAt → Type 0
+  abbrev pub DirectiveIn : DirectiveAt → Type 0
   DirectiveIn d = HoldsDirective (λ t n. n < m) ValueIn d
 
   abbrev VariableIn : VariableAt → Type 0
   VariableIn d = HoldsVariable (λ t n. n < m) ValueIn d
 
-  abbrev SiteIn : Site → Type 0
+  abbrev pub SiteIn : Site → Type 0
   SiteIn s = HoldsSite (λ n. n < m) (λ t n. n < m) ValueIn s
 
-  abbrev OperationIn : OperationAt → Type 0
+  abbrev pub OperationIn : OperationAt → Type 0
   OperationIn o = DefinitionBelow m (operation o)
 
-  abbrev FragmentIn : FragmentAt → Type 0
+  abbrev pub FragmentIn : FragmentAt → Type 0
   FragmentIn f = DefinitionBelow m (fragment f)
 
   -- ---- the parts of definitions
@@ -70,17 +70,17 @@ module _ (m : ℕ) where
   fragment_in (operation o) h = tt
   fragment_in (fragment f) h = h
 
-  operations_here : (ds : List DefinitionAt) → DefinitionsBelow m ds → AllByRecursion OperationIn (operations ds)
+  pub operations_here : (ds : List DefinitionAt) → DefinitionsBelow m ds → AllByRecursion OperationIn (operations ds)
   operations_here ds h = all_filter_map (DefinitionBelow m) OperationIn names.operation_of operation_in ds h
 
-  fragments_here : (ds : List DefinitionAt) → DefinitionsBelow m ds → AllByRecursion FragmentIn (fragments ds)
+  pub fragments_here : (ds : List DefinitionAt) → DefinitionsBelow m ds → AllByRecursion FragmentIn (fragments ds)
   fragments_here ds h = all_filter_map (DefinitionBelow m) FragmentIn names.fragment_of fragment_in ds h
 
-  sites_here : (d : DefinitionAt) → DefinitionBelow m d → AllByRecursion SiteIn (sites_of d)
+  pub sites_here : (d : DefinitionAt) → DefinitionBelow m d → AllByRecursion SiteIn (sites_of d)
   sites_here (operation o) h = h.4
   sites_here (fragment f) h = h.3
 
-  there_of : (o : Option Located) → IfSome o NameIn → IfThere NameIn o
+  pub there_of : (o : Option Located) → IfSome o NameIn → IfThere NameIn o
   there_of None h = tt
   there_of (Some n) h = h
 
@@ -146,7 +146,7 @@ module _ (m : ℕ) where
 
   -- ---- V7 to V11
 
-  each_site : (f : Site → List ℕ) → ((s : Site) → SiteIn s → Below m (f s)) → (ds : List DefinitionAt) → DefinitionsBelow m ds → Below m (each (λ d. each f (sites_of d)) ds)
+  pub each_site : (f : Site → List ℕ) → ((s : Site) → SiteIn s → Below m (f s)) → (ds : List DefinitionAt) → DefinitionsBelow m ds → Below m (each (λ d. each f (sites_of d)) ds)
   each_site f g ds h = below_each m (DefinitionBelow m) (λ d. each f (sites_of d)) (λ d k. below_each m SiteIn f g (sites_of d) (sites_here d k)) ds h
 
   V7 : (defs : Defs) (ds : List DefinitionAt) → DefinitionsBelow m ds → Below m (fields.fields_undefined defs ds)

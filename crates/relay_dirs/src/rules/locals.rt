@@ -12,6 +12,7 @@ ghost use Rattle.doc_sites.specs.SitesView.{argument_of, definition_of, directiv
 ghost use Rattle.relay_dirs.specs.Locals as spec;
 ghost use Rattle.relay_dirs.specs.RelayRules as rules;
 ghost use Rattle.relay_dirs.specs.View.{local_view};
+ghost use Rattle.schema_values.specs.Fittings.{is_constant, are_constant, have_constants};
 
 use crate::local_variables::local_of;
 use doc_sites::{ArgumentAt, DefinitionAt, DirectiveAt};
@@ -164,7 +165,7 @@ fn default_fits(
 /// Whether no variable stands in a value.
 #[cycle(constants)]
 fn is_constant(value: &ValueTree) -> bool
-    ensures { result ≡ spec.is_constant (value_of value.now) }
+    ensures { result ≡ is_constant (value_of value.now) }
 {
     match value {
         ValueTree::Variable(_) => false,
@@ -181,7 +182,7 @@ fn is_constant(value: &ValueTree) -> bool
 /// Whether no variable stands in values.
 #[cycle(constants)]
 fn are_constant(values: &ValueTrees) -> bool
-    ensures { result ≡ spec.are_constant (vals_of values.now) }
+    ensures { result ≡ are_constant (vals_of values.now) }
 {
     'items: for value in values.as_slice() {
         if !is_constant(value) {
@@ -194,7 +195,7 @@ fn are_constant(values: &ValueTrees) -> bool
 /// Whether no variable stands in the values of members.
 #[cycle(constants)]
 fn have_constants(members: &Arguments) -> bool
-    ensures { result ≡ spec.have_constants (members_of members.now) }
+    ensures { result ≡ have_constants (members_of members.now) }
 {
     'members: for member in members.as_slice() {
         if !is_constant(&member.value) {

@@ -29,10 +29,10 @@ note_set-rows-preserved t c =
     let tells = c.rows.invariant.0 in
     let key : Text = c.row-item.result.field.key.now in
     let same : c.deref.result.now ≡ tells key = c.deref.ensures.value ∙ c.take-group.ensures.taken tells c.rows.invariant.1 in
-    let keyed : every (has_key key) (map (row_of c.args.schema.now) c.deref.result.now) = subst (λ (rs : List Row). every (has_key key) (map (row_of c.args.schema.now) rs)) (sym same) (c.rows.invariant.2.keyed key) in (
+    let has_keys : every (has_key key) (map (row_of c.args.schema.now) c.deref.result.now) = subst (λ (rs : List Row). every (has_key key) (map (row_of c.args.schema.now) rs)) (sym same) (c.rows.invariant.2.has_keys key) in (
       without key tells,
       c.take-group.ensures.left tells c.rows.invariant.1,
-      turn_next c.args.schema.now c.args.rows.now c.rows.row-index c.row-item.result c.deref.result.now _ _ _ tells (omega arith) c.row-item.is same (c.in_ok-note_group.ensures key keyed) c.rows.invariant.2,
+      turn_next c.args.schema.now c.args.rows.now c.rows.row-index c.row-item.result c.deref.result.now _ _ _ tells (omega arith) c.row-item.is same (c.in_ok-note_group.ensures key has_keys) c.rows.invariant.2,
     )
 
 pub note_set-returns : goal.note_set-returns

@@ -7,7 +7,7 @@ use Rattle.doc_merge.specs.Places.{least_from}
 use Rattle.doc_merge.specs.RowView.{row_of}
 use Rattle.doc_merge.specs.declared.row.Row as code
 use Rattle.doc_merge.proofs.MergeSteps.{whole_set}
-use Rattle.doc_merge.proofs.merging.least_differing.Goals as goal
+use Rattle.doc_merge.proofs.merging.least_difference.Goals as goal
 
 pub returns : goal.returns
 returns c =

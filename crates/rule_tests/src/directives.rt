@@ -1,8 +1,8 @@
 //! What the directives after Relay say: the local variables of fragments, and connections.
-use crate::texts::documents;
+use crate::texts::{documents, schema};
 use gql_ast::{Definition, Selection};
 use gql_plain::{Conn, Words};
-use relay_dirs::{connection, locals};
+use relay_dirs::{check_relay, connection, locals};
 use std::alloc::Global;
 use std::process::Abort;
 use std::test::Fail;
@@ -125,5 +125,17 @@ A_f none => ... @connection(key: \"A_f\") { name }";
             assert_eq!(rt; found.as_str(), wanted, "at {row}");
         }
     }
+    Ok(())
+}
+
+#[test]
+fn directives_are_accepted(rt: HostRuntime) -> Result<(), Fail> {
+    let alloc = rt.alloc();
+    let schema = schema(alloc, "type Query { name: String }")?;
+    let documents = documents(
+        alloc,
+        "query A { a: name ...F @relay(mask: false) } fragment F on Query { name }",
+    )?;
+    assert!(rt; check_relay(alloc, &schema, &documents).is_ok());
     Ok(())
 }

@@ -4,15 +4,7 @@
 //! A row is a rule and the documents of one project, between `;`, each on one line. A `^` stands in
 //! front of the place where the rule does not hold, and is no part of the document. Rows begin with
 //! `ok` where no rule is broken.
-use crate::texts::{documents, marked, schema, text_of_fault};
-use doc_args::check_args;
-use doc_fields::check_fields;
-use doc_names::check_names;
-use gql_ast::Documents;
-use relay_dirs::check_relay;
-use schema_types::{RuleFault, Schema};
-use std::alloc::Global;
-use std::process::Abort;
+use crate::rows::compare;
 use std::test::Fail;
 
 /// A schema with types, arguments and directives of each kind.
@@ -85,52 +77,6 @@ type P8 { hasNextPage: Boolean hasPreviousPage: Boolean startCursor: Float endCu
 type P1 { hasNextPage: Boolean hasPreviousPage: Boolean startCursor: String endCursor(a: Int!): String }
 type Q { hasNextPage: Boolean! hasPreviousPage: [[Int]] startCursor(a: Int): ID endCursor: Color }
 enum Color { RED }";
-
-/// Checks all rules up to these.
-fn check(alloc: Global, schema: &Schema, documents: &Documents) -> Result<(), RuleFault> {
-    check_names(alloc, schema, documents)?;
-    check_fields(alloc, schema, documents)?;
-    check_args(alloc, schema, documents)?;
-    check_relay(alloc, schema, documents)
-}
-
-/// The first fault of documents as `RULE FILE LINE COLUMN`; `ok` where there is none.
-fn first_fault(alloc: Global, schema: &Schema, texts: &str) -> Result<String, Fail> {
-    let documents = documents(alloc, texts)?;
-    match check(alloc, schema, &documents) {
-        Ok(()) => Ok(format!(in alloc; "ok")?),
-        Err(RuleFault::Rule(fault)) => text_of_fault(alloc, &documents, &fault),
-        Err(RuleFault::NoMemory) => Ok(format!(in alloc; "no memory")?),
-    }
-}
-
-/// Documents without their mark and without spaces around them.
-fn without_mark(alloc: Global, row: &str) -> Result<String, Fail> {
-    let mut texts = String::new(alloc);
-    for text in row.split(';') {
-        if !texts.is_empty() {
-            texts.push(';')?;
-        }
-        let text = text.trim().replace(alloc, '^', "")?;
-        texts.push_str(text.as_str())?;
-    }
-    Ok(texts)
-}
-
-/// Compares what is told of each row with what it says.
-fn compare(rt: &impl Abort, alloc: Global, types: &str, rows: &str) -> Result<(), Fail> {
-    let schema = schema(alloc, types)?;
-    for row in rows.lines() {
-        if let Some((rule, row)) = row.split_once(' ') {
-            let place = marked(alloc, row)?;
-            let wanted = format!(in alloc; "{rule}{place}")?;
-            let texts = without_mark(alloc, row)?;
-            let found = first_fault(alloc, &schema, texts.as_str())?;
-            assert_eq!(rt; found.as_str(), wanted.as_str(), "at {row}");
-        }
-    }
-    Ok(())
-}
 
 #[test]
 fn local_variables(rt: HostRuntime) -> Result<(), Fail> {
