@@ -1,7 +1,7 @@
 -- Patterns that are compared level by level, and rows that get patterns.
 use Rattle.std.proofs.Common.{◌≡◌, ◌≢◌, ℕ, ◌+◌, ◌<◌, ◌≤◌, Bool, true, false, true≢false, is_some, Some, None, ◌&&◌, List, [], ◌∷◌, ◌++◌, map, drop, length, get_or, Option, append_assoc, refl, ap, sym, ◌∙◌, arith}
 use Rattle.std.specs.Prelude.{option_copied}
-use Rattle.std.proofs.lemmas.List.{append-nil, drop_all}
+use Rattle.std.proofs.lemmas.List.{append-nil, drop_all, get_or_default}
 use denote.Ref.{Bor}
 use Rattle.schema_tables.specs.Types.{Text, Defs}
 use Rattle.doc_merge.proofs.NoteSteps.{drop_next}
@@ -18,15 +18,19 @@ ParentList = List (Option (Bor Text))
 abbrev pub parents : ParentList → Pattern
 parents ps = map option_copied ps
 
-pub meet_next : (xs ys : ParentList) (i : ℕ) (x y : Option (Bor Text)) (whole : Bool) → i < length xs → i < length ys → x ≡ get_or xs i x → y ≡ get_or ys i y
-    → meet (option_copied x) (option_copied y) ≡ true → whole ≡ all_meet (parents (drop i xs)) (parents (drop i ys)) → whole ≡ all_meet (parents (drop (i + 1) xs)) (parents (drop (i + 1) ys))
-meet_next xs ys i x y whole h k e f s w =
-    w ∙ (λ j. all_meet (parents (drop_next xs i x h e j)) (parents (drop_next ys i y k f j))) ∙ ap (λ b. b && all_meet (parents (drop (i + 1) xs)) (parents (drop (i + 1) ys))) s
+-- the level at a place, whatever stands past the end
+level_next : (xs : ParentList) (i : ℕ) (d : Option (Bor Text)) → i < length xs → drop i xs ≡ get_or xs i d ∷ drop (i + 1) xs
+level_next xs i d h = drop_next xs i (get_or xs i d) h (get_or_default xs i d (get_or xs i d) h)
 
-pub meet_not : (xs ys : ParentList) (i : ℕ) (x y : Option (Bor Text)) (whole : Bool) → i < length xs → i < length ys → x ≡ get_or xs i x → y ≡ get_or ys i y
-    → meet (option_copied x) (option_copied y) ≡ false → whole ≡ all_meet (parents (drop i xs)) (parents (drop i ys)) → false ≡ whole
-meet_not xs ys i x y whole h k e f s w =
-    sym (w ∙ (λ j. all_meet (parents (drop_next xs i x h e j)) (parents (drop_next ys i y k f j))) ∙ ap (λ b. b && all_meet (parents (drop (i + 1) xs)) (parents (drop (i + 1) ys))) s)
+pub meet_next : (xs ys : ParentList) (i : ℕ) (d e : Option (Bor Text)) (whole : Bool) → i < length xs → i < length ys
+    → meet (option_copied (get_or xs i d)) (option_copied (get_or ys i e)) ≡ true → whole ≡ all_meet (parents (drop i xs)) (parents (drop i ys)) → whole ≡ all_meet (parents (drop (i + 1) xs)) (parents (drop (i + 1) ys))
+meet_next xs ys i d e whole h k s w =
+    w ∙ (λ j. all_meet (parents (level_next xs i d h j)) (parents (level_next ys i e k j))) ∙ ap (λ b. b && all_meet (parents (drop (i + 1) xs)) (parents (drop (i + 1) ys))) s
+
+pub meet_not : (xs ys : ParentList) (i : ℕ) (d e : Option (Bor Text)) (whole : Bool) → i < length xs → i < length ys
+    → meet (option_copied (get_or xs i d)) (option_copied (get_or ys i e)) ≡ false → whole ≡ all_meet (parents (drop i xs)) (parents (drop i ys)) → false ≡ whole
+meet_not xs ys i d e whole h k s w =
+    sym (w ∙ (λ j. all_meet (parents (level_next xs i d h j)) (parents (level_next ys i e k j))) ∙ ap (λ b. b && all_meet (parents (drop (i + 1) xs)) (parents (drop (i + 1) ys))) s)
 
 meets_none : (ps : Pattern) → all_meet ps [] ≡ true
 meets_none [] = refl
@@ -40,15 +44,15 @@ meet_end xs ys i whole h w = sym (w ∙ ap (λ (zs : ParentList). all_meet (pare
 
 -- ---- the same pattern
 
-pub same_next : (xs ys : ParentList) (i : ℕ) (x y : Option (Bor Text)) (whole : Bool) → i < length xs → i < length ys → x ≡ get_or xs i x → y ≡ get_or ys i y
-    → same_parent (option_copied x) (option_copied y) ≡ true → whole ≡ same_pattern (parents (drop i xs)) (parents (drop i ys)) → whole ≡ same_pattern (parents (drop (i + 1) xs)) (parents (drop (i + 1) ys))
-same_next xs ys i x y whole h k e f s w =
-    w ∙ (λ j. same_pattern (parents (drop_next xs i x h e j)) (parents (drop_next ys i y k f j))) ∙ ap (λ b. b && same_pattern (parents (drop (i + 1) xs)) (parents (drop (i + 1) ys))) s
+pub same_next : (xs ys : ParentList) (i : ℕ) (d e : Option (Bor Text)) (whole : Bool) → i < length xs → i < length ys
+    → same_parent (option_copied (get_or xs i d)) (option_copied (get_or ys i e)) ≡ true → whole ≡ same_pattern (parents (drop i xs)) (parents (drop i ys)) → whole ≡ same_pattern (parents (drop (i + 1) xs)) (parents (drop (i + 1) ys))
+same_next xs ys i d e whole h k s w =
+    w ∙ (λ j. same_pattern (parents (level_next xs i d h j)) (parents (level_next ys i e k j))) ∙ ap (λ b. b && same_pattern (parents (drop (i + 1) xs)) (parents (drop (i + 1) ys))) s
 
-pub same_not : (xs ys : ParentList) (i : ℕ) (x y : Option (Bor Text)) (whole : Bool) → i < length xs → i < length ys → x ≡ get_or xs i x → y ≡ get_or ys i y
-    → same_parent (option_copied x) (option_copied y) ≡ false → whole ≡ same_pattern (parents (drop i xs)) (parents (drop i ys)) → false ≡ whole
-same_not xs ys i x y whole h k e f s w =
-    sym (w ∙ (λ j. same_pattern (parents (drop_next xs i x h e j)) (parents (drop_next ys i y k f j))) ∙ ap (λ b. b && same_pattern (parents (drop (i + 1) xs)) (parents (drop (i + 1) ys))) s)
+pub same_not : (xs ys : ParentList) (i : ℕ) (d e : Option (Bor Text)) (whole : Bool) → i < length xs → i < length ys
+    → same_parent (option_copied (get_or xs i d)) (option_copied (get_or ys i e)) ≡ false → whole ≡ same_pattern (parents (drop i xs)) (parents (drop i ys)) → false ≡ whole
+same_not xs ys i d e whole h k s w =
+    sym (w ∙ (λ j. same_pattern (parents (level_next xs i d h j)) (parents (level_next ys i e k j))) ∙ ap (λ b. b && same_pattern (parents (drop (i + 1) xs)) (parents (drop (i + 1) ys))) s)
 
 and_false : (a b : Bool) → b ≡ false → (a && b) ≡ false
 and_false true b h = h

@@ -8,13 +8,13 @@ returns-then-at-others c = meet_short c.args.ones.now c.args.others.now c.levels
 
 pub returns-then-not-meet : goal.returns-then-not-meet
 returns-then-not-meet c =
-    meet_not c.args.ones.now c.args.others.now c.levels.at c.index-ones-at.result c.index-others-at.result _ (omega arith) (omega arith) c.index-ones-at.is c.index-others-at.is
+    meet_not c.args.ones.now c.args.others.now c.levels.at _ _ _ (omega arith) (omega arith)
     (sym c.meet.ensures ∙ c.if-not-meet.true) c.levels.invariant.1
 
 pub levels-preserved : goal.levels-preserved
 levels-preserved c = (
   omega arith,
-  meet_next c.args.ones.now c.args.others.now c.levels.at c.index-ones-at.result c.index-others-at.result _ (omega arith) (omega arith) c.index-ones-at.is c.index-others-at.is
+  meet_next c.args.ones.now c.args.others.now c.levels.at _ _ _ (omega arith) (omega arith)
       (sym c.meet.ensures ∙ c.if-not-meet.false) c.levels.invariant.1,
 )
 

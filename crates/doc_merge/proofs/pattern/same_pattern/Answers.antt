@@ -8,14 +8,14 @@ returns-then-ones-others c = sym (same_lengths c.args.ones.now c.args.others.now
 
 pub returns-then-not-same_parent : goal.returns-then-not-same_parent
 returns-then-not-same_parent c =
-    same_not c.args.ones.now c.args.others.now c.levels.at c.index-ones-at.result c.index-others-at.result _ (omega arith) (omega (arith, c.levels.invariant.as_long)) c.index-ones-at.is c.index-others-at.is
+    same_not c.args.ones.now c.args.others.now c.levels.at _ _ _ (omega arith) (omega (arith, c.levels.invariant.as_long))
     (sym c.same_parent.ensures ∙ c.if-not-same_parent.true) c.levels.invariant.left
 
 pub levels-preserved : goal.levels-preserved
 levels-preserved c = record {
   within = omega arith;
   as_long = c.levels.invariant.as_long;
-  left = same_next c.args.ones.now c.args.others.now c.levels.at c.index-ones-at.result c.index-others-at.result _ (omega arith) (omega (arith, c.levels.invariant.as_long)) c.index-ones-at.is c.index-others-at.is
+  left = same_next c.args.ones.now c.args.others.now c.levels.at _ _ _ (omega arith) (omega (arith, c.levels.invariant.as_long))
       (sym c.same_parent.ensures ∙ c.if-not-same_parent.false) c.levels.invariant.left;
 }
 
