@@ -1,5 +1,5 @@
 -- Where all fields can merge, fields that are collected for one object under one key have one form.
-use Rattle.std.proofs.Common.{◌≡◌, Bool, true, false, true≢false, cond, not, ◌&&◌, ◌||◌, List, [], ◌∷◌, ◌++◌, Option, Some, None, bytes_eq, refl, ap, sym, ◌∙◌}
+use Rattle.std.proofs.Common.{◌≡◌, Bool, true, false, true≢false, cond, not, ◌&&◌, ◌||◌, List, [], ◌∷◌, Option, Some, None, bytes_eq, refl, ap, sym, ◌∙◌}
 use Rattle.std.specs.List.{All, filter, list_any}
 use Rattle.std.proofs.lemmas.List.Elements.{All-cons, All-nil}
 use Rattle.gql_graph.proofs.TextSteps.{same_self}
@@ -9,7 +9,7 @@ use Rattle.doc_merge.proofs.Bridge.{differences_are}
 use Rattle.doc_merge.proofs.Equals.{and_left, and_right}
 use Rattle.doc_merge.proofs.Levels.{none_or, one_type_meets}
 use Rattle.doc_merge.proofs.ShapeLaws.{same_shape-sound}
-use Rattle.doc_merge.specs.Collected.{AreAlike, HaveOneForm, Pairwise, is_collected, keys_of, last_field, may_be_on}
+use Rattle.doc_merge.specs.Collected.{AreAlike, HaveOneForm, Pairwise, is_collected, keys_of, may_be_on}
 use Rattle.doc_merge.specs.Merging.{Field, Fields, differ, differences, meet}
 use Rattle.doc_merge.specs.Paths.{Path, conflict, faulty, here, paths, under}
 use Rattle.doc_merge.specs.Shapes.{same_shape}

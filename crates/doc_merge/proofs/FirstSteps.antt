@@ -5,7 +5,6 @@ use Rattle.gql_ast.specs.declared.place.FilePlace.{FilePlace}
 use Rattle.schema_tables.specs.Types.{Defs}
 use Rattle.doc_merge.specs.Cells.{are_like, have_one}
 use Rattle.doc_merge.specs.Joined.{from_first, row_place, shapes_unlike, unlike}
-use Rattle.doc_merge.specs.Paths.{Row}
 use Rattle.doc_merge.specs.Places.{least_from}
 use Rattle.doc_merge.specs.RowView.{mark_of, row_of}
 use Rattle.doc_merge.specs.declared.row.Row as code

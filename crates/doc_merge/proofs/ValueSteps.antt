@@ -1,14 +1,13 @@
 -- Noting the values of one more node, directive or argument.
 use Rattle.std.specs.Prelude.{option_copied}
 use denote.Ref.{Bor}
-use Rattle.std.proofs.Common.{◌≡◌, ℕ, cond, bytes_eq, Some, ◌+◌, ◌<◌, Bool, true, false, not, List, [], ◌∷◌, ◌++◌, map, drop, length, get_or, Option, refl, ap, sym, ◌∙◌}
+use Rattle.std.proofs.Common.{◌≡◌, ℕ, cond, bytes_eq, Some, ◌+◌, ◌<◌, Bool, true, false, not, List, ◌++◌, map, drop, length, get_or, Option, refl, ap, sym, ◌∙◌}
 use Rattle.std.proofs.lemmas.List.{append-nil}
 use Rattle.gql_ast.specs.ValueView.{value_of, argument_of}
 use Rattle.gql_ast.specs.declared.directive.Directive.{Directive}
 use Rattle.gql_ast.specs.declared.place.FilePlace.{FilePlace}
 use Rattle.gql_ast.specs.declared.value.Argument.{Argument}
 use Rattle.gql_ast.specs.declared.variable.VariableDef.{VariableDef}
-use Rattle.plan_ir.specs.Nodes as nodes
 use Rattle.plan_ir.specs.Nodes.{Nodes}
 use Rattle.plan_ir.specs.NodesView.{node_before, node_of, nodes_of}
 use Rattle.plan_ir.specs.declared.node.Node.{Node}

@@ -2,7 +2,7 @@
 use Rattle.std.proofs.Common.{◌≡◌, List, [], ◌++◌, map, ap, ◌∙◌}
 use Rattle.schema_tables.specs.Types.{Text, Defs}
 use Rattle.doc_merge.specs.Gathering.{fields_in, fields_of}
-use Rattle.doc_merge.specs.Paths.{Row, places_of, rows_of}
+use Rattle.doc_merge.specs.Paths.{places_of, rows_of}
 use Rattle.doc_merge.specs.Places.{least_from}
 use Rattle.doc_merge.specs.RowView.{row_of}
 use Rattle.doc_merge.specs.declared.row.Row as code
