@@ -110,9 +110,6 @@ same_arguments_steps xs ys zs e f =
 
 -- ---- names and arguments
 
-pub signature_itself : (a : Signature) → same_signature a a ≡ true
-signature_itself a = and_both _ _ (same_self a.name) (same_arguments-itself a.arguments)
-
 pub signature_turned : (a b : Signature) → same_signature a b ≡ true → same_signature b a ≡ true
 signature_turned a b e =
     and_both _ _ (sym (text_turned a.name b.name) ∙ and_left (bytes_eq a.name b.name) _ e) (same_arguments_turned a.arguments b.arguments (and_right (bytes_eq a.name b.name) _ e))

@@ -74,6 +74,3 @@ rows_next defs ps around xs i x old new whole h is e w =
     ∙ ap (λ (ws : List Row). old ++ ws) (sym (one_before defs ps around x (nodes_of (drop (i + 1) xs))))
     ∙ ap (λ (y : Node). old ++ rows_of ps (fields_of defs around (node_before y (nodes_of (drop (i + 1) xs))))) is
     ∙ sym (ap (λ (ys : List Node). old ++ rows_of ps (fields_of defs around (nodes_of ys))) same) ∙ w
-
-pub field_deep : (x : Node) (r n : Text) (xs ds c : _) (of : _) (s : Nodes) (p : _) → x ≡ N.Field r n xs ds c of s p → set_depth s < set_depth (node_of x)
-field_deep x r n xs ds c of s p e = let deep : set_depth (node_of x) ≡ set_depth s + 1 = ap (λ (y : Node). set_depth (node_of y)) e ∙ omega arith in omega (arith, deep)
