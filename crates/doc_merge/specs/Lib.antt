@@ -1,0 +1,16 @@
+pub mod Places
+pub mod Shapes
+pub mod Signatures
+pub mod Merging
+pub mod Standard
+pub mod Paths
+pub mod Joined
+pub mod Collected
+pub mod Cells
+pub mod Gathering
+pub mod Values
+pub mod Faults
+pub mod RowView
+pub mod CellView
+pub mod GroupView
+pub mod UseView
