@@ -7,7 +7,8 @@ ghost use Rattle.std.specs.Prelude.{◌<◌, length};
 
 use doc_merge::{MergeFault, check_merge};
 use gql_ast::{
-    Definition, Directives, FilePlace, Kind, Operation, Selection, TypeTree, VariableDefs,
+    Arguments, Definition, Directives, FilePlace, Kind, Operation, Selection, TypeTree,
+    VariableDefs,
 };
 use gql_parse::parse_document;
 use gql_plain::Name;
@@ -80,6 +81,49 @@ struct Head {
     inside: Name,
 }
 
+/// A field of a type without what stands in it.
+fn field_node(
+    alloc: Global,
+    of: TypeTree,
+    place: FilePlace,
+    alias: &Option<Name>,
+    name: &Name,
+    arguments: &Arguments,
+    directives: &Directives,
+) -> Result<Node, Fail> {
+    let response = name_or(alloc, alias, name.as_str())?;
+    let name = name.copy()?;
+    let arguments = arguments.copy()?;
+    let directives = directives.copy()?;
+    Ok(Node::Field {
+        response,
+        name,
+        arguments,
+        directives,
+        connection: None,
+        of,
+        selections: Nodes::new(alloc),
+        place,
+    })
+}
+
+/// An inline fragment without what stands in it.
+fn inline_node(
+    alloc: Global,
+    place: FilePlace,
+    on: &Option<Name>,
+    directives: &Directives,
+) -> Result<Node, Fail> {
+    let on = copy_name(on)?;
+    let directives = directives.copy()?;
+    Ok(Node::Inline {
+        on,
+        directives,
+        selections: Nodes::new(alloc),
+        place,
+    })
+}
+
 /// The node of a selection without what stands in it.
 fn head_of(
     alloc: Global,
@@ -98,26 +142,12 @@ fn head_of(
         } => {
             let of = type_of(alloc, schema, around, name.as_str())?;
             let inside = Name::new(alloc, base_of(&of))?;
-            let node = Node::Field {
-                response: name_or(alloc, alias, name.as_str())?,
-                name: name.copy()?,
-                arguments: arguments.copy()?,
-                directives: directives.copy()?,
-                connection: None,
-                of,
-                selections: Nodes::new(alloc),
-                place,
-            };
+            let node = field_node(alloc, of, place, alias, name, arguments, directives)?;
             Ok(Head { node, inside })
         }
         Selection::Inline { on, directives, .. } => {
-            let node = Node::Inline {
-                on: copy_name(on)?,
-                directives: directives.copy()?,
-                selections: Nodes::new(alloc),
-                place,
-            };
             let inside = name_or(alloc, on, around)?;
+            let node = inline_node(alloc, place, on, directives)?;
             Ok(Head { node, inside })
         }
         Selection::Spread { .. } => Err("a spread")?,
@@ -126,12 +156,16 @@ fn head_of(
 
 /// The text of an operation that has the selection of a word.
 fn text_of_word(alloc: Global, word: &str) -> Result<String, Fail> {
-    match word.strip_prefix("...") {
-        Some("") => Ok(format!(in alloc; "{{...{{x}}}}")?),
-        Some(rest) if rest.starts_with('@') => Ok(format!(in alloc; "{{...{rest}{{x}}}}")?),
-        Some(rest) => Ok(format!(in alloc; "{{...on {rest}{{x}}}}")?),
-        None => Ok(format!(in alloc; "{{{word}}}")?),
+    let Some(rest) = word.strip_prefix("...") else {
+        return Ok(format!(in alloc; "{{{word}}}")?);
+    };
+    if rest.is_empty() {
+        return Ok(format!(in alloc; "{{...{{x}}}}")?);
     }
+    if rest.starts_with('@') {
+        return Ok(format!(in alloc; "{{...{rest}{{x}}}}")?);
+    }
+    Ok(format!(in alloc; "{{...on {rest}{{x}}}}")?)
 }
 
 /// The node of a word.
