@@ -5,31 +5,24 @@ ghost use Rattle.std.specs.Prelude.{◌≡◌, option_copied, option_map, IfOk, 
 ghost use Rattle.gql_ast.specs.Value.{members_of, vals_of};
 ghost use Rattle.gql_ast.specs.ValueView as tree;
 ghost use Rattle.plan_ir.specs.NodesView.{node_of};
-ghost use Rattle.schema_types.specs.ArgumentRules as rules;
+ghost use Rattle.doc_uses.specs.UseView.{fields_of_name, place_of};
 ghost use Rattle.doc_merge.specs.Faults.{values_unfit};
 ghost use Rattle.doc_merge.specs.Places.{least, least_from};
-ghost use Rattle.doc_merge.specs.UseView.{Names, place_of, fields_of_name, name_of_place};
+ghost use Rattle.doc_merge.specs.UseView.{Names};
 ghost use Rattle.doc_merge.specs.Values as spec;
 
 use crate::least::Least;
 use crate::row::on_or;
 use crate::variables::Variables;
+use doc_uses::{Place, field_place, item_place, name_of_place, place_of_input};
 use gql_ast::{
-    Argument, Arguments, Directive, Directives, FilePlace, TypeTree, ValueTree, ValueTrees,
-    VariableDef,
+    Argument, Arguments, Directive, Directives, FilePlace, ValueTree, ValueTrees, VariableDef,
 };
 use gql_plain::NoMemory;
 use plan_ir::{Expanded, Node, Nodes};
-use schema_tables::type_forms::{base_of, item_of};
+use schema_tables::type_forms::base_of;
 use schema_types::{InputDef, InputDefs, Schema};
 use std::alloc::Global;
-
-/// A place for values: its type, and whether it has a default.
-#[derive(Clone, Copy)]
-pub(crate) struct Place<'a> {
-    pub(crate) of: &'a TypeTree,
-    pub(crate) has_default: bool,
-}
 
 /// The least place in an operation where a value does not fit or a use is not allowed; none in a
 /// fragment.
@@ -234,7 +227,7 @@ fn is_good_value(
     if !fits_input(alloc, schema, &input, value)? {
         return Ok(false);
     }
-    let is_good = are_allowed(schema, variables, value, place_of_found(input));
+    let is_good = are_allowed(schema, variables, value, place_of_input(input));
     Ok(is_good)
 }
 
@@ -253,51 +246,6 @@ fn fits_input(
             Ok(is_fit)
         }
         None => Ok(true),
-    }
-}
-
-/// The place of an item of a list.
-fn item_place<'a>(place: Option<Place<'a>>) -> Option<Place<'a>>
-    ensures { option_map place_of result ≡ rules.item_place (option_map place_of place.entry) }
-{
-    let place = place?;
-    let of = item_of(place.of)?;
-    Some(Place {
-        of,
-        has_default: false,
-    })
-}
-
-/// The name of the type of a place.
-fn name_of_place<'a>(place: Option<Place<'a>>) -> Option<&'a str>
-    ensures { option_copied result ≡ name_of_place (option_map place_of place.entry) }
-{
-    match place {
-        Some(place) => Some(base_of(place.of)),
-        None => None,
-    }
-}
-
-/// The place of a field of an object, by the name of the object's type.
-fn field_place<'a>(schema: &'a Schema, of: Option<&'a str>, name: &str) -> Option<Place<'a>>
-    ensures { option_map place_of result ≡ rules.place_among (fields_of_name schema.now (option_copied of.entry)) name.now }
-{
-    match of {
-        Some(of) => place_of_found(schema.input(of, name)),
-        None => None,
-    }
-}
-
-/// The place of an argument or an input field.
-fn place_of_found<'a>(input: Option<InputDef<'a>>) -> Option<Place<'a>>
-    ensures { option_map place_of result ≡ rules.place_for input.entry }
-{
-    match input {
-        Some(input) => Some(Place {
-            of: input.of(),
-            has_default: input.default().is_some(),
-        }),
-        None => None,
     }
 }
 

@@ -14,6 +14,6 @@ mod variables;
 mod wrong_uses;
 
 pub use fragment_uses::FragmentUses;
-pub use uses::{Place, Use, place_of_input, put_argument};
+pub use uses::{Place, Use, field_place, item_place, name_of_place, place_of_input, put_argument};
 pub use uses_by_name::UsesByName;
 pub use wrong_uses::note_wrong_uses;

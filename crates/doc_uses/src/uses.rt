@@ -31,7 +31,7 @@ pub struct Use<'p, 'a> {
 }
 
 /// The place of an item of a list.
-fn item_place<'p>(place: Option<Place<'p>>) -> Option<Place<'p>>
+pub fn item_place<'p>(place: Option<Place<'p>>) -> Option<Place<'p>>
     ensures { option_map place_of result ≡ rules.item_place (option_map place_of place.entry) }
 {
     let place = place?;
@@ -43,7 +43,7 @@ fn item_place<'p>(place: Option<Place<'p>>) -> Option<Place<'p>>
 }
 
 /// The name of the type of a place.
-fn name_of_place<'p>(place: Option<Place<'p>>) -> Option<&'p str>
+pub fn name_of_place<'p>(place: Option<Place<'p>>) -> Option<&'p str>
     ensures { option_copied result ≡ name_of_place (option_map place_of place.entry) }
 {
     match place {
@@ -53,7 +53,7 @@ fn name_of_place<'p>(place: Option<Place<'p>>) -> Option<&'p str>
 }
 
 /// The place of a field of an object, by the name of the object's type.
-fn field_place<'p>(schema: &'p Schema, of: Option<&'p str>, name: &str) -> Option<Place<'p>>
+pub fn field_place<'p>(schema: &'p Schema, of: Option<&'p str>, name: &str) -> Option<Place<'p>>
     ensures { option_map place_of result ≡ rules.place_among (fields_of_name schema.now (option_copied of.entry)) name.now }
 {
     match of {

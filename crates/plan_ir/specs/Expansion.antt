@@ -10,12 +10,12 @@ use Rattle.gql_ast.specs.declared.directive.Directive.{Directive}
 use Rattle.gql_ast.specs.declared.place.FilePlace.{FilePlace}
 use Rattle.gql_ast.specs.declared.variable.VariableDef.{VariableDef}
 use Rattle.plan_ir.specs.Additions.{additions, type_or}
-use Rattle.plan_ir.specs.Locals.{connection_of}
 use Rattle.plan_ir.specs.Nodes.{Nodes, end, field, inline, nodes_append}
 use Rattle.plan_ir.specs.Substitution.{Arguments, Scope, substitute_in, operation_scope, arguments_at_spread, scope_at_spread, scope_of_own}
 use Rattle.plan_ir.specs.declared.expanded.Expanded.{Expanded}
 use Rattle.plan_ir.specs.declared.form.Form.{Form}
 use Rattle.plan_ir.specs.declared.form.Form.TheVariants as F
+use Rattle.relay_dirs.specs.Connections.{connection_among}
 use Rattle.schema_trees.specs.Located.{Located, directives_nodes}
 use Rattle.schema_types.specs.NameRules.{fragment_named, fragments, operations}
 use Rattle.schema_types.specs.Sites.{ArgumentAt, DirectiveAt, VariableAt, OperationAt, FragmentAt, DefinitionAt, field_type, condition_or, below, head_nodes, arguments_nodes, selections_nodes, optional_name_nodes, variables_nodes}
@@ -61,9 +61,9 @@ response_key (Some a) n = a
 abbrev pub expansion_with : (enter : (from : ℕ) → Text → List Directive → Nodes → Nodes) → Project → Scope → (from : ℕ) → (around : Option Text) → Sels → Nodes
 expansion_with enter p scope from around sels.end = end
 expansion_with enter p scope from around (sels.field a n xs ds s rest) =
-    field (response_key a n) n (substitute_in scope xs) (printed_directives scope ds) (connection_of ds) (type_or (field_type p.defs around n))
+    field (response_key a n) n (substitute_in scope xs) (printed_directives scope ds) (connection_among ds) (type_or (field_type p.defs around n))
     (nodes_append (expansion_with enter p scope (from + head_nodes a + arguments_nodes xs + directives_nodes ds) (below p.defs around n) s)
-    (additions p.defs (is_some (connection_of ds)) (base_of (type_or (field_type p.defs around n))) s (p.place from))) (p.place from)
+    (additions p.defs (is_some (connection_among ds)) (base_of (type_or (field_type p.defs around n))) s (p.place from))) (p.place from)
     (expansion_with enter p scope (from + head_nodes a + arguments_nodes xs + directives_nodes ds + selections_nodes s) around rest)
 expansion_with enter p scope from around (sels.spread n ds rest) =
     enter from n ds (expansion_with enter p scope (from + 2 + directives_nodes ds) around rest)

@@ -10,7 +10,6 @@ pub mod Reader
 pub mod ReaderCode
 pub mod ReaderView
 pub mod ReaderFalls
-pub mod Locals
 pub mod Substitution
 pub mod Additions
 pub mod Expansion

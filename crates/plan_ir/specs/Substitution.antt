@@ -3,7 +3,8 @@ use Rattle.std.specs.Prelude.{cond, List, [], ◌∷◌, ◌++◌, map, codes, O
 use Rattle.gql_ast.specs.Value.{Val, Vals, Members, variable, list, object, null, no_vals, val, no_members, member}
 use Rattle.gql_ast.specs.declared.directive.Directive.{Directive}
 use Rattle.gql_graph.specs.Rules.{each}
-use Rattle.plan_ir.specs.Locals.{Local, argument_named, locals_of}
+use Rattle.relay_dirs.specs.Connections.{value_of_name}
+use Rattle.relay_dirs.specs.Locals.{Local, locals_of}
 use Rattle.schema_tables.specs.Types.{Text}
 use Rattle.schema_types.specs.Sites.{FragmentAt}
 
@@ -60,11 +61,11 @@ value_or None None = null
 
 abbrev pub value_of_local : (given : Arguments) → Text → (local : Option (Option Val)) → Val
 value_of_local given n None = variable n
-value_of_local given n (Some d) = value_or (argument_named given n) d
+value_of_local given n (Some d) = value_or (value_of_name given n) d
 
 -- the scope of a fragment that is spread
 abbrev pub scope_at_spread : Scope → List Directive → FragmentAt → Scope
-scope_at_spread scope ds f n = value_of_local (arguments_at_spread scope ds) n (default_named (locals_of f) n)
+scope_at_spread scope ds f n = value_of_local (arguments_at_spread scope ds) n (default_named (locals_of f.directives) n)
 
 -- ---- a fragment that is expanded by itself
 
@@ -74,4 +75,4 @@ mark_local n (Some d) = variable (codes ":" ++ n)
 
 -- a local variable `x` stands there as `:x`
 abbrev pub scope_of_own : FragmentAt → Scope
-scope_of_own f n = mark_local n (default_named (locals_of f) n)
+scope_of_own f n = mark_local n (default_named (locals_of f.directives) n)

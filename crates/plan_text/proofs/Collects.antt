@@ -9,7 +9,7 @@ use Rattle.gql_ast.specs.declared.directive.Directive.{Directive}
 use Rattle.plan_ir.specs.Additions.{additions, type_or}
 use Rattle.plan_ir.specs.Expansion as expansions
 use Rattle.plan_ir.specs.Expansion.{directives_such, enter_with, expansion, expansion_with, is_condition, is_printed, operation_from, printed_conditions, response_key, selections_from, spreads_in}
-use Rattle.plan_ir.specs.Locals.{connection_of}
+use Rattle.relay_dirs.specs.Connections.{connection_among}
 use Rattle.plan_ir.specs.Nodes.{Nodes, end, field, inline, nodes_append}
 use Rattle.plan_ir.specs.Substitution.{Scope, operation_scope, scope_at_spread, substitute_in}
 use Rattle.plan_text.proofs.AddedFields.{Added, IsBare, all_added, nothing_added, printed-append}
@@ -180,7 +180,7 @@ module _ (w : Around) (T : Text) (k : ℕ) (enter : (from : ℕ) → Text → Li
       let inner : ℕ = from + head_nodes a + arguments_nodes xs + directives_nodes ds in
       let under : Option Text = below w.project.defs around n in
       let of : Text = base_of (type_or (field_type w.project.defs around n)) in
-      let is_connection : Bool = is_some (connection_of ds) in
+      let is_connection : Bool = is_some (connection_among ds) in
       let new : Nodes = additions w.project.defs is_connection of s (w.project.place from) in
       let old : Nodes = additions w.project.defs is_connection of s w.place in
       let more : Nodes = expansion_with enter w.project scope (inner + selections_nodes s) around rest in

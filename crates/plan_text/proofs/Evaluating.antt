@@ -11,7 +11,8 @@ use Rattle.gql_ast.specs.Value.{Val, Vals, Members, variable, int, text, truth, 
 use Rattle.gql_plain.specs.Order.{member_at}
 use Rattle.gql_plain.specs.Tree as t
 use Rattle.gql_plain.specs.Tree.{Tree}
-use Rattle.plan_ir.specs.Locals.{Local, argument_named, locals_of}
+use Rattle.relay_dirs.specs.Connections.{value_of_name}
+use Rattle.relay_dirs.specs.Locals.{Local, locals_of}
 use Rattle.plan_ir.specs.OperationText.{by_name, with_member}
 use Rattle.plan_ir.specs.Substitution.{Arguments, Scope, arguments_in, default_named, scope_at_spread, substitute, substitute_in, substitute_items, substitute_members, value_of_local, value_or}
 use Rattle.plan_text.specs.Collecting.{arguments_in_environment, environment_inside, local_value, with_locals}
@@ -161,12 +162,12 @@ module _ (own env : Values) (scope : Scope) (means : Means own scope env) where
   pub arguments-printed : (xs : Arguments) → arguments_in_environment own (printed_arguments (substitute_in scope xs)) ≡ arguments_in_environment env xs
   arguments-printed xs = pairs-by_name own (map printed_pair (substitute_in scope xs)) ∙ given-printed xs
 
-  argument_named-substituted : (xs : Arguments) (n : Text) → argument_named (substitute_in scope xs) n ≡ option_map (substitute scope) (argument_named xs n)
-  argument_named-substituted [] n = refl
-  argument_named-substituted (x ∷ xs) n = at (argument_named-substituted xs n) (bytes_eq x.0 n)
+  value_of_name-substituted : (xs : Arguments) (n : Text) → value_of_name (substitute_in scope xs) n ≡ option_map (substitute scope) (value_of_name xs n)
+  value_of_name-substituted [] n = refl
+  value_of_name-substituted (x ∷ xs) n = at (value_of_name-substituted xs n) (bytes_eq x.0 n)
     where
-      at : argument_named (substitute_in scope xs) n ≡ option_map (substitute scope) (argument_named xs n) → (b : Bool)
-          → cond b (Some (substitute scope x.1)) (argument_named (substitute_in scope xs) n) ≡ option_map (substitute scope) (cond b (Some x.1) (argument_named xs n))
+      at : value_of_name (substitute_in scope xs) n ≡ option_map (substitute scope) (value_of_name xs n) → (b : Bool)
+          → cond b (Some (substitute scope x.1)) (value_of_name (substitute_in scope xs) n) ≡ option_map (substitute scope) (cond b (Some x.1) (value_of_name xs n))
       at rest true = refl
       at rest false = rest
 
@@ -210,19 +211,19 @@ module _ (own around : Values) (scope : Scope) (means : Means own scope around) 
   locals_mean [] n = refl
   locals_mean (l ∷ ls) n =
       at (locals_mean ls n) (bytes_eq l.name n) refl
-      ∙ sym (ap or_null (found-with_pair l.name (local_value own around (argument_named given l.name) l.default) (with_locals own around given ls) n))
+      ∙ sym (ap or_null (found-with_pair l.name (local_value own around (value_of_name given l.name) l.default) (with_locals own around given ls) n))
     where
       at : evaluation own (value_of_local (substitute_in scope given) n (default_named ls n)) ≡ value_in (with_locals own around given ls) n
           → (b : Bool) → bytes_eq l.name n ≡ b
           → evaluation own (value_of_local (substitute_in scope given) n (cond b (Some l.default) (default_named ls n)))
-          ≡ or_null (cond b (Some (local_value own around (argument_named given l.name) l.default)) (member_at (with_locals own around given ls) n))
+          ≡ or_null (cond b (Some (local_value own around (value_of_name given l.name) l.default)) (member_at (with_locals own around given ls) n))
       at rest true e =
-          ap (λ (v : Option Val). evaluation own (value_or v l.default)) (argument_named-substituted own around scope means given n)
-          ∙ value_or-given own around scope means (argument_named given n) l.default
-          ∙ ap (λ k. local_value own around (argument_named given k) l.default) (sym ((bytes_eq-Decides l.name n).0 e))
+          ap (λ (v : Option Val). evaluation own (value_or v l.default)) (value_of_name-substituted own around scope means given n)
+          ∙ value_or-given own around scope means (value_of_name given n) l.default
+          ∙ ap (λ k. local_value own around (value_of_name given k) l.default) (sym ((bytes_eq-Decides l.name n).0 e))
       at rest false e = rest
 
 -- the scope of a fragment that is spread says what the environment inside it says
 pub means_inside : (own around : Values) (scope : Scope) → Means own scope around → (ds : List Directive) (f : FragmentAt)
     → Means own (scope_at_spread scope ds f) (environment_inside own around ds f)
-means_inside own around scope means ds f n = locals_mean own around scope means (each arguments_in ds) (locals_of f) n
+means_inside own around scope means ds f n = locals_mean own around scope means (each arguments_in ds) (locals_of f.directives) n

@@ -13,7 +13,8 @@ use Rattle.gql_ast.specs.declared.directive.Directive.{Directive}
 use Rattle.gql_ast.specs.declared.place.FilePlace.{FilePlace}
 use Rattle.plan_ir.specs.Additions.{additions, type_or}
 use Rattle.plan_ir.specs.Expansion.{Project, response_key, spreads_in, whole_operation}
-use Rattle.plan_ir.specs.Locals.{Local, argument_named, connection_of, locals_of}
+use Rattle.relay_dirs.specs.Connections.{connection_among, value_of_name}
+use Rattle.relay_dirs.specs.Locals.{Local, locals_of}
 use Rattle.plan_ir.specs.Substitution.{Arguments, arguments_in}
 use Rattle.plan_text.specs.Printed.{printed_operation, printed_selections}
 use Rattle.schema_tables.specs.Types.{Text, Defs, base_of, possible, root}
@@ -25,7 +26,7 @@ use Rattle.schema_types.specs.Sites.{FragmentAt, OperationAt, below, condition_o
 
 -- the fields that are added to the set of a field, as selections
 abbrev pub field_additions : Defs → (around : Option Text) → (name : Text) → List Directive → Sels → FilePlace → Sels
-field_additions defs around n ds s place = printed_selections (additions defs (is_some (connection_of ds)) (base_of (type_or (field_type defs around n))) s place)
+field_additions defs around n ds s place = printed_selections (additions defs (is_some (connection_among ds)) (base_of (type_or (field_type defs around n))) s place)
 
 -- the selections of a set with the type around it: to the set of each field its additions at the end
 abbrev pub with_additions : Defs → FilePlace → (around : Option Text) → Sels → Sels
@@ -48,10 +49,10 @@ local_value own around None None = t.null
 abbrev pub with_locals : (own around : Values) → (given : Arguments) → List Local → Values
 with_locals own around given [] = own
 with_locals own around given (l ∷ ls) =
-    with_pair l.name (local_value own around (argument_named given l.name) l.default) (with_locals own around given ls)
+    with_pair l.name (local_value own around (value_of_name given l.name) l.default) (with_locals own around given ls)
 
 abbrev pub environment_inside : (own around : Values) → List Directive → FragmentAt → Values
-environment_inside own around ds f = with_locals own around (each arguments_in ds) (locals_of f)
+environment_inside own around ds f = with_locals own around (each arguments_in ds) (locals_of f.directives)
 
 -- ---- what is left out
 

@@ -237,11 +237,13 @@ fn put_directive_at(
     Ok(())
 }
 
-/// The local variables that directives with places define.
-pub(crate) fn locals_of(
-    alloc: Global,
-    directives: &[DirectiveAt<'_>],
-) -> Result<VariableDefs, NoMemory>
+/// The local variables that directives with places define: what [`locals`] answers for a fragment that
+/// has these directives.
+///
+/// # Errors
+///
+/// `NoMemory`, also for a type of 2^32 - 1 bytes or more.
+pub fn locals_of(alloc: Global, directives: &[DirectiveAt<'_>]) -> Result<VariableDefs, NoMemory>
     ensures { IfOk result (λ locals. map local_view locals ≡ spec.locals_of (map directive_of directives.now)) }
 {
     let mut locals = VariableDefs::new(alloc);
