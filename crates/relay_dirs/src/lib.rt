@@ -15,4 +15,4 @@ mod values;
 
 pub use check::{check_relay, check_relay_of};
 pub use connections::connection;
-pub use local_variables::{locals, locals_of};
+pub use local_variables::{local_of, locals};

@@ -117,8 +117,13 @@ fn copy_of_default(default: Option<&ValueTree>) -> Result<Option<ValueTree>, NoM
     }
 }
 
-/// The local variable that an argument of this name and value says, where it says one.
-pub(crate) fn local_of(
+/// The local variable that an argument of `@argumentDefinitions` with this name and value defines, where
+/// it defines one: of this type, this default, and no directives. [`locals`] answers those of a fragment.
+///
+/// # Errors
+///
+/// `NoMemory`, also for a type of 2^32 - 1 bytes or more.
+pub fn local_of(
     alloc: Global,
     name: &str,
     value: &ValueTree,
@@ -237,13 +242,11 @@ fn put_directive_at(
     Ok(())
 }
 
-/// The local variables that directives with places define: what [`locals`] answers for a fragment that
-/// has these directives.
-///
-/// # Errors
-///
-/// `NoMemory`, also for a type of 2^32 - 1 bytes or more.
-pub fn locals_of(alloc: Global, directives: &[DirectiveAt<'_>]) -> Result<VariableDefs, NoMemory>
+/// The local variables that directives with places define.
+pub(crate) fn locals_of(
+    alloc: Global,
+    directives: &[DirectiveAt<'_>],
+) -> Result<VariableDefs, NoMemory>
     ensures { IfOk result (λ locals. map local_view locals ≡ spec.locals_of (map directive_of directives.now)) }
 {
     let mut locals = VariableDefs::new(alloc);
