@@ -28,8 +28,13 @@ pub fn connection(alloc: Global, field: &Selection) -> Result<Option<Conn>, NoMe
     }
 }
 
-/// What the first `@connection` among directives says.
-fn connection_among(alloc: Global, directives: &Directives) -> Result<Option<Conn>, NoMemory>
+/// What the first `@connection` among directives says, as [`connection`] answers it for the selection
+/// that has them.
+///
+/// # Errors
+///
+/// `NoMemory`.
+pub fn connection_among(alloc: Global, directives: &Directives) -> Result<Option<Conn>, NoMemory>
     ensures { IfOk result (λ conn. conn ≡ spec.connection_among directives.now) }
 {
     'directives: for directive in directives.as_slice() {

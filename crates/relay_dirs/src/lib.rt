@@ -14,5 +14,5 @@ mod spread_uses;
 mod values;
 
 pub use check::{check_relay, check_relay_of};
-pub use connections::connection;
+pub use connections::{connection, connection_among};
 pub use local_variables::{local_of, locals};
