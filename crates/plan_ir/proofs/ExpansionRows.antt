@@ -13,6 +13,8 @@ use Rattle.gql_ast.specs.declared.place.FilePlace.{FilePlace}
 use Rattle.gql_ast.specs.declared.schema.SchemaDef.TheVariants as S
 use Rattle.gql_ast.specs.declared.type_tree.TypeTree.{TypeTree}
 use Rattle.gql_ast.specs.declared.type_tree.TypeTree.TheVariants as T
+use Rattle.gql_lex.specs.Heads.{head}
+use Rattle.gql_lex.specs.Sources.{read}
 use Rattle.plan_ir.specs.Additions.{id_field, typename_field}
 use Rattle.plan_ir.specs.Expansion.{Project, expansion, gifts}
 use Rattle.plan_ir.specs.Nodes.{Nodes, end, field, inline, set_depth}
@@ -151,29 +153,35 @@ with_size x k ds =
 
 -- `me{...F@arguments(n:5)}` becomes `me{...on User{name(size:5)} id}`
 pub local_is_given : expansion 1 (over (fragment with_default ∷ [])) operation_scope 30 of_query (spreading (giving (v.int (pos 5)) ∷ [])) ≡ with_size (v.int (pos 5)) 16 []
+unfolding read head
 local_is_given = refl
 
 -- `me{...F}` takes the default
 pub default_is_put : expansion 1 (over (fragment with_default ∷ [])) operation_scope 30 of_query (spreading []) ≡ with_size (v.int (pos 3)) 16 []
+unfolding read head
 default_is_put = refl
 
 -- without a default null is put
 pub null_is_put : expansion 1 (over (fragment without_default ∷ [])) operation_scope 30 of_query (spreading []) ≡ with_size v.null 13 []
+unfolding read head
 null_is_put = refl
 
 -- a variable of the operation stays, also under the name of the local one
 pub variable_is_given : expansion 1 (over (fragment with_default ∷ [])) operation_scope 30 of_query (spreading (giving (v.variable (codes "n")) ∷ [])) ≡ with_size (v.variable (codes "n")) 16 []
+unfolding read head
 variable_is_given = refl
 
 -- `@skip` of a spread stays, a directive of the schema on it does not
 pub condition_stays : expansion 1 (over (fragment with_default ∷ [])) operation_scope 30 of_query
     (spreading (record { name = codes "skip"; arguments = (codes "if", v.variable (codes "b")) ∷ [] } ∷ record { name = codes "own"; arguments = [] } ∷ []))
     ≡ with_size (v.int (pos 3)) 16 (record { name = codes "skip"; arguments = (codes "if", v.variable (codes "b")) ∷ [] } ∷ [])
+unfolding read head
 condition_stays = refl
 
 -- a fragment by itself keeps its local variable, as `:n`
 pub own_local_stays : expansion 0 (over []) (scope_of_own (fragment with_default)) 16 (Some (codes "User")) (sized (v.variable (codes "n")))
     ≡ field (codes "name") (codes "name") ((codes "size", v.variable (codes ":n")) ∷ []) [] None (ty.named (codes "String")) end (at 16) end
+unfolding read head
 own_local_stays = refl
 
 -- what is given counts, with its variables replaced
@@ -244,16 +252,19 @@ pub value_goes_through : expansion 2 both operation_scope 30 of_query through
     (inline (Some (codes "User")) []
     (inline (Some (codes "User")) [] (field (codes "name") (codes "name") ((codes "size", listed (v.int (pos 5))) ∷ []) [] None (ty.named (codes "String")) end (at 16) end) (at 63) end)
     (at 32) (id_field (at 30))) 30 end
+unfolding read head
 value_goes_through = refl
 
 -- ---- counts and depths
 
 -- `me`, two inline fragments, `name` with a list and its item, `id`
 pub nodes_of_query : nodes_count (expansion 2 both operation_scope 30 of_query through) ≡ 7
+unfolding read head
 nodes_of_query = refl
 
 -- 5, and `[5]` with its item
 pub values_given : all_count (gifts 2 both operation_scope through) ≡ 3
+unfolding read head
 values_given = refl
 
 -- the query's set, that of `me`, and those of the two inline fragments
@@ -262,4 +273,5 @@ sets_of_query = refl
 
 -- one list
 pub lists_of_query : nodes_value_depth (expansion 2 both operation_scope 30 of_query through) ≡ 1
+unfolding read head
 lists_of_query = refl
