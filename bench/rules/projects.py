@@ -115,6 +115,17 @@ def connections(count):
         yield f'  a{n}: friends(first: {n}) @connection(key: "Q_a{n}", filters: ["first", "after"]) {{ edges {{ cursor }} }}\n'
     yield "} }\n"
 
+LAST = 'query Last { me { friend @connection(key: "Last_friend") { name } } }\n'
+
+def broken_at_last(make):
+    """The same, and behind it a connection that is none: all rules on documents are asked, and V22 is broken.
+    What the operations and fragments become is not asked then: chains are deeper than that may be."""
+    def whole(count):
+        yield from make(count)
+        yield LAST
+    whole.lines = lambda count: sum(line.count("\n") for line in make(count)) + 1
+    return whole
+
 def fault(rule, line, column):
     """The line that a project with a fault in its document is refused by."""
     return f'{{"column":{column},"file":"d.graphql","line":{line},"rule":"{rule}"}}\n'
@@ -128,22 +139,32 @@ def last_spread(count):
 def last_use(count):
     return fault("V16", 2 * count, len(f"fragment F{count - 1} on User {{ friends(first: $") + 1)
 
+def last_connection(make):
+    return lambda count: fault("V22", make.lines(count), LAST.index("connection") + 1)
+
 def plain(count):
     """The schema of all projects but one."""
     yield SCHEMA
 
 # name, schema, documents, how many definitions, and the answer that is due
+BROKEN_AT_LAST = [
+    (name, schema, broken_at_last(make), counts)
+    for name, schema, make, counts in [
+        ("fragments in a chain", plain, chain, [10_000, 20_000, 40_000]),
+        ("below a subscription", plain, subscription, [10_000, 20_000, 40_000]),
+        ("many subscriptions", plain, subscriptions, [1_000, 2_000, 4_000]),
+        ("all over one chain", plain, over_one_chain, [1_000, 2_000, 4_000]),
+        ("given on and on", plain, given_on, [5_000, 10_000, 20_000]),
+        ("given below a chain", plain, given_to_one, [1_000, 2_000, 4_000]),
+        ("connections", pages, connections, [5_000, 10_000, 20_000]),
+        ("many variables", plain, many_variables, [1_000, 2_000, 4_000]),
+    ]
+]
+
 PROJECTS = [
     ("operations", plain, operations, [1_000, 2_000, 4_000], lambda count: NOT_TAKEN),
-    ("fragments in a chain", plain, chain, [10_000, 20_000, 40_000], lambda count: NOT_TAKEN),
-    ("below a subscription", plain, subscription, [10_000, 20_000, 40_000], lambda count: NOT_TAKEN),
-    ("many subscriptions", plain, subscriptions, [1_000, 2_000, 4_000], lambda count: NOT_TAKEN),
     ("late common types", kinds, conditions, [2_000, 4_000, 8_000], lambda count: NOT_TAKEN),
     ("a cycle at the end", plain, cycle, [10_000, 20_000, 40_000], last_spread),
-    ("all over one chain", plain, over_one_chain, [1_000, 2_000, 4_000], lambda count: NOT_TAKEN),
     ("without a variable", plain, without_variable, [1_000, 2_000, 4_000], last_use),
-    ("given on and on", plain, given_on, [5_000, 10_000, 20_000], lambda count: NOT_TAKEN),
-    ("given below a chain", plain, given_to_one, [1_000, 2_000, 4_000], lambda count: NOT_TAKEN),
-    ("connections", pages, connections, [5_000, 10_000, 20_000], lambda count: NOT_TAKEN),
-    ("many variables", plain, many_variables, [1_000, 2_000, 4_000], lambda count: NOT_TAKEN),
+    *((name, schema, make, counts, last_connection(make)) for name, schema, make, counts in BROKEN_AT_LAST),
 ]
