@@ -1,0 +1,34 @@
+-- The fragment has these nodes.
+use Rattle.std.proofs.Common.{◌≡◌, Some, ap, subst, ◌∙◌}
+use Rattle.plan_ir.specs.Nodes.{Nodes}
+use Rattle.plan_ir.specs.Substitution.{mark_local}
+use Rattle.plan_ir.specs.declared.expanded.Expanded.{Expanded}
+use Rattle.plan_expand.specs.Places.{Places}
+use Rattle.plan_expand.specs.Making.{Ready}
+use Rattle.plan_expand.specs.Preparing.{extent_made, fragment_with, nodes_made}
+use Rattle.plan_expand.specs.ReadyView.{ready_of}
+use Rattle.plan_expand.specs.Sizes.{nothing}
+use Rattle.plan_expand.specs.Verdicts.{IsOutcome}
+use Rattle.plan_expand.specs.declared.size.Size.{Size}
+use Rattle.plan_expand.proofs.Outcomes.{fault_as}
+use Rattle.plan_expand.proofs.expander.Expander.expand_alone.Goals as goal
+
+pub returns-in-Ok : goal.returns-in-Ok
+returns-in-Ok c =
+    let r : Ready = ready_of c.args.ready.now in
+    let ns : Nodes = nodes_made c.args.self.now (λ m. mark_local m (r.locals m)) r.places (Some r.on) r.selections in
+    let made = subst (λ (hs : Places). IsOutcome (extent_made c.args.self.now c.nothing-own.result (Some r.on) r.selections) (λ (x : Nodes). x ≡ nodes_made c.args.self.now (λ m. mark_local m (r.locals m)) hs (Some r.on) r.selections) c.make-made.result)
+    c.deref.ensures.value c.make-made.ensures in
+    let v = subst (IsOutcome (extent_made c.args.self.now c.nothing-own.result (Some r.on) r.selections) (λ (x : Nodes). x ≡ ns)) c.in-Ok.is made in
+    subst (λ (s : Size). IsOutcome (extent_made c.args.self.now s (Some r.on) r.selections) (λ (x : Expanded). x ≡ fragment_with c.args.name.now r.on ns) _) c.nothing-own.ensures
+    (c.in-Ok-2.ensures ∙ ap (fragment_with c.args.name.now r.on) v.0, v.1, v.2)
+
+pub returns-in-Err : goal.returns-in-Err
+returns-in-Err c =
+    let r : Ready = ready_of c.args.ready.now in
+    let ns : Nodes = nodes_made c.args.self.now (λ m. mark_local m (r.locals m)) r.places (Some r.on) r.selections in
+    let made = subst (λ (hs : Places). IsOutcome (extent_made c.args.self.now c.nothing-own.result (Some r.on) r.selections) (λ (x : Nodes). x ≡ nodes_made c.args.self.now (λ m. mark_local m (r.locals m)) hs (Some r.on) r.selections) c.make-made.result)
+    c.deref.ensures.value c.make-made.ensures in
+    subst (λ (s : Size). IsOutcome (extent_made c.args.self.now s (Some r.on) r.selections) (λ (x : Expanded). x ≡ fragment_with c.args.name.now r.on ns) _) c.nothing-own.ensures
+    (fault_as (λ (x : Nodes). x ≡ ns) (λ (x : Expanded). x ≡ fragment_with c.args.name.now r.on ns) (extent_made c.args.self.now c.nothing-own.result (Some r.on) r.selections) c.in-Err.fault
+    (subst (IsOutcome (extent_made c.args.self.now c.nothing-own.result (Some r.on) r.selections) (λ (x : Nodes). x ≡ ns)) c.in-Err.is made))

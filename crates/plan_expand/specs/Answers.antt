@@ -1,0 +1,33 @@
+-- What expansion answers.
+use Rattle.std.specs.Prelude.{◌≡◌, Bool, false, List, Option, Some, None, option_map, Result}
+use Rattle.gql_ast.specs.declared.document.Document.{Document}
+use Rattle.gql_ast.specs.declared.place.Placed.{Placed}
+use Rattle.plan_ir.specs.Expansion.{Project, Whole, project_of, whole}
+use Rattle.plan_ir.specs.Sizes.{has_too_many_nodes, is_too_deep}
+use Rattle.plan_ir.specs.declared.expanded.Expanded.{Expanded}
+use Rattle.plan_ir.specs.declared.form.Form.{Form}
+use Rattle.schema_tables.specs.Types.{Text, Defs}
+use Rattle.schema_types.specs.DocumentRules.{places_of, trees_of}
+use Rattle.schema_types.specs.Sites.{DefinitionAt, all_definitions}
+use Rattle.plan_expand.specs.Places.{place_in}
+use Rattle.plan_expand.specs.Verdicts.{Outcome}
+use Rattle.plan_expand.specs.declared.fault.ExpandFault.{ExpandFault}
+
+abbrev pub definitions_in : Defs → List (Placed Document) → List DefinitionAt
+definitions_in defs ps = all_definitions defs (trees_of ps)
+
+-- the project that a schema and documents are
+abbrev pub project : Defs → List (Placed Document) → Project
+project defs ps = project_of defs (place_in (places_of ps)) (definitions_in defs ps)
+
+-- the operation or the fragment of that name
+abbrev pub whole_in : Defs → List (Placed Document) → Form → Text → Option Whole
+whole_in defs ps form n = whole (project defs ps) (definitions_in defs ps) form n
+
+abbrev pub whole_is : (Whole → Bool) → Option Whole → Bool
+whole_is test None = false
+whole_is test (Some w) = test w
+
+-- the answer where this is asked for: E1 and E2, in this order
+abbrev pub IsAnswer : Option Whole → Result Expanded ExpandFault → Type 0
+IsAnswer o r = Outcome (whole_is has_too_many_nodes o) (whole_is is_too_deep o) (λ e. Some e ≡ option_map (λ (w : Whole). w.expanded) o) r

@@ -1,0 +1,32 @@
+-- The places of the selections of a definition, as they stand ready.
+use Rattle.std.specs.Prelude.{ℕ, ◌-◌, List, map, get_or, Option, Some, None}
+use Rattle.gql_ast.specs.declared.place.FilePlace.{FilePlace}
+use Rattle.schema_trees.specs.Located.{Located}
+use Rattle.schema_types.specs.Sites.{Site, field, spread, inline}
+
+abbrev pub Places : Type 0
+Places = List FilePlace
+
+-- the number of the node of a field: the one before its first name
+abbrev pub field_number : (alias : Option Located) → Located → ℕ
+field_number None n = n.at - 1
+field_number (Some a) n = a.at - 1
+
+abbrev pub site_number : Site → ℕ
+site_number (field around a n xs ds has_set) = field_number a n
+site_number (spread around n ds) = n.at - 1
+site_number (inline around first on ds) = first
+
+abbrev pub site_place : (place : ℕ → FilePlace) → Site → FilePlace
+site_place place s = place (site_number s)
+
+abbrev pub site_places_in : (place : ℕ → FilePlace) → List Site → Places
+site_places_in place ss = map (site_place place) ss
+
+-- where there is no place: each node of documents that were read has one, so none of them comes to this
+abbrev pub first_place : FilePlace
+first_place = record { file = 0; line = 1; column = 1 }
+
+-- the place of a node by its number
+abbrev pub place_in : Places → ℕ → FilePlace
+place_in places n = get_or places n first_place

@@ -1,0 +1,17 @@
+//! A local variable, with the size of its default.
+ghost use Rattle.std.specs.Prelude.{◌≡◌, option_map};
+ghost use Rattle.gql_ast.specs.ValueView.{value_of};
+ghost use Rattle.plan_expand.specs.Sizes.{default_size};
+
+use crate::size::Size;
+use gql_ast::ValueTree;
+
+/// A local variable: its default, where it has one.
+#[derive(Drop)]
+pub(crate) struct Local {
+    pub(crate) default: Option<ValueTree>,
+    /// That of the default, or of `null` where there is none.
+    pub(crate) size: Size,
+    ghost counted: { size.count ≡ (default_size (option_map value_of default)).count },
+    ghost nested: { size.depth ≡ (default_size (option_map value_of default)).depth },
+}
