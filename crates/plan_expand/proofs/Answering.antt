@@ -1,17 +1,17 @@
 -- What the code answers for an operation or a fragment is the answer for its expansion.
-use Rattle.std.proofs.Common.{◌≡◌, ℕ, zero, suc, ◌+◌, Bool, true, false, true≢false, cond, ◌||◌, nat_le, List, [], ◌∷◌, ◌++◌, length, Option, Some, None, option_map, bytes_eq, refl, ap, sym, subst, ◌∙◌, arith}
+use Rattle.std.proofs.Common.{◌≡◌, ℕ, zero, suc, ◌+◌, Bool, true, false, true≢false, cond, List, [], ◌∷◌, length, Option, Some, None, option_map, bytes_eq, refl, ap, sym, subst, ◌∙◌, arith}
 use Rattle.std.specs.Prelude.{Result, Ok, Err, is_some, max}
 use Rattle.std.proofs.lemmas.List.{append-nil}
 use Rattle.gql_ast.specs.Sels.{Sels}
 use Rattle.gql_ast.specs.declared.directive.Directive.{Directive}
 use Rattle.gql_graph.proofs.TextSteps.{same_text}
 use Rattle.plan_ir.specs.Expansion.{Project, Whole, directive_trees, expansion, gifts, is_named, name_of_located_or, name_or, operation_from, operation_named, printed_directives, selections_from, variable_trees, whole_fragment, whole_operation}
-use Rattle.plan_ir.specs.Nodes.{Nodes, set_depth}
+use Rattle.plan_ir.specs.Nodes.{set_depth}
 use Rattle.plan_ir.specs.Sizes.{all_count, all_depth, count, directives_count, directives_depth, has_too_many_nodes, is_too_deep, nodes_count, nodes_value_depth, value_depth}
 use Rattle.plan_ir.specs.declared.form.Form.TheVariants as form
 use Rattle.plan_ir.specs.Substitution.{Scope, operation_scope, scope_of_own}
 use Rattle.plan_ir.specs.declared.expanded.Expanded.{Expanded}
-use Rattle.schema_tables.specs.Types.{Text, Defs, root}
+use Rattle.schema_tables.specs.Types.{Text, root}
 use Rattle.schema_trees.specs.Located.{Located}
 use Rattle.schema_types.specs.DocumentRules.{places_of, trees_of}
 use Rattle.schema_types.specs.NameRules.{fragment_named, fragments, operations}
@@ -152,7 +152,7 @@ module _ (e : Expander) (ready : IsReady e) where
   operation_found : (n : Text) (q : Option OperationAt) (o : ReadyOperation) → operation_named (operations (definitions_in e.schema.now e.documents.now)) n ≡ q
       → Some o ≡ option_map (ready_operation e.schema.now (place_in (places_of e.documents.now))) q
       → (r : Result Expanded ExpandFault) → IsOperation e n o r → IsAnswer (option_map (whole_operation (project e.schema.now e.documents.now)) q) r
-  operation_found n None o e' f r h = never f where
+  operation_found n None o e' f r h = absurd (never f) where
     never : Some o ≡ None → ⊥
     never g = cc
   operation_found n (Some x) o e' f r h =
@@ -163,7 +163,7 @@ module _ (e : Expander) (ready : IsReady e) where
   fragment_found : (n : Text) (q : Option FragmentAt) (o : Ready) → fragment_named (fragments (definitions_in e.schema.now e.documents.now)) n ≡ q
       → Some o ≡ option_map (ready_fragment (place_in (places_of e.documents.now))) q
       → (r : Result Expanded ExpandFault) → IsFragment e n o r → IsAnswer (option_map (whole_fragment (project e.schema.now e.documents.now)) q) r
-  fragment_found n None o e' f r h = never f where
+  fragment_found n None o e' f r h = absurd (never f) where
     never : Some o ≡ None → ⊥
     never g = cc
   fragment_found n (Some x) o e' f r h =

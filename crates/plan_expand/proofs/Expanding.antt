@@ -1,5 +1,5 @@
 -- The walk over what stands ready makes the expansion.
-use Rattle.std.proofs.Common.{◌≡◌, ℕ, zero, suc, ◌+◌, ◌-◌, List, [], ◌∷◌, ◌++◌, map, drop, length, get_or, Option, Some, None, option_map, refl, ap, sym, ◌∙◌, arith, append_assoc}
+use Rattle.std.proofs.Common.{◌≡◌, ℕ, zero, suc, ◌+◌, ◌-◌, List, [], ◌∷◌, ◌++◌, drop, length, get_or, Option, Some, None, option_map, refl, ap, sym, ◌∙◌, arith, append_assoc}
 use Rattle.std.proofs.lemmas.List.{append-nil, length-append, length-map, map-append}
 use Rattle.std.specs.Prelude.{is_some}
 use Rattle.gql_ast.specs.Sels as sels
@@ -11,13 +11,13 @@ use Rattle.plan_ir.specs.Additions.{additions, type_or}
 use Rattle.plan_ir.specs.Expansion.{Project, argument_pairs, directive_trees, enter_with, expansion, expansion_with, printed_conditions, printed_directives, response_key, selections_from}
 use Rattle.plan_ir.specs.Nodes.{Nodes, field, inline, nodes_append}
 use Rattle.relay_dirs.specs.Connections.{connection_among}
-use Rattle.plan_ir.specs.Substitution.{Scope, arguments_at_spread, default_named, scope_at_spread, substitute_in, value_of_local}
+use Rattle.plan_ir.specs.Substitution.{Scope, scope_at_spread, substitute_in}
 use Rattle.schema_tables.specs.Types.{Text, Defs, base_of}
-use Rattle.schema_trees.specs.Located.{Located, directives_nodes}
+use Rattle.schema_trees.specs.Located.{directives_nodes, value_nodes}
 use Rattle.schema_types.specs.NameRules.{fragment_named}
 use Rattle.schema_types.specs.Sites.{FragmentAt, Site, arguments_at, arguments_nodes, below, condition_or, directives_at, field_type, head_nodes, optional_name_at, optional_name_nodes, selections_nodes, sites}
 use Rattle.plan_expand.specs.Places.{Places, field_number, first_place, site_place, site_places_in}
-use Rattle.plan_expand.specs.Making.{Enter, Find, Ready, enter_ready, entering, making, making_with, ready_scope, selections_count}
+use Rattle.plan_expand.specs.Making.{Enter, Find, Ready, enter_ready, entering, making, making_with, selections_count}
 use Rattle.plan_expand.specs.Fitting.{AreListed, IsListed}
 use Rattle.plan_expand.specs.ReadyView.{HasFragments, ready_fragment}
 use Rattle.plan_expand.proofs.Lists.{end_left, first_left, rest_left}
@@ -26,7 +26,7 @@ use Rattle.plan_expand.proofs.Lists.{end_left, first_left, rest_left}
 
 pairs_at : (from : ℕ) (xs : List (Text × Val)) → argument_pairs (arguments_at from xs) ≡ xs
 pairs_at from [] = refl
-pairs_at from (x ∷ xs) = ap (λ (ys : List (Text × Val)). x ∷ ys) (pairs_at _ xs)
+pairs_at from (x ∷ xs) = ap (λ (ys : List (Text × Val)). x ∷ ys) (pairs_at (from + (2 + value_nodes x.1)) xs)
 
 pub trees_at : (from : ℕ) (ds : List Directive) → directive_trees (directives_at from ds) ≡ ds
 trees_at from [] = refl
@@ -42,60 +42,71 @@ spread_number from = omega arith
 sites_count : (defs : Defs) (from : ℕ) (around : Option Text) (s : Sels) → length (sites defs from around s) ≡ selections_count s
 sites_count defs from around sels.end = refl
 sites_count defs from around (sels.field a n xs ds s rest) =
-    let e : length (sites defs _ (below defs around n) s ++ sites defs _ around rest) ≡ length (sites defs _ (below defs around n) s) + length (sites defs _ around rest) =
-    length-append (sites defs (from + head_nodes a + arguments_nodes xs + directives_nodes ds) (below defs around n) s) (sites defs (from + head_nodes a + arguments_nodes xs + directives_nodes ds + selections_nodes s) around rest) in
-    omega (arith, e, sites_count defs (from + head_nodes a + arguments_nodes xs + directives_nodes ds) (below defs around n) s, sites_count defs (from + head_nodes a + arguments_nodes xs + directives_nodes ds + selections_nodes s) around rest)
+    let inner : ℕ = from + head_nodes a + arguments_nodes xs + directives_nodes ds in
+    let ss : List Site = sites defs inner (below defs around n) s in
+    let rs : List Site = sites defs (inner + selections_nodes s) around rest in
+    let one : length ss ≡ selections_count s = sites_count defs inner (below defs around n) s in
+    let two : length rs ≡ selections_count rest = sites_count defs (inner + selections_nodes s) around rest in
+    let all : length (ss ++ rs) ≡ length ss + length rs = length-append ss rs in
+    omega (arith, all, one, two)
 sites_count defs from around (sels.spread n ds rest) = omega (arith, sites_count defs (from + 2 + directives_nodes ds) around rest)
 sites_count defs from around (sels.inline o ds s rest) =
-    let e : length (sites defs _ (condition_or around o) s ++ sites defs _ around rest) ≡ length (sites defs _ (condition_or around o) s) + length (sites defs _ around rest) =
-    length-append (sites defs (from + 1 + optional_name_nodes o + directives_nodes ds) (condition_or around o) s) (sites defs (from + 1 + optional_name_nodes o + directives_nodes ds + selections_nodes s) around rest) in
-    omega (arith, e, sites_count defs (from + 1 + optional_name_nodes o + directives_nodes ds) (condition_or around o) s, sites_count defs (from + 1 + optional_name_nodes o + directives_nodes ds + selections_nodes s) around rest)
+    let inner : ℕ = from + 1 + optional_name_nodes o + directives_nodes ds in
+    let ss : List Site = sites defs inner (condition_or around o) s in
+    let rs : List Site = sites defs (inner + selections_nodes s) around rest in
+    let one : length ss ≡ selections_count s = sites_count defs inner (condition_or around o) s in
+    let two : length rs ≡ selections_count rest = sites_count defs (inner + selections_nodes s) around rest in
+    let all : length (ss ++ rs) ≡ length ss + length rs = length-append ss rs in
+    omega (arith, all, one, two)
 
 -- ---- one set, with any two ways to enter spreads that agree
 
-field_made : Defs → Scope → (around alias : Option Text) → Text → List (Text × Val) → List Directive → Sels → FilePlace → (inside rest : Nodes) → Nodes
+abbrev field_made : Defs → Scope → (around alias : Option Text) → Text → List (Text × Val) → List Directive → Sels → FilePlace → (inside rest : Nodes) → Nodes
 field_made defs scope around a n xs ds s h inside rest =
     field (response_key a n) n (substitute_in scope xs) (printed_directives scope ds) (connection_among ds) (type_or (field_type defs around n))
     (nodes_append inside (additions defs (is_some (connection_among ds)) (base_of (type_or (field_type defs around n))) s h)) h rest
 
 module _ (p : Project) (scope : Scope) (places : Places) (one : Enter) (other : (from : ℕ) → Text → List Directive → Nodes → Nodes)
     (same : (from : ℕ) (h : FilePlace) (n : Text) (ds : List Directive) (rest : Nodes) → h ≡ p.place from → one scope h n ds rest ≡ other from n ds rest) where
-  made : (s : Sels) (from at : ℕ) (around : Option Text) (more : Places) → drop at places ≡ site_places_in p.place (sites p.defs from around s) ++ more
+  set_is : (s : Sels) (from at : ℕ) (around : Option Text) (more : Places) → drop at places ≡ site_places_in p.place (sites p.defs from around s) ++ more
       → making_with one p.defs scope places at around s ≡ expansion_with other p scope from around s
-  made sels.end from at around more e = refl
-  made (sels.field a n xs ds s rest) from at around more e =
+  set_is sels.end from at around more e = refl
+  set_is (sels.field a n xs ds s rest) from at around more e =
       let inner : ℕ = from + head_nodes a + arguments_nodes xs + directives_nodes ds in
       let ss : List Site = sites p.defs inner (below p.defs around n) s in
       let rs : List Site = sites p.defs (inner + selections_nodes s) around rest in
       let h : FilePlace = p.place from in
       let parts : site_places_in p.place (ss ++ rs) ++ more ≡ site_places_in p.place ss ++ (site_places_in p.place rs ++ more) =
       ap (λ (l : Places). l ++ more) (map-append (site_place p.place) ss rs) ∙ append_assoc (site_places_in p.place ss) (site_places_in p.place rs) more in
-      let here : site_place p.place _ ≡ h = ap p.place (number_at from a n) in
-      let whole : drop at places ≡ h ∷ (site_places_in p.place ss ++ (site_places_in p.place rs ++ more)) = e ∙ (λ i. here i ∷ parts i) in
-      λ i. field_made p.defs scope around a n xs ds s (first_left places at first_place h _ whole i)
-      (made s inner (at + 1) (below p.defs around n) (site_places_in p.place rs ++ more) (rest_left places at h _ whole) i)
-      (made rest (inner + selections_nodes s) (at + (1 + selections_count s)) around more
-      (end_left places at (selections_count s) h (site_places_in p.place ss) _ whole (length-map ss (site_place p.place) ∙ sites_count p.defs inner (below p.defs around n) s)) i)
-  made (sels.spread n ds rest) from at around more e =
+      let here : p.place (field_number (optional_name_at (from + 1) a) (record { name = n; at = from + 1 + optional_name_nodes a })) ≡ h = ap p.place (number_at from a n) in
+      let behind : Places = site_places_in p.place ss ++ (site_places_in p.place rs ++ more) in
+      let whole : drop at places ≡ h ∷ behind = e ∙ (λ i. here i ∷ parts i) in
+      λ i. field_made p.defs scope around a n xs ds s (first_left places at first_place h behind whole i)
+      (set_is s inner (at + 1) (below p.defs around n) (site_places_in p.place rs ++ more) (rest_left places at h behind whole) i)
+      (set_is rest (inner + selections_nodes s) (at + (1 + selections_count s)) around more
+      (end_left places at (selections_count s) h (site_places_in p.place ss) (site_places_in p.place rs ++ more) whole (length-map ss (site_place p.place) ∙ sites_count p.defs inner (below p.defs around n) s)) i)
+  set_is (sels.spread n ds rest) from at around more e =
       let rs : List Site = sites p.defs (from + 2 + directives_nodes ds) around rest in
       let h : FilePlace = p.place from in
-      let here : site_place p.place _ ≡ h = ap p.place (spread_number from) in
-      let whole : drop at places ≡ h ∷ (site_places_in p.place rs ++ more) = e ∙ (λ i. here i ∷ (site_places_in p.place rs ++ more)) in
-      same from _ n ds _ (first_left places at first_place h _ whole)
-      ∙ ap (other from n ds) (made rest (from + 2 + directives_nodes ds) (at + 1) around more (rest_left places at h _ whole))
-  made (sels.inline o ds s rest) from at around more e =
+      let here : p.place ((from + 1) - 1) ≡ h = ap p.place (spread_number from) in
+      let behind : Places = site_places_in p.place rs ++ more in
+      let whole : drop at places ≡ h ∷ behind = e ∙ (λ i. here i ∷ behind) in
+      same from (get_or places at first_place) n ds (making_with one p.defs scope places (at + 1) around rest) (first_left places at first_place h behind whole)
+      ∙ ap (other from n ds) (set_is rest (from + 2 + directives_nodes ds) (at + 1) around more (rest_left places at h behind whole))
+  set_is (sels.inline o ds s rest) from at around more e =
       let inner : ℕ = from + 1 + optional_name_nodes o + directives_nodes ds in
       let ss : List Site = sites p.defs inner (condition_or around o) s in
       let rs : List Site = sites p.defs (inner + selections_nodes s) around rest in
       let h : FilePlace = p.place from in
       let parts : site_places_in p.place (ss ++ rs) ++ more ≡ site_places_in p.place ss ++ (site_places_in p.place rs ++ more) =
       ap (λ (l : Places). l ++ more) (map-append (site_place p.place) ss rs) ∙ append_assoc (site_places_in p.place ss) (site_places_in p.place rs) more in
-      let whole : drop at places ≡ h ∷ (site_places_in p.place ss ++ (site_places_in p.place rs ++ more)) = e ∙ (λ i. h ∷ parts i) in
+      let behind : Places = site_places_in p.place ss ++ (site_places_in p.place rs ++ more) in
+      let whole : drop at places ≡ h ∷ behind = e ∙ (λ i. h ∷ parts i) in
       λ i. inline o (printed_directives scope ds)
-      (made s inner (at + 1) (condition_or around o) (site_places_in p.place rs ++ more) (rest_left places at h _ whole) i)
-      (first_left places at first_place h _ whole i)
-      (made rest (inner + selections_nodes s) (at + (1 + selections_count s)) around more
-      (end_left places at (selections_count s) h (site_places_in p.place ss) _ whole (length-map ss (site_place p.place) ∙ sites_count p.defs inner (condition_or around o) s)) i)
+      (set_is s inner (at + 1) (condition_or around o) (site_places_in p.place rs ++ more) (rest_left places at h behind whole) i)
+      (first_left places at first_place h behind whole i)
+      (set_is rest (inner + selections_nodes s) (at + (1 + selections_count s)) around more
+      (end_left places at (selections_count s) h (site_places_in p.place ss) (site_places_in p.place rs ++ more) whole (length-map ss (site_place p.place) ∙ sites_count p.defs inner (condition_or around o) s)) i)
 
 -- ---- spreads
 
@@ -119,9 +130,9 @@ module _ (p : Project) (find : Find) (k : ℕ) (fewer : IsMade p find k) where
 
 pub making_is : (p : Project) (find : Find) → HasFragments p.place find p.fragments → AreListed p → (k : ℕ) → IsMade p find k
 making_is p find ready listed zero scope places s from at around more e =
-    made p scope places (entering zero p.defs find) (λ f n ds rest. rest) (λ f h n ds rest place. refl) s from at around more e
+    set_is p scope places (entering zero p.defs find) (λ f n ds rest. rest) (λ f h n ds rest place. refl) s from at around more e
 making_is p find ready listed (suc k) scope places s from at around more e =
-    made p scope places (entering (suc k) p.defs find)
+    set_is p scope places (entering (suc k) p.defs find)
     (λ f n ds rest. enter_with (λ g. expansion k p (scope_at_spread scope ds g) (selections_from g) (Some g.on.name) g.selections) p scope f (fragment_named p.fragments n) ds rest)
     (λ f h n ds rest place.
     ap (λ (o : Option Ready). enter_ready (entering k p.defs find) p.defs scope h o ds rest) (ready n)

@@ -1,5 +1,5 @@
 -- Extents that are put together.
-use Rattle.std.proofs.Common.{◌≡◌, ◌+◌, List, [], ◌∷◌, ◌++◌, refl, ap, sym, ◌∙◌, arith}
+use Rattle.std.proofs.Common.{◌≡◌, ◌+◌, arith}
 use Rattle.std.specs.Prelude.{max}
 use Rattle.plan_expand.specs.Extents.{both, no_extent}
 use Rattle.plan_expand.specs.declared.extent.Extent.{Extent}

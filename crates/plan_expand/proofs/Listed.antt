@@ -11,21 +11,21 @@ use Rattle.plan_ir.specs.Expansion.{is_named, operation_from, operation_named, s
 use Rattle.schema_tables.specs.Types.{Text, Defs, root}
 use Rattle.schema_trees.specs.Located.{Located, directives_nodes}
 use Rattle.schema_types.specs.NameRules.{fragment_named, fragment_of, fragments, operation_of, operations}
-use Rattle.schema_types.specs.Sites.{DefinitionAt, FragmentAt, OperationAt, all_definitions, definition_nodes, definitions_at, document_nodes, documents_at, fragment_at, operation_at, optional_name_at, optional_name_nodes, sites, variable_nodes, variables_at, variables_nodes}
+use Rattle.schema_types.specs.Sites.{FragmentAt, OperationAt, all_definitions, definition_nodes, definitions_at, document_nodes, documents_at, fragment_at, operation_at, optional_name_at, optional_name_nodes, sites, variable_nodes, variables_at, variables_nodes}
 use Rattle.plan_expand.proofs.Expanding.{trees_at}
 
-abbrev pub Listed : Defs → FragmentAt → Type 0
-Listed defs f = f.sites ≡ sites defs (selections_from f) (Some f.on.name) f.selections
+abbrev pub IsFragmentListed : Defs → FragmentAt → Type 0
+IsFragmentListed defs f = f.sites ≡ sites defs (selections_from f) (Some f.on.name) f.selections
 
 abbrev AllListed : Defs → List FragmentAt → Type 0
 AllListed defs [] = Unit {0}
-AllListed defs (f ∷ fs) = Listed defs f × AllListed defs fs
+AllListed defs (f ∷ fs) = IsFragmentListed defs f × AllListed defs fs
 
 both_listed : (defs : Defs) (fs gs : List FragmentAt) → AllListed defs fs → AllListed defs gs → AllListed defs (fs ++ gs)
 both_listed defs [] gs a b = b
 both_listed defs (f ∷ fs) gs a b = (a.0, both_listed defs fs gs a.1 b)
 
-fragment_listed : (defs : Defs) (from : ℕ) (f : Fragment) → Listed defs (fragment_at defs from f)
+fragment_listed : (defs : Defs) (from : ℕ) (f : Fragment) → IsFragmentListed defs (fragment_at defs from f)
 fragment_listed defs from f =
     let e : from + 4 + directives_nodes f.directives ≡ selections_from (fragment_at defs from f) = omega (arith, ap directives_nodes (trees_at (from + 4) f.directives)) in
     ap (λ (k : ℕ). sites defs k (Some f.on) f.selections) e
@@ -42,15 +42,15 @@ documents_listed defs from (d ∷ ds) =
     (both_listed defs (fragments (definitions_at defs (from + 1) d.definitions)) (fragments (documents_at defs (from + document_nodes d) ds))
     (definitions_listed defs (from + 1) d.definitions) (documents_listed defs (from + document_nodes d) ds))
 
-first_listed : (defs : Defs) (b : Bool) (g f : FragmentAt) (rest : Option FragmentAt) → Listed defs g → (rest ≡ Some f → Listed defs f) → cond b (Some g) rest ≡ Some f → Listed defs f
-first_listed defs true g f rest here more e = let same : g ≡ f = cc e in subst (Listed defs) same here
+first_listed : (defs : Defs) (b : Bool) (g f : FragmentAt) (rest : Option FragmentAt) → IsFragmentListed defs g → (rest ≡ Some f → IsFragmentListed defs f) → cond b (Some g) rest ≡ Some f → IsFragmentListed defs f
+first_listed defs true g f rest here more e = let same : g ≡ f = cc e in subst (IsFragmentListed defs) same here
 first_listed defs false g f rest here more e = more e
 
-named_listed : (defs : Defs) (fs : List FragmentAt) (n : Text) (f : FragmentAt) → AllListed defs fs → fragment_named fs n ≡ Some f → Listed defs f
+named_listed : (defs : Defs) (fs : List FragmentAt) (n : Text) (f : FragmentAt) → AllListed defs fs → fragment_named fs n ≡ Some f → IsFragmentListed defs f
 named_listed defs [] n f a e = cc
 named_listed defs (g ∷ fs) n f a e = first_listed defs (bytes_eq g.name.name n) g f (fragment_named fs n) a.0 (named_listed defs fs n f a.1) e
 
-pub fragments_listed : (defs : Defs) (ds : List Document) (n : Text) (f : FragmentAt) → fragment_named (fragments (all_definitions defs ds)) n ≡ Some f → Listed defs f
+pub fragments_listed : (defs : Defs) (ds : List Document) (n : Text) (f : FragmentAt) → fragment_named (fragments (all_definitions defs ds)) n ≡ Some f → IsFragmentListed defs f
 fragments_listed defs ds n f e = named_listed defs (fragments (all_definitions defs ds)) n f (documents_listed defs 0 ds) e
 
 -- ---- operations

@@ -1,8 +1,8 @@
 -- Steps of the walk that makes nodes: one more selection, and all of them.
-use Rattle.std.proofs.Common.{◌≡◌, ℕ, zero, suc, ◌+◌, ◌-◌, ◌<◌, ◌≤◌, List, [], ◌∷◌, drop, length, get_or, Option, Some, None, refl, ap, sym, ◌∙◌, arith}
+use Rattle.std.proofs.Common.{◌≡◌, ℕ, zero, suc, ◌+◌, ◌-◌, ◌<◌, ◌≤◌, List, ◌∷◌, drop, length, get_or, Option, Some, None, refl, ap, sym, ◌∙◌, arith}
 use Rattle.std.proofs.lemmas.List.{drop_all, drop_more}
 use Rattle.gql_ast.specs.SelectionView.{sel_before, sel_of, sels_of}
-use Rattle.gql_ast.specs.Sels.{Sels, end}
+use Rattle.gql_ast.specs.Sels.{Sels}
 use Rattle.gql_ast.specs.declared.directive.Directive.{Directive}
 use Rattle.gql_ast.specs.declared.selection.Selection.{Selection}
 use Rattle.gql_ast.specs.declared.selection.Selection.TheVariants as S
@@ -13,7 +13,7 @@ use Rattle.plan_ir.specs.Nodes.{Nodes, nodes_append}
 use Rattle.plan_ir.specs.Substitution.{Scope}
 use Rattle.schema_tables.specs.Types.{Text, Defs}
 use Rattle.plan_expand.specs.Places.{Places}
-use Rattle.plan_expand.specs.Making.{Enter, Find, Ready, enter_ready, entering, making, making_with, selections_count, spread_node}
+use Rattle.plan_expand.specs.Making.{Find, Ready, enter_ready, entering, making, selections_count, spread_node}
 
 -- what a spread becomes stands in front of what follows it
 entering_rest : (k : ℕ) (defs : Defs) (find : Find) (scope : Scope) (h : FilePlace) (n : Text) (ds : List Directive) (rest : Nodes)
@@ -28,14 +28,18 @@ entering_rest (suc k) defs find scope h n ds rest = on (find n) where
 making_before : (k : ℕ) (defs : Defs) (find : Find) (scope : Scope) (places : Places) (at : ℕ) (around : Option Text) (x : Selection) (t : Sels)
     → making k defs find scope places at around (sel_before x t)
     ≡ nodes_append (making k defs find scope places at around (sel_of x)) (making k defs find scope places (at + selections_count (sel_of x)) around t)
-making_before k defs find scope places at around (S.Field a n xs ds s) t = refl
+making_before k defs find scope places at around (S.Field a n xs ds s) t =
+    let e : 1 + selections_count s ≡ 1 + selections_count s + 0 = omega arith in
+    ap (λ (m : ℕ). nodes_append (making k defs find scope places at around (sel_of (S.Field a n xs ds s))) (making k defs find scope places (at + m) around t)) e
 making_before k defs find scope places at around (S.Spread n ds) t = entering_rest k defs find scope _ n ds _
-making_before k defs find scope places at around (S.Inline o ds s) t = refl
+making_before k defs find scope places at around (S.Inline o ds s) t =
+    let e : 1 + selections_count s ≡ 1 + selections_count s + 0 = omega arith in
+    ap (λ (m : ℕ). nodes_append (making k defs find scope places at around (sel_of (S.Inline o ds s))) (making k defs find scope places (at + m) around t)) e
 
 count_before : (x : Selection) (t : Sels) → selections_count (sel_before x t) ≡ selections_count (sel_of x) + selections_count t
-count_before (S.Field a n xs ds s) t = refl
-count_before (S.Spread n ds) t = refl
-count_before (S.Inline o ds s) t = refl
+count_before (S.Field a n xs ds s) t = omega arith
+count_before (S.Spread n ds) t = omega arith
+count_before (S.Inline o ds s) t = omega arith
 
 -- one more selection of a set
 pub make_next : (k : ℕ) (defs : Defs) (find : Find) (scope : Scope) (places : Places) (around : Option Text) (xs : List Selection) (i at at' : ℕ) (x : Selection) (old new whole : Nodes)

@@ -1,5 +1,5 @@
 -- What the code measures is how large the expansion is.
-use Rattle.std.proofs.Common.{◌≡◌, ℕ, zero, suc, ◌+◌, ◌≤◌, Bool, List, [], ◌∷◌, ◌++◌, map, length, Option, Some, None, option_map, refl, ap, sym, ◌∙◌, arith}
+use Rattle.std.proofs.Common.{◌≡◌, ℕ, zero, suc, ◌+◌, ◌≤◌, Bool, List, [], ◌++◌, map, Option, Some, None, option_map, refl, ap, sym, ◌∙◌, arith}
 use Rattle.std.specs.Prelude.{is_some, max}
 use Rattle.gql_ast.specs.Sels as sels
 use Rattle.gql_ast.specs.Sels.{Sels}
@@ -12,7 +12,7 @@ use Rattle.relay_dirs.specs.Connections.{connection_among}
 use Rattle.plan_ir.specs.Nodes.{Nodes, nodes_append, set_depth}
 use Rattle.plan_ir.specs.Sizes.{all_count, all_depth, arguments_count, arguments_depth, directives_count, directives_depth, nodes_count, nodes_value_depth}
 use Rattle.plan_ir.specs.Substitution.{Scope, arguments_at_spread, arguments_in, scope_at_spread, substitute_in}
-use Rattle.schema_tables.specs.Types.{Text, Defs, base_of}
+use Rattle.schema_tables.specs.Types.{Text, base_of}
 use Rattle.schema_trees.specs.Located.{directives_nodes}
 use Rattle.schema_types.specs.NameRules.{fragment_named}
 use Rattle.schema_types.specs.Sites.{FragmentAt, arguments_nodes, below, condition_or, field_type, head_nodes, optional_name_nodes, selections_nodes}
@@ -52,6 +52,24 @@ inline_levels level s r = field_levels level 0 s r ∙ ap (λ (k : ℕ). on_leve
   none_more : (k : ℕ) → max k 0 ≡ k
   none_more k = omega arith
 
+-- ---- depths of values
+
+max_assoc : (a b c : ℕ) → max (max a b) c ≡ max a (max b c)
+max_assoc a b c = omega arith
+
+max_swap : (a b c d : ℕ) → max (max a b) (max c d) ≡ max (max a c) (max b d)
+max_swap a b c d = omega arith
+
+max_none : (a : ℕ) → max a 0 ≡ a
+max_none a = omega arith
+
+-- values of depth `v` at a node with `s` in its set and `r` beside it; what is given there and there has the depths `g` and `h`
+inline_depths : (v s g r h : ℕ) → max (max v (max s g)) (max r h) ≡ max (max v (max s r)) (max g h)
+inline_depths v s g r h = max_assoc v (max s g) (max r h) ∙ ap (max v) (max_swap s g r h) ∙ sym (max_assoc v (max s r) (max g h))
+
+field_depths : (x d s g r h : ℕ) → max (max (max x d) (max s g)) (max r h) ≡ max (max x (max d (max s r))) (max g h)
+field_depths x d s g r h = inline_depths (max x d) s g r h ∙ ap (λ (m : ℕ). max m (max g h)) (max_assoc x d (max s r))
+
 -- ---- nodes on a level, and values that are given
 
 abbrev pub extent_of : (level : ℕ) → Nodes → List Val → Extent
@@ -85,9 +103,12 @@ module _ (enter : Enter) (p : Project) (sizes : Sizes) (scope : Scope) (known : 
       let sets_is : max (max (level + size.depth) (on_level (level + 1) (set_depth inside))) (on_level level (set_depth after)) ≡ on_level level (max (set_depth (nodes_append inside added) + 1) (set_depth after)) =
       field_levels level size.depth (set_depth inside) (set_depth after)
       ∙ ap (λ (k : ℕ). on_level level (max (k + 1) (set_depth after))) (sym (depth_append inside added ∙ ap (max (set_depth inside)) h.depth)) in
+      let flat : nodes_value_depth (nodes_append inside added) ≡ nodes_value_depth inside =
+      value_depth_append inside added ∙ ap (max (nodes_value_depth inside)) h.flat ∙ max_none (nodes_value_depth inside) in
       let values_is : max (max (max (arguments_depth ys) (directives_depth es)) (max (nodes_value_depth inside) (all_depth gs))) (max (nodes_value_depth after) (all_depth hs))
       ≡ max (max (arguments_depth ys) (max (directives_depth es) (max (nodes_value_depth (nodes_append inside added)) (nodes_value_depth after)))) (all_depth (gs ++ hs)) =
-      omega (arith, value_depth_append inside added, all_depth_append gs hs, h.flat) in
+      field_depths (arguments_depth ys) (directives_depth es) (nodes_value_depth inside) (all_depth gs) (nodes_value_depth after) (all_depth hs)
+      ∙ (λ i. max (max (arguments_depth ys) (max (directives_depth es) (max (sym flat i) (nodes_value_depth after)))) (sym (all_depth_append gs hs) i)) in
       (λ i. both (both (record {
         count = 1 + (((args i).count + (dirs i).count) + size.count);
         sets = level + size.depth;
@@ -113,7 +134,8 @@ module _ (enter : Enter) (p : Project) (sizes : Sizes) (scope : Scope) (known : 
       inline_levels level (set_depth inside) (set_depth after) in
       let values_is : max (max (directives_depth es) (max (nodes_value_depth inside) (all_depth gs))) (max (nodes_value_depth after) (all_depth hs))
       ≡ max (max (directives_depth es) (max (nodes_value_depth inside) (nodes_value_depth after))) (all_depth (gs ++ hs)) =
-      omega (arith, all_depth_append gs hs) in
+      inline_depths (directives_depth es) (nodes_value_depth inside) (all_depth gs) (nodes_value_depth after) (all_depth hs)
+      ∙ ap (max (max (directives_depth es) (max (nodes_value_depth inside) (nodes_value_depth after)))) (sym (all_depth_append gs hs)) in
       (λ i. both (both (record { count = 1 + ((dirs i).count + 0); sets = level + 0; values = (dirs i).depth }) (one i)) (two i))
       ∙ (λ i. record { count = count_is i; sets = sets_is i; values = values_is i })
 

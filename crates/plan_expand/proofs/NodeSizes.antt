@@ -9,8 +9,7 @@ use Rattle.gql_ast.specs.Value.{Val}
 use Rattle.gql_ast.specs.declared.place.FilePlace.{FilePlace}
 use Rattle.plan_ir.specs.Additions.{additions, bare_field, connection_additions, edges_field, has_bare, id_additions, id_field, ids_on, is_abstract, leaf_on, node_field, or_typename, page_info_field, record_additions, type_on, typename_additions, typename_field}
 use Rattle.plan_ir.specs.Nodes.{Nodes, end, field, inline, nodes_append, set_depth}
-use Rattle.plan_ir.specs.Sizes.{all_count, all_depth, nodes_count, nodes_value_depth, val_count}
-use Rattle.gql_ast.specs.Value.{val_depth}
+use Rattle.plan_ir.specs.Sizes.{all_count, all_depth, nodes_count, nodes_value_depth}
 use Rattle.schema_tables.specs.Types.{Text, Defs, base_of, has_id, possible}
 use Rattle.schema_types.specs.Sites.{is_set}
 use Rattle.plan_expand.proofs.AdditionSteps.{ids_on_is}

@@ -30,6 +30,12 @@ steps_before k find (S.Field a n xs ds s) t = omega arith
 steps_before k find (S.Spread n ds) t = omega arith
 steps_before k find (S.Inline o ds s) t = omega arith
 
+-- a selection alone
+pub total_alone : (k : ℕ) (defs : Defs) (find : Find) (sizes : Sizes) (level : ℕ) (around : Option Text) (x y : Selection) (part old new : Extent)
+    → x ≡ y → both part no_extent ≡ total k defs find sizes level around (sel_of y) → new ≡ both old part → new ≡ both old (total k defs find sizes level around (sel_of x))
+total_alone k defs find sizes level around x y part old new is whole put =
+    put ∙ ap (both old) (sym (both_none part) ∙ whole ∙ ap (λ (z : Selection). total k defs find sizes level around (sel_of z)) (sym is))
+
 -- one more selection of a set
 pub total_next : (k : ℕ) (defs : Defs) (find : Find) (sizes : Sizes) (level : ℕ) (around : Option Text) (xs : List Selection) (i : ℕ) (x : Selection) (old new whole : Extent)
     → i < length xs → x ≡ get_or xs i x → new ≡ both old (total k defs find sizes level around (sel_of x))
@@ -178,5 +184,9 @@ many_already e rest whole h many =
     le-leb 100001 whole.count (omega arith)
 
 -- no spread waits any more
-pub all_there : (defs : Defs) (find : Find) (e : Extent) (ps : List Pending) (whole : Extent) → ps ≡ [] → both e (all_total defs find ps) ≡ whole → e ≡ whole
-all_there defs find e ps whole none w = sym (both_none e) ∙ sym (ap (λ (l : List Pending). both e (all_total defs find l)) none) ∙ w
+none_left : (ps : List Pending) → length ps ≡ 0 → ps ≡ []
+none_left [] e = refl
+none_left (p ∷ ps) e = absurd (omega (arith, e))
+
+pub all_there : (defs : Defs) (find : Find) (e : Extent) (ps : List Pending) (whole : Extent) → length ps ≡ 0 → both e (all_total defs find ps) ≡ whole → e ≡ whole
+all_there defs find e ps whole none w = sym (both_none e) ∙ sym (ap (λ (l : List Pending). both e (all_total defs find l)) (none_left ps none)) ∙ w

@@ -1,6 +1,5 @@
 -- What stands ready in the code is a project's.
 use Rattle.std.specs.Prelude.{◌≡◌, Some}
-use Rattle.std.specs.List.{AllByRecursion}
 use Rattle.plan_ir.specs.Expansion.{Project, selections_from}
 use Rattle.schema_types.specs.NameRules.{fragment_named}
 use Rattle.schema_types.specs.Sites.{FragmentAt, sites}

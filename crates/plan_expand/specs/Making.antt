@@ -1,5 +1,5 @@
 -- Expansion as the code goes: with the place of each selection by its number in text order, and the fragments by their names.
-use Rattle.std.specs.Prelude.{ℕ, zero, suc, ◌+◌, cond, List, Option, Some, None, get_or, is_some}
+use Rattle.std.specs.Prelude.{ℕ, zero, suc, ◌+◌, List, Option, Some, None, get_or, is_some}
 use Rattle.gql_ast.specs.Sels as sels
 use Rattle.gql_ast.specs.Sels.{Sels}
 use Rattle.gql_ast.specs.Value.{Val}

@@ -1,5 +1,5 @@
 -- What stands ready to expand, and what is made of it.
-use Rattle.std.specs.Prelude.{◌≡◌, List, [], length, Option, Some, None, Result}
+use Rattle.std.specs.Prelude.{◌≡◌, [], length, Option, Some, None, Result}
 use Rattle.plan_ir.specs.Expansion.{name_or}
 use Rattle.plan_ir.specs.Nodes.{Nodes}
 use Rattle.plan_ir.specs.Substitution.{Scope, mark_local, operation_scope}

@@ -1,7 +1,7 @@
 -- The set itself is measured, and then the spreads that wait, until none does or there are too many nodes.
 use Rattle.std.proofs.Common.{ap, sym, ◌∙◌, arith}
 use Rattle.std.specs.Prelude.{option_copied}
-use Rattle.plan_expand.specs.Extents.{both, values_extent}
+use Rattle.plan_expand.specs.Extents.{both}
 use Rattle.plan_expand.specs.Measuring.{total}
 use Rattle.plan_expand.specs.ProgressView.{all_steps, all_total}
 use Rattle.plan_expand.specs.ReadyView.{find_in}
@@ -24,8 +24,22 @@ pending-preserved c =
     ∙ popped_total c.args.adding.now.schema.now (find_in c.args.fragments.now) c.pending.progress.extent c.pop.new.self.items c.pending.progress.pending.items c.in-Some.next c.in-Some.ensures.items
     ∙ c.pending.invariant
 
-pub pending-decreases : goal.pending-decreases
-pending-decreases c =
+pub pending-preserved-in_ok-measure_pending : goal.pending-preserved-in_ok-measure_pending
+pending-preserved-in_ok-measure_pending c =
+    c.in_ok-measure_pending.ensures.total
+    ∙ popped_total c.args.adding.now.schema.now (find_in c.args.fragments.now) c.pending.progress.extent c.pop.new.self.items c.pending.progress.pending.items c.in-Some.next c.in-Some.ensures.items
+    ∙ c.pending.invariant
+
+pub pending-smaller : goal.pending-smaller
+pending-smaller c =
+    omega (
+      arith,
+      popped_steps (find_in c.args.fragments.now) c.pop.new.self.items c.pending.progress.pending.items c.in-Some.next (all_steps (find_in c.args.fragments.now) c.measure_pending.new.progress.pending.items)
+          c.in-Some.ensures.items c.in_ok-measure_pending.ensures.steps,
+    )
+
+pub pending-smaller-in_ok-measure_pending : goal.pending-smaller-in_ok-measure_pending
+pending-smaller-in_ok-measure_pending c =
     omega (
       arith,
       popped_steps (find_in c.args.fragments.now) c.pop.new.self.items c.pending.progress.pending.items c.in-Some.next (all_steps (find_in c.args.fragments.now) c.measure_pending.new.progress.pending.items)
@@ -41,4 +55,4 @@ returns-then-has_too_many_nodes c =
 pub returns : goal.returns
 returns c =
     enough_all _ c.pending.progress.extent
-    (all_there c.args.adding.now.schema.now (find_in c.args.fragments.now) c.pending.progress.extent c.pending.progress.pending.items _ c.in-None.ensures.items c.pending.invariant)
+    (all_there c.args.adding.now.schema.now (find_in c.args.fragments.now) c.pending.progress.extent c.pending.progress.pending.items _ (omega (arith, c.in_default.ensures.cases.0, c.pending.progress.pending.ok.0)) c.pending.invariant)

@@ -11,7 +11,7 @@ use Rattle.plan_expand.proofs.check.measure_all.Given as goal
 abbrev pub invariant-pending : goal.invariant-pending
 invariant-pending l =
     whole_total l.adding.schema.now (find_in l.fragments) l.progress
-    ≡ both (values_extent l.values) (total l.spreads l.adding.schema.now (find_in l.fragments) own_sizes 1 (option_copied l.around) l.selections)
+    ≡ both (values_extent l.fn.values) (total l.spreads l.adding.schema.now (find_in l.fragments) own_sizes 1 (option_copied l.around) l.selections)
 
 abbrev pub decreases-pending : goal.decreases-pending
 decreases-pending l = all_steps (find_in l.fragments) l.progress.pending.items

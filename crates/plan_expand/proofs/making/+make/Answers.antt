@@ -1,10 +1,10 @@
--- One more selection, and all of them; a spread that may be entered, or may not.
-use Rattle.std.proofs.Common.{◌-◌, get_or, ap, sym, ◌∙◌, arith}
+-- One more selection, and all of them; a spread that may be entered, or may not; what stands in the place of a spread.
+use Rattle.std.proofs.Common.{◌≡◌, ◌-◌, get_or, Some, ap, sym, ◌∙◌, arith}
 use Rattle.std.specs.Prelude.{option_copied, option_map}
 use Rattle.gql_ast.specs.declared.place.FilePlace.{FilePlace}
-use Rattle.plan_ir.specs.Nodes.{nodes_append}
+use Rattle.plan_ir.specs.Nodes.{end, inline}
 use Rattle.plan_expand.specs.Places.{first_place}
-use Rattle.plan_expand.specs.Making.{spread_node}
+use Rattle.plan_expand.specs.Making.{making, ready_scope, spread_node}
 use Rattle.plan_expand.specs.ReadyView.{find_in, ready_of}
 use Rattle.plan_expand.specs.ScopeView.{scope_of}
 use Rattle.plan_expand.proofs.MakingSteps.{count_end, count_next, make_end, make_next, put_found, put_missing, put_none}
@@ -27,8 +27,8 @@ make_set-returns-clause-made t c =
 pub make_set-returns-clause-passed : goal.make_set-returns-clause-passed
 make_set-returns-clause-passed t c = count_end c.as_slice-selection-items.result.now c.selections.selection-index _ _ (omega arith) c.selections.invariant.2
 
-pub put_spread-returns-then-walk-clause-made : goal.put_spread-returns-then-walk-clause-made
-put_spread-returns-then-walk-clause-made t c =
+pub put_spread-returns-then-walk-eq0-clause-made : goal.put_spread-returns-then-walk-eq0-clause-made
+put_spread-returns-then-walk-eq0-clause-made t c =
     put_none c.args.walk.spreads c.args.walk.adding.now.schema.now (find_in c.args.walk.fragments.now) (scope_of c.args.walk.scope.now) (get_or c.args.walk.places.now c.args.at.now first_place) c.args.name.now c.args.directives.now c.args.nodes.now (omega arith)
 
 pub put_spread-returns-in_ok-push-in-Some-clause-made : goal.put_spread-returns-in_ok-push-in-Some-clause-made
@@ -43,3 +43,9 @@ pub put_spread-returns-in-None-clause-made : goal.put_spread-returns-in-None-cla
 put_spread-returns-in-None-clause-made t c =
     put_missing c.args.walk.spreads c.args.walk.adding.now.schema.now (find_in c.args.walk.fragments.now) (scope_of c.args.walk.scope.now) (get_or c.args.walk.places.now c.args.at.now first_place) c.args.name.now c.args.directives.now c.args.nodes.now
     (ap (find_in c.args.walk.fragments.now) (sym c.as_str.ensures) ∙ sym c.find.ensures ∙ ap (option_map (λ f. ready_of f.now)) c.in-None.is)
+
+pub make_spread-returns : goal.make_spread-returns
+make_spread-returns t c =
+    let inside : c.in_ok-inside.inside ≡ making (c.args.walk.spreads - 1) c.args.walk.adding.now.schema.now (find_in c.args.walk.fragments.now) (ready_scope (scope_of c.args.walk.scope.now) c.args.directives.now (ready_of c.args.fragment.now)) c.args.fragment.now.places.items 0 (Some c.args.fragment.now.on.now) c.args.fragment.now.selections.now =
+    c.in_ok-inside.ensures.made ∙ (λ i. making (c.args.walk.spreads - 1) c.args.walk.adding.now.schema.now (find_in c.args.walk.fragments.now) (λ n. c.in_ok-scope.ensures n i) (c.deref.ensures.value i) 0 (Some c.args.fragment.now.on.now) c.args.fragment.now.selections.now) in
+    λ i. inline (Some (c.in_ok-condition.ensures i)) (c.in_ok-printed.ensures i) (inside i) c.args.place end

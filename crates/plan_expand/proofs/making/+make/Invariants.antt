@@ -1,5 +1,5 @@
 -- What is made and what is left are the whole. Each set stands on one level less.
-use Rattle.std.proofs.Common.{◌≡◌, ◌+◌, ◌*◌, ◌≤◌, drop}
+use Rattle.std.proofs.Common.{◌≡◌, ◌+◌, ◌*◌, drop}
 use Rattle.std.specs.Prelude.{option_copied}
 use Rattle.gql_ast.specs.SelectionView.{sels_of}
 use Rattle.plan_ir.specs.Nodes.{nodes_append}

@@ -1,5 +1,5 @@
 -- One more selection, and all of them; what a selection adds.
-use Rattle.std.proofs.Common.{◌+◌, ◌≤◌, ap, ◌∙◌, arith}
+use Rattle.std.proofs.Common.{◌+◌, ◌≤◌, refl, ap, ◌∙◌, arith}
 use Rattle.std.specs.Prelude.{option_copied}
 use Rattle.gql_ast.specs.SelectionView.{sel_of}
 use Rattle.gql_ast.specs.Sels.{depth}
@@ -9,7 +9,7 @@ use Rattle.plan_expand.specs.Measuring.{steps, total}
 use Rattle.plan_expand.specs.ProgressView.{all_steps, all_total}
 use Rattle.plan_expand.specs.ReadyView.{find_in}
 use Rattle.plan_expand.specs.SizesView.{sizes_of}
-use Rattle.plan_expand.proofs.ProgressSteps.{node_then, one_below, steps_end, steps_next, total_end, total_next}
+use Rattle.plan_expand.proofs.ProgressSteps.{node_then, one_below, steps_end, steps_next, total_alone, total_end, total_next}
 use Rattle.plan_expand.proofs.measure.+measure.Goals as goal
 
 pub measure_set-measure_selection-requires : goal.measure_set-measure_selection-requires
@@ -35,6 +35,21 @@ measure_set-returns-clause-total t c =
 pub measure_set-returns-clause-steps : goal.measure_set-returns-clause-steps
 measure_set-returns-clause-steps t c =
     steps_end c.args.measure.spreads (find_in c.args.measure.fragments.now) c.as_slice-selection-items.result.now c.selections.selection-index _ _ (omega arith) c.selections.invariant.2
+
+pub measure_selection-returns-in_ok-added-in-Field-clause-total : goal.measure_selection-returns-in_ok-added-in-Field-clause-total
+measure_selection-returns-in_ok-added-in-Field-clause-total t c =
+    total_alone c.args.measure.spreads c.args.measure.adding.now.schema.now (find_in c.args.measure.fragments.now) (sizes_of c.args.measure.scope.now) c.args.level (option_copied c.args.around)
+    c.args.selection.now _ _ _ _ c.in-Field.is refl c.in_ok-added-in-Field.ensures.total
+
+pub measure_selection-returns-in_ok-added-in-Spread-clause-total : goal.measure_selection-returns-in_ok-added-in-Spread-clause-total
+measure_selection-returns-in_ok-added-in-Spread-clause-total t c =
+    total_alone c.args.measure.spreads c.args.measure.adding.now.schema.now (find_in c.args.measure.fragments.now) (sizes_of c.args.measure.scope.now) c.args.level (option_copied c.args.around)
+    c.args.selection.now _ _ _ _ c.in-Spread.is refl c.in_ok-added-in-Spread.ensures.total
+
+pub measure_selection-returns-in_ok-added-in-Inline-clause-total : goal.measure_selection-returns-in_ok-added-in-Inline-clause-total
+measure_selection-returns-in_ok-added-in-Inline-clause-total t c =
+    total_alone c.args.measure.spreads c.args.measure.adding.now.schema.now (find_in c.args.measure.fragments.now) (sizes_of c.args.measure.scope.now) c.args.level (option_copied c.args.around)
+    c.args.selection.now _ _ _ _ c.in-Inline.is refl c.in_ok-added-in-Inline.ensures.total
 
 pub measure_field-returns-clause-total : goal.measure_field-returns-clause-total
 measure_field-returns-clause-total t c =

@@ -7,13 +7,13 @@ use Rattle.plan_expand.specs.SizesView.{sizes_of}
 use Rattle.plan_expand.proofs.ProgressSteps.{spread_found, spread_missing, spread_none, steps_found, steps_missing, steps_none}
 use Rattle.plan_expand.proofs.measure.measure_spread.Goals as goal
 
-pub returns-then-measure-clause-total : goal.returns-then-measure-clause-total
-returns-then-measure-clause-total c =
+pub returns-then-measure-eq0-clause-total : goal.returns-then-measure-eq0-clause-total
+returns-then-measure-eq0-clause-total c =
     spread_none c.args.measure.spreads c.args.measure.adding.now.schema.now (find_in c.args.measure.fragments.now) (sizes_of c.args.measure.scope.now) c.args.level c.args.name.now c.args.directives.now
     (whole_total c.args.measure.adding.now.schema.now (find_in c.args.measure.fragments.now) c.args.progress.now) (omega arith)
 
-pub returns-then-measure-clause-steps : goal.returns-then-measure-clause-steps
-returns-then-measure-clause-steps c =
+pub returns-then-measure-eq0-clause-steps : goal.returns-then-measure-eq0-clause-steps
+returns-then-measure-eq0-clause-steps c =
     steps_none c.args.measure.spreads (find_in c.args.measure.fragments.now) c.args.name.now (all_steps (find_in c.args.measure.fragments.now) c.args.progress.now.pending.items) (omega arith)
 
 pub returns-in_ok-put_pending-in-Some-clause-total : goal.returns-in_ok-put_pending-in-Some-clause-total

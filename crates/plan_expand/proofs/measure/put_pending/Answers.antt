@@ -1,5 +1,5 @@
 -- The spread waits, and its own node is added.
-use Rattle.std.proofs.Common.{◌-◌, Some, ap, ◌∙◌, arith}
+use Rattle.std.proofs.Common.{◌-◌, Some, ap, ◌∙◌}
 use Rattle.plan_expand.specs.Extents.{both, node_extent}
 use Rattle.plan_expand.specs.Measuring.{sizes_at_spread, total}
 use Rattle.plan_expand.specs.ReadyView.{find_in, ready_of}

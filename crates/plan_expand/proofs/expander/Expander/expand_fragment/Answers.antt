@@ -5,8 +5,8 @@ use Rattle.plan_expand.specs.ReadyView.{find_in, ready_of}
 use Rattle.plan_expand.proofs.Answering.{found_none, fragment_answered, fragment_has}
 use Rattle.plan_expand.proofs.expander.Expander.expand_fragment.Goals as goal
 
-pub returns-in-Some : goal.returns-in-Some
-returns-in-Some c =
+pub returns : goal.returns
+returns c =
     fragment_answered c.args.self.now c.requires.ready c.args.name.now (ready_of c.in-Some.ready.now)
     (sym (ap (option_map (λ f. ready_of f.now)) c.in-Some.is) ∙ c.find.ensures ∙ ap (find_in c.args.self.now.fragments) c.as_str.ensures) _ c.expand_alone.ensures
 

@@ -5,8 +5,8 @@ use Rattle.plan_expand.specs.OperationsView.{find_operation, operation_view}
 use Rattle.plan_expand.proofs.Answering.{found_none, operation_answered, operation_has}
 use Rattle.plan_expand.proofs.expander.Expander.expand_operation.Goals as goal
 
-pub returns-in-Some : goal.returns-in-Some
-returns-in-Some c =
+pub returns : goal.returns
+returns c =
     operation_answered c.args.self.now c.requires.ready c.args.name.now (operation_view c.in-Some.ready.now)
     (sym (ap (option_map (λ o. operation_view o.now)) c.in-Some.is) ∙ c.find.ensures ∙ ap (find_operation c.args.self.now.operations) c.as_str.ensures) _ c.expand_ready.ensures
 

@@ -1,5 +1,5 @@
 -- What stands ready is that of the schema and the documents.
-use Rattle.std.proofs.Common.{map, option_map, length, ap, ◌∙◌}
+use Rattle.std.proofs.Common.{option_map, length, ap, ◌∙◌}
 use Rattle.plan_ir.specs.Expansion.{operation_named}
 use Rattle.schema_types.specs.NameRules.{fragment_named, fragments, operations}
 use Rattle.plan_expand.specs.Places.{place_in}
