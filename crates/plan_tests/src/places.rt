@@ -24,14 +24,16 @@ fn put_connection(text: &mut String, connection: &Option<Conn>) -> Result<(), Fa
 }
 
 /// Writes nodes, those inside a node behind it.
+#[cycle(places)]
 fn put_places(text: &mut String, nodes: &Nodes) -> Result<(), Fail> {
-    for node in nodes.as_slice() {
+    for node in &nodes.items {
         put_place(text, node)?;
     }
     Ok(())
 }
 
 /// Writes a node, and those inside it.
+#[cycle(places)]
 fn put_place(text: &mut String, node: &Node) -> Result<(), Fail> {
     match node {
         Node::Field {

@@ -1,10 +1,11 @@
 //! Expanded operations and fragments as texts.
-use gql_ast::{Arguments, Directives, ValueTree};
+use gql_ast::{Arguments, Directives, ValueTree, ValueTrees};
 use plan_ir::{Expanded, Node, Nodes};
 use std::alloc::Global;
 use std::test::Fail;
 
 /// Writes a value.
+#[cycle(values)]
 fn put_value(text: &mut String, value: &ValueTree) -> Result<(), Fail> {
     match value {
         ValueTree::Variable(name) => {
@@ -23,12 +24,7 @@ fn put_value(text: &mut String, value: &ValueTree) -> Result<(), Fail> {
         ValueTree::Enum(name) => text.push_str(name.as_str())?,
         ValueTree::List(values) => {
             text.push_str("[")?;
-            let mut between = "";
-            for value in values.as_slice() {
-                text.push_str(between)?;
-                put_value(text, value)?;
-                between = ",";
-            }
+            put_values(text, values)?;
             text.push_str("]")?;
         }
         ValueTree::Object(fields) => {
@@ -40,10 +36,23 @@ fn put_value(text: &mut String, value: &ValueTree) -> Result<(), Fail> {
     Ok(())
 }
 
+/// Writes values in written order.
+#[cycle(values)]
+fn put_values(text: &mut String, values: &ValueTrees) -> Result<(), Fail> {
+    let mut between = "";
+    for value in &values.items {
+        text.push_str(between)?;
+        put_value(text, value)?;
+        between = ",";
+    }
+    Ok(())
+}
+
 /// Writes names and values in written order.
+#[cycle(values)]
 fn put_pairs(text: &mut String, pairs: &Arguments) -> Result<(), Fail> {
     let mut between = "";
-    for pair in pairs.as_slice() {
+    for pair in &pairs.items {
         text.push_str(between)?;
         text.push_str(pair.name.as_str())?;
         text.push_str(":")?;
@@ -75,13 +84,14 @@ fn put_directives(text: &mut String, directives: &Directives) -> Result<(), Fail
 }
 
 /// Writes a set, where it has a node.
+#[cycle(nodes)]
 fn put_set(text: &mut String, nodes: &Nodes) -> Result<(), Fail> {
     if nodes.is_empty() {
         return Ok(());
     }
     text.push_str("{")?;
     let mut between = "";
-    for node in nodes.as_slice() {
+    for node in &nodes.items {
         text.push_str(between)?;
         put_node(text, node)?;
         between = " ";
@@ -91,6 +101,7 @@ fn put_set(text: &mut String, nodes: &Nodes) -> Result<(), Fail> {
 }
 
 /// Writes a node.
+#[cycle(nodes)]
 fn put_node(text: &mut String, node: &Node) -> Result<(), Fail> {
     match node {
         Node::Field {
