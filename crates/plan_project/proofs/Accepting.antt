@@ -5,10 +5,10 @@ use Rattle.gql_ast.specs.declared.document.Definition.TheVariants as D
 use Rattle.gql_ast.specs.declared.document.Document.{Document}
 use Rattle.gql_ast.specs.declared.document.Operation.{Operation}
 use Rattle.gql_ast.specs.declared.place.Placed.{Placed}
+use Rattle.plan_project.proofs.LeastLaws.{nothing_first, nothing_then}
 use Rattle.plan_project.proofs.Looking.{found-append}
 use Rattle.plan_project.specs.Lookups.{definitions_in, or_else, first_of, compiled_operation, operation_by, operation_under, operation, compiled_fragment, fragment_under, fragment, HasRoot, IsOnComposite}
-use Rattle.plan_project.specs.Projects.{IsAccepted, IsAcceptedProject}
-use Rattle.plan_project.specs.declared.operations.Compiled.{Compiled}
+use Rattle.plan_project.specs.Projects.{IsAcceptedProject}
 use Rattle.plan_project.specs.declared.operations.CompiledFragment.{CompiledFragment}
 use Rattle.relay_dirs.specs.RelayRules.{relay_rules}
 use Rattle.schema_types.specs.DocumentRules.{field_rules, argument_rules, trees_of}
@@ -21,23 +21,15 @@ use Rattle.schema_rules.specs.declared.fault.Rule.TheVariants as R
 
 -- ---- rules that hold
 
-nothing_first : {A : Type 0} (xs ys : List A) → xs ++ ys ≡ [] → xs ≡ []
-nothing_first [] ys e = refl
-nothing_first (x ∷ xs) ys e = cc
-
-nothing_then : {A : Type 0} (xs ys : List A) → xs ++ ys ≡ [] → ys ≡ []
-nothing_then [] ys e = e
-nothing_then (x ∷ xs) ys e = cc
-
 not_wrong : (b : Bool) (at : ℕ) → wrong (not b) at ≡ [] → b ≡ true
 not_wrong true at e = refl
 not_wrong false at e = cc
 
-holds : (r : Rule) (ns : List ℕ) (more : List (Rule × List ℕ)) → first_broken ((r, ns) ∷ more) ≡ None → ns ≡ []
+pub holds : (r : Rule) (ns : List ℕ) (more : List (Rule × List ℕ)) → first_broken ((r, ns) ∷ more) ≡ None → ns ≡ []
 holds r [] more e = refl
 holds r (n ∷ ns) more e = cc
 
-rest_holds : (r : Rule) (ns : List ℕ) (more : List (Rule × List ℕ)) → first_broken ((r, ns) ∷ more) ≡ None → first_broken more ≡ None
+pub rest_holds : (r : Rule) (ns : List ℕ) (more : List (Rule × List ℕ)) → first_broken ((r, ns) ∷ more) ≡ None → first_broken more ≡ None
 rest_holds r [] more e = e
 rest_holds r (n ∷ ns) more e = cc
 

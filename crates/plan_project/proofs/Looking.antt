@@ -1,10 +1,12 @@
 -- What is found first among definitions, as a table is filled with it.
-use Rattle.std.proofs.Common.{◌≡◌, ◌<◌, ◌+◌, ℕ, Bool, true, false, cond, List, [], ◌∷◌, ◌++◌, length, get_or, drop, Option, Some, None, is_some, refl, sym, ap, ◌∙◌, add-one, drop-cons}
-use Rattle.std.proofs.lemmas.List.{drop_all}
+use Rattle.std.proofs.Common.{◌≡◌, ◌<◌, ◌+◌, ℕ, Bool, true, false, cond, List, [], ◌∷◌, ◌++◌, length, get_or, drop, map, Option, Some, None, is_some, refl, sym, ap, ◌∙◌, add-one, drop-cons}
 use Rattle.gql_ast.specs.declared.document.Definition.{Definition}
 use Rattle.gql_ast.specs.declared.document.Document.{Document}
 use Rattle.gql_ast.specs.declared.place.Placed.{Placed}
+use Rattle.gql_ast.specs.declared.variable.VariableDef.{VariableDef}
 use Rattle.plan_project.specs.Lookups.{definitions_in, or_else, first_of}
+use Rattle.relay_dirs.specs.Locals.{Local}
+use Rattle.relay_dirs.specs.View.{local_view}
 
 pub or_else-none : {X : Type 0} (o : Option X) → or_else o None ≡ o
 or_else-none None = refl
@@ -61,3 +63,9 @@ module _ {Y : Type 0} (find : Definition → Option Y) where
   found_in_documents [] = refl
   found_in_documents (p ∷ ps) =
       ap (or_else (in_document p)) (found_in_documents ps) ∙ sym (found-append find p.tree.definitions (definitions_in ps))
+
+-- ---- local variables
+
+pub local_names_are : (vs : List VariableDef) → map (λ (v : VariableDef). v.name) vs ≡ map (λ (l : Local). l.name) (map local_view vs)
+local_names_are [] = refl
+local_names_are (v ∷ vs) = ap (λ ns. v.name ∷ ns) (local_names_are vs)

@@ -1,5 +1,6 @@
 -- Files are one project at most, or have one fault at most, and not both.
 use Rattle.std.proofs.Common.{◌≡◌, ◌⊎◌, ◌==◌, ℕ, suc, cond, List, [], ◌∷◌, Option, Some, None, Result, Ok, Err, sym, ap, subst, inl, inr, ◌∙◌}
+use Rattle.doc_merge.specs.declared.fault.PlaceFault.{PlaceFault}
 use Rattle.gql_ast.specs.declared.document.Document.{Document}
 use Rattle.gql_ast.specs.declared.fault.ParseFault.{ParseFault}
 use Rattle.gql_ast.specs.declared.fault.ParseFault.TheVariants.{Syntax, NoMemory as NoRoom}
@@ -7,6 +8,7 @@ use Rattle.gql_ast.specs.declared.fault.SyntaxFault.{SyntaxFault}
 use Rattle.gql_ast.specs.declared.place.FilePlace.{FilePlace}
 use Rattle.gql_ast.specs.declared.place.Placed.{Placed}
 use Rattle.gql_ast.specs.declared.schema.SchemaTree.{SchemaTree}
+use Rattle.gql_graph.specs.Rules.{first_broken}
 use Rattle.gql_parse.specs.Documents.{documents, nodes_of}
 use Rattle.gql_parse.specs.Trees.{IsDocument}
 use Rattle.gql_sdl.specs.Schemas as sdl
@@ -16,12 +18,14 @@ use Rattle.gql_syntax.specs.FirstFault.{Grammar}
 use Rattle.gql_syntax.specs.Texts.{IsParseFault}
 use Rattle.plan_project.proofs.DocumentLaws.{only_of}
 use Rattle.plan_project.specs.Faults.{place_at, fault_at, IsFound}
-use Rattle.plan_project.specs.Projects.{AreDocuments, AreTrees, IsAcceptedProject, document_rules, syntax_rule, IsSyntaxOf, IsDocumentsFault, IsTextFault, Breaks, Break}
+use Rattle.plan_project.proofs.RuleLaws.{all_nodes}
+use Rattle.plan_project.specs.Expansions.{merge_fault, size_rules}
+use Rattle.plan_project.specs.Projects.{AreDocuments, AreTrees, IsAcceptedProject, document_rules, node_rules, syntax_rule, IsSyntaxOf, IsDocumentsFault, IsTextFault, Breaks, IsMergeFault, Break}
 use Rattle.plan_project.specs.Verdicts.{IsTheProject, IsTheFault, IsRefusal, Files, texts_of, AreTheProject, HaveTheFault, AreOnlyDocuments, AreNoDocuments, IsFaultOf}
 use Rattle.plan_project.specs.declared.compiling.CompileFault.{CompileFault}
 use Rattle.plan_project.specs.declared.compiling.CompileFault.TheVariants.{Refused, NoMemory}
 use Rattle.schema_rules.specs.Checked.{IsSound}
-use Rattle.schema_types.specs.DocumentRules.{Meet}
+use Rattle.schema_types.specs.DocumentRules.{Meet, places_of}
 use Rattle.schema_tables.specs.Types.{Text, Defs}
 use Rattle.plan_project.specs.declared.fault.ProjectFault.{ProjectFault}
 use Rattle.schema_rules.specs.declared.fault.Rule.{Rule}
@@ -103,6 +107,31 @@ one_found found places f h x y =
 none_found : (found : Option (Rule × ℕ)) (places : List FilePlace) (f : ProjectFault) → found ≡ None → IsFound found places f → ⊥
 none_found found places f none x = let e = sym none ∙ x.first in cc
 
+-- ---- faults of documents, and of what their operations and fragments become
+
+-- all rules hold
+abbrev pub MeetAll : Defs → List (Placed Document) → Type 0
+MeetAll defs ps = Meet document_rules defs ps × (first_broken (size_rules defs ps) ≡ None) × (merge_fault defs ps ≡ None)
+
+module _ (defs : Defs) (ps : List (Placed Document)) where
+  one_merge : (f h : ProjectFault) → IsMergeFault defs ps f → IsMergeFault defs ps h → f ≡ h
+  one_merge f h x y =
+      let e : Some x.found ≡ Some y.found = sym x.first ∙ y.first in
+      let same : x.found ≡ y.found = cc e in
+      x.fault ∙ ap (λ (g : PlaceFault). fault_at g.place g.rule) same ∙ sym y.fault
+
+  one_breaks : (f h : ProjectFault) → Break defs ps f → Break defs ps h → f ≡ h
+  one_breaks f h x y = elim x [
+    | inl a ↦ elim y [ inl b ↦ one_found (first_broken (node_rules defs ps)) (places_of ps) f h a b | inr b ↦ absurd (none_found (first_broken (node_rules defs ps)) (places_of ps) f b.met a) ]
+    | inr a ↦ elim y [ inl b ↦ absurd (none_found (first_broken (node_rules defs ps)) (places_of ps) h a.met b) | inr b ↦ one_merge f h a b ]
+  ]
+
+  none_breaks : (f : ProjectFault) → MeetAll defs ps → Break defs ps f → ⊥
+  none_breaks f m x = elim x [
+    | inl a ↦ none_found (first_broken (node_rules defs ps)) (places_of ps) f (all_nodes defs ps m.0 ∙ m.1) a
+    | inr a ↦ let e = sym m.2 ∙ a.first in cc
+  ]
+
 -- ---- what is found
 
 -- a text has a fault
@@ -165,10 +194,10 @@ module _ (schema : Text) (texts : List Text) (tree : Placed SchemaTree) (ps : Li
   breaks_here : (q : Placed SchemaTree) (qs : List (Placed Document)) (f : ProjectFault) → AreTrees schema texts q qs → Breaks q f → Breaks tree f
   breaks_here q qs f a h = subst (λ x. Breaks x f) (t.only_schema q a.schema_is) h
 
-  meet_here : (q : Placed SchemaTree) (qs : List (Placed Document)) → AreTrees schema texts q qs → Meet document_rules q.tree.definitions qs → Meet document_rules defs ps
+  meet_here : (q : Placed SchemaTree) (qs : List (Placed Document)) → AreTrees schema texts q qs → MeetAll q.tree.definitions qs → MeetAll defs ps
   meet_here q qs a h =
-      subst (λ (x : Placed SchemaTree). Meet document_rules x.tree.definitions ps) (t.only_schema q a.schema_is)
-      (subst (λ xs. Meet document_rules q.tree.definitions xs) (t.only_documents qs a.documents_are) h)
+      subst (λ (x : Placed SchemaTree). MeetAll x.tree.definitions ps) (t.only_schema q a.schema_is)
+      (subst (λ xs. MeetAll q.tree.definitions xs) (t.only_documents qs a.documents_are) h)
 
   rule_here : (q : Placed SchemaTree) (qs : List (Placed Document)) (f : ProjectFault) → AreTrees schema texts q qs → Break q.tree.definitions qs f
       → Break defs ps f
@@ -184,11 +213,11 @@ module _ (schema : Text) (texts : List Text) (tree : Placed SchemaTree) (ps : Li
   one_break : (f h : ProjectFault) → Breaks tree f → Breaks tree h → f ≡ h
   one_break f h x y = one_found _ tree.places f h x y
 
-  no_rule : (f : ProjectFault) → Meet document_rules defs ps → Break defs ps f → ⊥
-  no_rule f m b = none_found _ _ f m b
+  no_rule : (f : ProjectFault) → MeetAll defs ps → Break defs ps f → ⊥
+  no_rule f m b = none_breaks defs ps f m b
 
   one_rule : (f h : ProjectFault) → Break defs ps f → Break defs ps h → f ≡ h
-  one_rule f h x y = one_found _ _ f h x y
+  one_rule f h x y = one_breaks defs ps f h x y
 
   -- the schema breaks a rule
   pub found_in_schema : (f : ProjectFault) → Breaks tree f → IsTheFault schema texts f
@@ -214,17 +243,18 @@ module _ (schema : Text) (texts : List Text) (tree : Placed SchemaTree) (ps : Li
         | inr v ↦ one_rule other f (rule_here v.tree v.ps other v.trees v.breaks) breaks
       ]
     ];
-    none = λ own qs k. no_rule f (meet_here k.tree qs k.trees (subst (λ d. Meet document_rules d qs) k.says k.meet)) breaks;
+    none = λ own qs k. no_rule f (meet_here k.tree qs k.trees (subst (λ d. MeetAll d qs) k.says (k.meet, k.sizes, k.merges))) breaks;
   }
 
-  -- the documents break a rule, by the definitions that are kept
+  -- the documents break a rule at a node, or what they become breaks one at a place, by the definitions that are kept
   pub found_in_rules : (own : Defs) (f : ProjectFault) → own ≡ defs → IsSound own → Break own ps f → IsTheFault schema texts f
   found_in_rules own f same sound breaks = found_in_documents f (subst IsSound same sound) (subst (λ d. Break d ps f) same breaks)
 
   -- all rules hold
-  pub found_project : (own : Defs) → own ≡ defs → IsSound own → Meet document_rules own ps → IsTheProject schema texts own ps
-  found_project own same sound meet = record {
-    is = record { tree = tree; trees = t.trees; says = same; sound = sound; meet = meet };
+  pub found_project : (own : Defs) → own ≡ defs → IsSound own → Meet document_rules own ps → first_broken (size_rules own ps) ≡ None → merge_fault own ps ≡ None
+      → IsTheProject schema texts own ps
+  found_project own same sound meet sizes merges = record {
+    is = record { tree = tree; trees = t.trees; says = same; sound = sound; meet = meet; sizes = sizes; merges = merges };
     only = λ other qs k.
         let says : other ≡ own = k.says ∙ ap (λ (x : Placed SchemaTree). x.tree.definitions) (t.only_schema k.tree k.trees.schema_is) ∙ sym same in
         let are : qs ≡ ps = t.only_documents qs k.trees.documents_are in
@@ -233,7 +263,7 @@ module _ (schema : Text) (texts : List Text) (tree : Placed SchemaTree) (ps : Li
       | inl u ↦ no_text f u
       | inr u ↦ elim u [
         | inl v ↦ no_break f (subst IsSound same sound) (breaks_here v.tree v.ps f v.trees v.breaks)
-        | inr v ↦ no_rule f (subst (λ d. Meet document_rules d ps) same meet) (rule_here v.tree v.ps f v.trees v.breaks)
+        | inr v ↦ no_rule f (subst (λ d. MeetAll d ps) same (meet, sizes, merges)) (rule_here v.tree v.ps f v.trees v.breaks)
       ]
     ];
   }

@@ -1,8 +1,13 @@
--- The rules on documents in four groups, one after another.
-use Rattle.std.proofs.Common.{List, ◌++◌, ◌∙◌}
+-- The rules on documents in four groups, one after another, and then those on what operations and fragments become.
+use Rattle.std.proofs.Common.{◌≡◌, List, ◌++◌, Some, ◌∙◌}
 use Rattle.gql_ast.specs.declared.document.Document.{Document}
 use Rattle.gql_ast.specs.declared.place.Placed.{Placed}
-use Rattle.plan_project.specs.Projects.{document_rules}
+use Rattle.plan_project.specs.Expansions.{size_rules}
+use Rattle.plan_project.specs.Noting.{IsFaultOfDocuments, IsFaultOfExpansions}
+use Rattle.plan_project.specs.Projects.{document_rules, node_rules}
+use Rattle.plan_project.specs.declared.fault.DocumentsFault.{DocumentsFault}
+use Rattle.plan_project.specs.declared.fault.DocumentsFault.TheVariants as D
+use Rattle.gql_graph.specs.Rules.{first_broken}
 use Rattle.gql_graph.proofs.LeastSteps.{first_before, first_after}
 use Rattle.relay_dirs.specs.RelayRules.{relay_rules}
 use Rattle.schema_types.specs.DocumentRules.{Rules, name_rules, field_rules, argument_rules, trees_of, Meet, BreakRule, AreFaulty}
@@ -62,3 +67,18 @@ module _ (defs : Defs) (ps : List (Placed Document)) where
   all_met names fields arguments relay =
       first_after (name_rules defs ds) later names ∙ first_after (field_rules defs ds) last fields
       ∙ first_after (argument_rules defs ds) (relay_rules defs ds) arguments ∙ relay
+
+  -- ---- and then what operations and fragments become
+
+  -- the documents break one of those rules
+  pub rules_broken : (f : NodeFault) → BreakRule document_rules defs ps f → first_broken (node_rules defs ps) ≡ Some (f.rule, f.node)
+  rules_broken f b = first_before (document_rules defs ds) (size_rules defs ps) (f.rule, f.node) b
+
+  pub all_nodes : Meet document_rules defs ps → first_broken (node_rules defs ps) ≡ first_broken (size_rules defs ps)
+  all_nodes meet = first_after (document_rules defs ds) (size_rules defs ps) meet
+
+  -- what they become breaks one
+  pub expansions_faulty : (e : DocumentsFault) → Meet document_rules defs ps → IsFaultOfExpansions defs ps e → IsFaultOfDocuments defs ps e
+  expansions_faulty (D.Node f) meet h = all_nodes meet ∙ h
+  expansions_faulty (D.Place f) meet h = (all_nodes meet ∙ h.0, h.1)
+  expansions_faulty D.NoMemory meet h = tt

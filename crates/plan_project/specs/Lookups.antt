@@ -1,6 +1,5 @@
 -- What a project is looked up for: its operations and its fragments, by their names.
-use Rattle.std.specs.Prelude.{◌≡◌, true, cond, List, [], ◌∷◌, ◌++◌, map, codes, Option, Some, None, unwrap_or, bytes_eq}
-use Rattle.gql_ast.specs.Value.{Val}
+use Rattle.std.specs.Prelude.{◌≡◌, true, cond, List, [], ◌∷◌, ◌++◌, map, Option, Some, None, unwrap_or, bytes_eq}
 use Rattle.gql_ast.specs.declared.directive.Directive.{Directive}
 use Rattle.gql_ast.specs.declared.document.Definition.{Definition}
 use Rattle.gql_ast.specs.declared.document.Definition.TheVariants as D
@@ -10,7 +9,7 @@ use Rattle.gql_ast.specs.declared.document.Operation.{Operation}
 use Rattle.gql_ast.specs.declared.place.Placed.{Placed}
 use Rattle.plan_project.specs.declared.operations.Compiled.{Compiled}
 use Rattle.plan_project.specs.declared.operations.CompiledFragment.{CompiledFragment}
-use Rattle.gql_graph.specs.Rules.{each}
+use Rattle.relay_dirs.specs.Locals.{Local, locals_of_tree}
 use Rattle.schema_tables.specs.Types.{Text, Defs, is_composite, possible, root}
 
 -- all definitions, in the order of the files and of their texts
@@ -47,18 +46,15 @@ operation defs ps n = first_of (operation_under defs n) (definitions_in ps)
 
 -- ---- fragments
 
-abbrev pub names_of : List (Text × Val) → List Text
-names_of xs = map (λ (x : Text × Val). x.0) xs
-
--- the local variables that a directive defines: the names of the arguments of `@argumentDefinitions`
-abbrev pub locals_by : Directive → List Text
-locals_by d = cond (bytes_eq d.name (codes "argumentDefinitions")) (names_of d.arguments) []
+-- the names of the local variables of a fragment
+abbrev pub local_names : List Directive → List Text
+local_names ds = map (λ (l : Local). l.name) (locals_of_tree ds)
 
 abbrev pub compiled_fragment : Defs → Fragment → CompiledFragment
 compiled_fragment defs f = record {
   name = f.name;
   on = f.on;
-  locals = each locals_by f.directives;
+  locals = local_names f.directives;
   types = cond (is_composite defs f.on) (possible defs f.on) [];
 }
 

@@ -1,6 +1,7 @@
--- The project that files are, or its first fault: a fault of a text in the order of the files, a rule of schemas, a rule of documents.
+-- The project that files are, or its first fault: a fault of a text in the order of the files, a rule of schemas, a rule of documents, a
+-- rule of what operations and fragments become.
 -- Files are the schema and then the documents, numbered from 0.
-use Rattle.std.specs.Prelude.{◌≡◌, ◌⊎◌, ℕ, suc, List, [], ◌∷◌, ◌++◌}
+use Rattle.std.specs.Prelude.{◌≡◌, ◌⊎◌, ℕ, suc, List, [], ◌∷◌, ◌++◌, Some, None}
 use Rattle.gql_ast.specs.declared.document.Document.{Document}
 use Rattle.gql_ast.specs.declared.fault.ParseFault.TheVariants.{Syntax}
 use Rattle.gql_ast.specs.declared.fault.SyntaxFault.{SyntaxFault}
@@ -11,8 +12,10 @@ use Rattle.gql_parse.specs.Trees.{IsDocument}
 use Rattle.gql_sdl.specs.Schemas.{schemas}
 use Rattle.gql_sdl.specs.Trees.{IsSchema}
 use Rattle.gql_syntax.specs.Texts.{IsParseFault}
+use Rattle.doc_merge.specs.declared.fault.PlaceFault.{PlaceFault}
 use Rattle.gql_graph.specs.Rules.{first_broken}
-use Rattle.plan_project.specs.Faults.{IsFound}
+use Rattle.plan_project.specs.Expansions.{merge_fault, size_rules}
+use Rattle.plan_project.specs.Faults.{fault_at, IsFound}
 use Rattle.plan_project.specs.declared.fault.ProjectFault.{ProjectFault}
 use Rattle.relay_dirs.specs.RelayRules.{relay_rules}
 use Rattle.schema_rules.specs.Checked.{IsSound, first_fault}
@@ -34,9 +37,13 @@ pub record AreTrees (schema : Text) (texts : List Text) (tree : Placed SchemaTre
   pub schema_is : IsSchema 0 schema tree
   pub documents_are : AreDocuments 1 texts ps
 
--- all rules on documents in their order
+-- all rules on documents themselves, in their order
 abbrev pub document_rules : Defs → List DefinitionAt → Rules
 document_rules defs ds = name_rules defs ds ++ (field_rules defs ds ++ (argument_rules defs ds ++ relay_rules defs ds))
+
+-- and then those on the sizes of what operations and fragments become
+abbrev pub node_rules : Defs → List (Placed Document) → Rules
+node_rules defs ps = document_rules defs (all_definitions defs (trees_of ps)) ++ size_rules defs ps
 
 -- ---- the accepted project: what its schema says, and its documents
 
@@ -46,6 +53,8 @@ pub record IsAccepted (schema : Text) (texts : List Text) (defs : Defs) (ps : Li
   pub says : defs ≡ tree.tree.definitions
   pub sound : IsSound defs
   pub meet : Meet document_rules defs ps
+  pub sizes : first_broken (size_rules defs ps) ≡ None
+  pub merges : merge_fault defs ps ≡ None
 
 -- some texts are this project
 pub record IsAcceptedProject (defs : Defs) (ps : List (Placed Document)) : Type 0 where
@@ -90,9 +99,16 @@ IsTextFault schema texts f =
 abbrev pub Breaks : Placed SchemaTree → ProjectFault → Type 0
 Breaks tree f = IsFound (first_fault tree.tree.definitions) tree.places f
 
--- the documents break a rule, likewise
+-- the documents break no rule at a node, and what an operation or a fragment becomes breaks V23 or V24
+pub record IsMergeFault (defs : Defs) (ps : List (Placed Document)) (f : ProjectFault) : Type 0 where
+  pub met : first_broken (node_rules defs ps) ≡ None
+  pub found : PlaceFault
+  pub first : merge_fault defs ps ≡ Some found
+  pub fault : f ≡ fault_at found.place found.rule
+
+-- the documents, or what their operations and fragments become, break a rule: the first of them, at the least of its nodes or places
 abbrev pub Break : Defs → List (Placed Document) → ProjectFault → Type 0
-Break defs ps f = IsFound (first_broken (document_rules defs (all_definitions defs (trees_of ps)))) (places_of ps) f
+Break defs ps f = IsFound (first_broken (node_rules defs ps)) (places_of ps) f ⊎ IsMergeFault defs ps f
 
 -- all are read, and the schema breaks a rule
 pub record IsSchemaFault (schema : Text) (texts : List Text) (f : ProjectFault) : Type 0 where

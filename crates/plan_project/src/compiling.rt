@@ -3,10 +3,10 @@ ghost use Rattle.std.specs.Prelude.{◌≤◌, ◌<◌, ◌^◌, ◌-◌, length
 ghost use Rattle.plan_project.specs.Verdicts.{AreTheProject, HaveTheFault, IsTheProject, IsRefusal, texts_of};
 
 use crate::checking::check_documents;
-use crate::fault::ProjectFault;
+use crate::fault::{DocumentsFault, ProjectFault};
 use crate::file::ProjectFile;
 use crate::parsing::{fault_of, parse_documents};
-use crate::places::{documents_fault, schema_fault};
+use crate::places::{documents_fault, fault_at, schema_fault};
 use crate::project::Project;
 use gql_plain::NoMemory;
 use gql_sdl::parse_schema;
@@ -26,9 +26,11 @@ pub enum CompileFault {
 ///
 /// # Errors
 ///
-/// The fault of the first file that is no text of its grammar; else the first of the rules S1 to S12
-/// that the schema does not meet; else the first of the rules V1 to V22 that the documents do not
-/// meet; each at its least place by file, line and column. `NoMemory`.
+/// The fault of the first file that is no text of its grammar (L1 to L8); else the first of the rules
+/// S1 to S12 that the schema does not meet; else the first of the rules V1 to V22 that the documents
+/// do not meet; else the first of E1, E2, V23 and V24 that an operation or a fragment does not meet
+/// where all spreads are followed: E1 and E2 at its name. Each is told at its least place by file,
+/// line and column. `NoMemory`.
 pub fn compile(alloc: Global, files: &[ProjectFile]) -> Result<Project, CompileFault>
     requires least { 2 ≤ length files.now }
     requires most { length files.now < 2 ^ 32 }
@@ -69,7 +71,12 @@ fn compile_files(
             Ok(project) => Ok(project),
             Err(NoMemory) => Err(CompileFault::NoMemory),
         },
-        Err(RuleFault::Rule(fault)) => Err(CompileFault::Refused(documents_fault(&trees, fault))),
-        Err(RuleFault::NoMemory) => Err(CompileFault::NoMemory),
+        Err(DocumentsFault::Node(fault)) => {
+            Err(CompileFault::Refused(documents_fault(&trees, fault)))
+        }
+        Err(DocumentsFault::Place(fault)) => {
+            Err(CompileFault::Refused(fault_at(&fault.place, fault.rule)))
+        }
+        Err(DocumentsFault::NoMemory) => Err(CompileFault::NoMemory),
     }
 }

@@ -1,6 +1,6 @@
 //! What is wrong with a project.
-
-use schema_types::Rule;
+use doc_merge::PlaceFault;
+use schema_types::{NodeFault, Rule};
 
 /// A rule that a project does not meet, and the line and the column, both from 1, of the file where
 /// it does not.
@@ -10,4 +10,13 @@ pub struct ProjectFault {
     pub line: u32,
     pub column: u32,
     pub rule: Rule,
+}
+
+/// Why a check of documents fails: a rule that they do not meet, at a node or at a place, or a lack of
+/// memory.
+#[derive(Clone, Copy, Debug)]
+pub(crate) enum DocumentsFault {
+    Node(NodeFault),
+    Place(PlaceFault),
+    NoMemory,
 }

@@ -1,17 +1,23 @@
 //! Projects: a schema and documents that meet all rules, or the first fault in their files (GraphQL,
-//! October 2021, sections 2, 3 and 5).
+//! October 2021, sections 2, 3 and 5); and the artifacts of a project.
 #![tactic(auto)]
 
+pub mod artifacts;
 mod checking;
 mod compiling;
+mod expansions;
 pub mod fault;
 pub mod file;
+pub mod laws;
+mod least_faults;
 mod listing;
 pub mod operations;
 mod parsing;
 mod places;
 pub mod project;
+mod ready;
 
+pub use artifacts::Artifacts;
 pub use compiling::{CompileFault, compile};
 pub use fault::ProjectFault;
 pub use file::ProjectFile;

@@ -1,11 +1,11 @@
 //! What is kept of the operations and the fragments of an accepted project.
-ghost use Rattle.std.specs.Prelude.{◌≡◌, ◌++◌, cond, unwrap_or, option_copied, [], IfOk, OnOk};
+ghost use Rattle.std.specs.Prelude.{◌≡◌, cond, unwrap_or, option_copied, [], IfOk};
 ghost use Rattle.plan_project.specs.Lookups as lookups;
-ghost use Rattle.gql_graph.specs.Rules.{each};
 ghost use Rattle.schema_tables.specs.Types as types;
 
-use gql_ast::{Arguments, Directive, Directives, Fragment, Kind, Names, Operation, VariableDefs};
+use gql_ast::{Fragment, Kind, Names, Operation, VariableDefs};
 use gql_plain::{Ids, Name, NoMemory};
+use relay_dirs::locals;
 use schema_types::Schema;
 use std::alloc::Global;
 
@@ -65,7 +65,7 @@ pub(crate) fn compile_fragment(
 ) -> Result<CompiledFragment, NoMemory>
     ensures { IfOk result (λ c. c ≡ lookups.compiled_fragment schema.now fragment.now) }
 {
-    let locals = locals_of(alloc, &fragment.directives)?;
+    let locals = local_names(alloc, fragment)?;
     let types = types_of(alloc, schema, fragment.on.as_str())?;
     Ok(CompiledFragment {
         name: fragment.name.copy()?,
@@ -85,33 +85,14 @@ fn types_of(alloc: Global, schema: &Schema, of: &str) -> Result<Ids, NoMemory>
     Ok(Ids::new(alloc))
 }
 
-/// The names of the local variables that directives define.
-fn locals_of(alloc: Global, directives: &Directives) -> Result<Names, NoMemory>
-    ensures { IfOk result (λ names. names ≡ each lookups.locals_by directives.now) }
+/// The names of the local variables of a fragment.
+fn local_names(alloc: Global, fragment: &Fragment) -> Result<Names, NoMemory>
+    ensures { IfOk result (λ names. names ≡ lookups.local_names fragment.now.directives) }
 {
+    let variables = locals(alloc, fragment)?;
     let mut names = Names::new(alloc);
-    'directives: for directive in &directives.items {
-        put_locals(&mut names, directive)?;
+    'variables: for variable in variables.as_slice() {
+        names.push(variable.name.copy()?)?;
     }
     Ok(names)
-}
-
-/// Puts the names of the local variables that a directive defines.
-fn put_locals(names: &mut Names, directive: &Directive) -> Result<(), NoMemory>
-    ensures { OnOk result (names.new ≡ names.old ++ lookups.locals_by directive.now) }
-{
-    if directive.name.as_str() == "argumentDefinitions" {
-        return put_names(names, &directive.arguments);
-    }
-    Ok(())
-}
-
-/// Puts the names of arguments.
-fn put_names(names: &mut Names, arguments: &Arguments) -> Result<(), NoMemory>
-    ensures { OnOk result (names.new ≡ names.old ++ lookups.names_of arguments.now) }
-{
-    'arguments: for argument in &arguments.items {
-        names.push(argument.name.copy()?)?;
-    }
-    Ok(())
 }

@@ -8,7 +8,7 @@ use gql_ast::{Documents, FilePlace, FilePlaces};
 use schema_types::{NodeFault, Rule};
 
 /// The fault of a rule at a place.
-fn fault_at(place: &FilePlace, rule: Rule) -> ProjectFault
+pub(crate) fn fault_at(place: &FilePlace, rule: Rule) -> ProjectFault
     ensures { result ≡ fault_at place.now rule }
 {
     ProjectFault {

@@ -16,8 +16,8 @@ use std::marker::Model;
 /// the files. No look-up takes memory.
 #[derive(Drop)]
 pub struct Project {
-    schema: Schema,
-    documents: Documents,
+    pub(crate) schema: Schema,
+    pub(crate) documents: Documents,
     operations: BTreeMap<String, Compiled>,
     fragments: BTreeMap<String, CompiledFragment>,
 }

@@ -1,51 +1,27 @@
--- The groups of rules are taken in their order, each where those before it are met.
-use Rattle.std.proofs.Common.{map, ap, ◌∙◌}
-use Rattle.std.proofs.lemmas.Result.{IfErr-weaker, on_ok_weaker, err_from_is_err_and}
-use Rattle.plan_project.proofs.RuleLaws.{names_faulty, fields_faulty, arguments_faulty, relay_faulty, all_met}
-use Rattle.plan_project.proofs.checking.check_documents.Goals as goal
-use Rattle.plan_project.specs.Projects.{document_rules}
+-- The rules on documents, and then those on what operations and fragments become.
+use Rattle.std.proofs.Common.{map, ap, subst, sym, ◌∙◌}
+use Rattle.std.proofs.lemmas.Result.{IfErr-weaker}
 use Rattle.doc_sites.specs.SitesView.{definition_of}
-use Rattle.relay_dirs.specs.RelayRules.{relay_rules}
+use Rattle.plan_project.proofs.RuleLaws.{expansions_faulty, rules_broken}
+use Rattle.plan_project.proofs.checking.check_documents.Goals as goal
+use Rattle.plan_project.specs.Noting.{IsFaultOfDocuments, IsFaultOfExpansions}
+use Rattle.plan_project.specs.Projects.{document_rules}
+use Rattle.plan_project.specs.declared.fault.DocumentsFault.TheVariants as D
+use Rattle.schema_rules.specs.declared.fault.NodeFault.{NodeFault}
 use Rattle.schema_types.specs.DocumentRules.{AreFaulty}
 
-pub check_names_of-requires : goal.check_names_of-requires
-check_names_of-requires c = ap (map definition_of) c.deref.ensures.value ∙ c.in_ok-definitions.ensures
+pub check_rules-requires : goal.check_rules-requires
+check_rules-requires c = ap (map definition_of) c.deref.ensures.value ∙ c.in-Ok.ensures
 
-pub check_fields_of-requires : goal.check_fields_of-requires
-check_fields_of-requires c = ap (map definition_of) c.deref-2.ensures.value ∙ c.in_ok-definitions.ensures
+pub check_expansions-requires : goal.check_expansions-requires
+check_expansions-requires c = ap (map definition_of) c.deref-in-Ok-check_rules.ensures.value ∙ c.in-Ok.ensures
 
-pub check_args_of-requires : goal.check_args_of-requires
-check_args_of-requires c = ap (map definition_of) c.deref-3.ensures.value ∙ c.in_ok-definitions.ensures
+pub returns-in-Ok-check_rules-clause-fault : goal.returns-in-Ok-check_rules-clause-fault
+returns-in-Ok-check_rules-clause-fault c =
+    IfErr-weaker c.check_expansions.result (IsFaultOfExpansions c.args.schema.now c.args.documents.now) (IsFaultOfDocuments c.args.schema.now c.args.documents.now)
+    (λ e h. expansions_faulty c.args.schema.now c.args.documents.now e c.in-Ok-check_rules.ensures.met h) c.check_expansions.ensures.fault
 
-pub check_relay_of-requires : goal.check_relay_of-requires
-check_relay_of-requires c = ap (map definition_of) c.deref-4.ensures.value ∙ c.in_ok-definitions.ensures
-
-pub returns-in_err-check_names_of-clause-fault : goal.returns-in_err-check_names_of-clause-fault
-returns-in_err-check_names_of-clause-fault c =
-    let e = err_from_is_err_and c.from_residual-in_err-check_names_of.result c.from_residual-in_err-check_names_of.ensures.1 in
-    rw (e.1, e.2) (names_faulty c.args.schema.now c.args.documents.now c.in_err-check_names_of.field-0.0 c.in_err-check_names_of.ensures.fault)
-
-pub returns-in_err-check_fields_of-clause-fault : goal.returns-in_err-check_fields_of-clause-fault
-returns-in_err-check_fields_of-clause-fault c =
-    let e = err_from_is_err_and c.from_residual-in_err-check_fields_of.result c.from_residual-in_err-check_fields_of.ensures.1 in
-    rw (e.1, e.2)
-    (fields_faulty c.args.schema.now c.args.documents.now c.in_err-check_fields_of.field-0.0 c.in_ok-check_names_of.ensures.met c.in_err-check_fields_of.ensures.fault)
-
-pub returns-in_err-check_args_of-clause-fault : goal.returns-in_err-check_args_of-clause-fault
-returns-in_err-check_args_of-clause-fault c =
-    let e = err_from_is_err_and c.from_residual-in_err-check_args_of.result c.from_residual-in_err-check_args_of.ensures.1 in
-    rw (e.1, e.2)
-    (arguments_faulty c.args.schema.now c.args.documents.now c.in_err-check_args_of.field-0.0 c.in_ok-check_names_of.ensures.met c.in_ok-check_fields_of.ensures.met
-    c.in_err-check_args_of.ensures.fault)
-
-pub returns-clause-met : goal.returns-clause-met
-returns-clause-met c =
-    on_ok_weaker c.check_relay_of.result
-    (λ relay. all_met c.args.schema.now c.args.documents.now c.in_ok-check_names_of.ensures.met c.in_ok-check_fields_of.ensures.met c.in_ok-check_args_of.ensures.met relay)
-    c.check_relay_of.ensures.met
-
-pub returns-clause-fault : goal.returns-clause-fault
-returns-clause-fault c =
-    IfErr-weaker c.check_relay_of.result (AreFaulty relay_rules c.args.schema.now c.args.documents.now) (AreFaulty document_rules c.args.schema.now c.args.documents.now)
-    (λ e h. relay_faulty c.args.schema.now c.args.documents.now e c.in_ok-check_names_of.ensures.met c.in_ok-check_fields_of.ensures.met c.in_ok-check_args_of.ensures.met h)
-    c.check_relay_of.ensures.fault
+pub returns-in-Err-Rule-clause-fault : goal.returns-in-Err-Rule-clause-fault
+returns-in-Err-Rule-clause-fault c =
+    subst (λ (f : NodeFault). IsFaultOfDocuments c.args.schema.now c.args.documents.now (D.Node f)) (sym c.in-Err-Rule.fault-is)
+    (rules_broken c.args.schema.now c.args.documents.now c.in-Err-Rule.fault (subst (AreFaulty document_rules c.args.schema.now c.args.documents.now) c.in-Err-Rule.field-0-is c.in-Err-Rule.ensures.fault))

@@ -1,17 +1,21 @@
-use Rattle.std.proofs.Common.{List, ◌<◌, length, subst, sym}
+use Rattle.std.proofs.Common.{◌≡◌, List, Some, None, ◌<◌, length, subst, sym, inl, inr}
+use Rattle.doc_merge.specs.declared.fault.PlaceFault.{PlaceFault}
 use Rattle.gql_ast.specs.declared.document.Document.{Document}
 use Rattle.gql_ast.specs.declared.place.Placed.{Placed}
+use Rattle.gql_graph.specs.Rules.{first_broken}
 use Rattle.gql_sdl.specs.Schemas.{schemas}
 use Rattle.plan_project.proofs.Codes.{parse_fault_coded}
 use Rattle.plan_project.proofs.PlaceCounts.{schema_fault_placed, documents_fault_placed}
 use Rattle.plan_project.proofs.ProjectLaws.{schema_refused, documents_refused, only_trees, found_in_schema, found_in_rules, found_project, accepted_project}
 use Rattle.plan_project.proofs.compiling.compile_files.Goals as goal
-use Rattle.plan_project.specs.Faults.{IsAt}
-use Rattle.plan_project.specs.Projects.{document_rules}
+use Rattle.plan_project.specs.Expansions.{merge_fault}
+use Rattle.plan_project.specs.Faults.{IsAt, fault_at}
+use Rattle.plan_project.specs.Noting.{IsFaultOfDocuments}
+use Rattle.plan_project.specs.Projects.{node_rules}
 use Rattle.plan_project.specs.Verdicts.{IsTheProject, texts_of}
 use Rattle.schema_rules.specs.Checked.{IsRuleFault}
 use Rattle.schema_rules.specs.declared.fault.NodeFault.{NodeFault}
-use Rattle.schema_types.specs.DocumentRules.{AreFaulty, BreakRule, places_of}
+use Rattle.schema_types.specs.DocumentRules.{places_of}
 use Rattle.schema_tables.specs.Types.{Defs}
 
 pub fault_of-requires : goal.fault_of-requires
@@ -47,7 +51,7 @@ new-requires c =
     c.as_bytes.ensures.value c.in-Ok.is c.in-Ok.ensures.found c.parse_schema.ensures.only c.in-Ok-parse_documents.ensures.found in
     accepted_project c.args.schema.now.1 (texts_of c.args.documents.now) c.in-Ok-build.schema c.in-Ok-parse_documents.trees
     (found_project c.args.schema.now.1 (texts_of c.args.documents.now) c.in-Ok.tree c.in-Ok-parse_documents.trees trees c.in-Ok-build.schema
-    c.in-Ok-build.ensures.built c.in-Ok-build.ensures.sound c.in-Ok-check_documents.ensures.met)
+    c.in-Ok-build.ensures.built c.in-Ok-build.ensures.sound c.in-Ok-check_documents.ensures.met c.in-Ok-check_documents.ensures.sizes c.in-Ok-check_documents.ensures.merges)
 
 pub returns-in-Ok-new-clause-project : goal.returns-in-Ok-new-clause-project
 returns-in-Ok-new-clause-project c =
@@ -55,23 +59,36 @@ returns-in-Ok-new-clause-project c =
     c.as_bytes.ensures.value c.in-Ok.is c.in-Ok.ensures.found c.parse_schema.ensures.only c.in-Ok-parse_documents.ensures.found in
     subst (λ (p : Defs × List (Placed Document)). IsTheProject c.args.schema.now.1 (texts_of c.args.documents.now) p.0 p.1) (sym c.in-Ok-new.ensures)
     (found_project c.args.schema.now.1 (texts_of c.args.documents.now) c.in-Ok.tree c.in-Ok-parse_documents.trees trees c.in-Ok-build.schema
-    c.in-Ok-build.ensures.built c.in-Ok-build.ensures.sound c.in-Ok-check_documents.ensures.met)
+    c.in-Ok-build.ensures.built c.in-Ok-build.ensures.sound c.in-Ok-check_documents.ensures.met c.in-Ok-check_documents.ensures.sizes c.in-Ok-check_documents.ensures.merges)
 
 pub documents_fault-requires : goal.documents_fault-requires
 documents_fault-requires c =
-    let broken : BreakRule document_rules c.in-Ok-build.schema c.in-Ok-parse_documents.trees c.in-Err-Rule-check_documents.fault =
-    subst (AreFaulty document_rules c.in-Ok-build.schema c.in-Ok-parse_documents.trees) c.in-Err-Rule-check_documents.field-0-is c.in-Err-Rule-check_documents.ensures.fault in
-    subst (λ (f : NodeFault). f.node < length (places_of c.in-Ok-parse_documents.trees)) (sym c.in-Err-Rule-check_documents.fault-is)
-    (documents_fault_placed c.in-Ok-build.schema (texts_of c.args.documents.now) c.in-Ok-parse_documents.trees c.in-Err-Rule-check_documents.fault c.in-Ok-parse_documents.ensures.found.are broken)
+    let broken : first_broken (node_rules c.in-Ok-build.schema c.in-Ok-parse_documents.trees) ≡ Some (c.in-Err-Node.fault.rule, c.in-Err-Node.fault.node) =
+    subst (IsFaultOfDocuments c.in-Ok-build.schema c.in-Ok-parse_documents.trees) c.in-Err-Node.field-0-is c.in-Err-Node.ensures.fault in
+    subst (λ (f : NodeFault). f.node < length (places_of c.in-Ok-parse_documents.trees)) (sym c.in-Err-Node.fault-is)
+    (documents_fault_placed c.in-Ok-build.schema (texts_of c.args.documents.now) c.in-Ok-parse_documents.trees c.in-Err-Node.fault c.in-Ok-parse_documents.ensures.found.are broken)
 
-pub returns-in-Err-Rule-check_documents-clause-fault : goal.returns-in-Err-Rule-check_documents-clause-fault
-returns-in-Err-Rule-check_documents-clause-fault c =
+pub returns-in-Err-Node-clause-fault : goal.returns-in-Err-Node-clause-fault
+returns-in-Err-Node-clause-fault c =
     let trees = only_trees c.as_bytes.result.now c.args.schema.now.1 (texts_of c.args.documents.now) c.parse_schema.result c.in-Ok.tree c.in-Ok-parse_documents.trees
     c.as_bytes.ensures.value c.in-Ok.is c.in-Ok.ensures.found c.parse_schema.ensures.only c.in-Ok-parse_documents.ensures.found in
-    let broken : BreakRule document_rules c.in-Ok-build.schema c.in-Ok-parse_documents.trees c.in-Err-Rule-check_documents.fault =
-    subst (AreFaulty document_rules c.in-Ok-build.schema c.in-Ok-parse_documents.trees) c.in-Err-Rule-check_documents.field-0-is c.in-Err-Rule-check_documents.ensures.fault in
-    let at : IsAt (places_of c.in-Ok-parse_documents.trees) c.in-Err-Rule-check_documents.fault.rule c.in-Err-Rule-check_documents.fault.node c.documents_fault.result =
-    subst (λ (f : NodeFault). IsAt (places_of c.in-Ok-parse_documents.trees) f.rule f.node c.documents_fault.result) c.in-Err-Rule-check_documents.fault-is c.documents_fault.ensures in
+    let broken : first_broken (node_rules c.in-Ok-build.schema c.in-Ok-parse_documents.trees) ≡ Some (c.in-Err-Node.fault.rule, c.in-Err-Node.fault.node) =
+    subst (IsFaultOfDocuments c.in-Ok-build.schema c.in-Ok-parse_documents.trees) c.in-Err-Node.field-0-is c.in-Err-Node.ensures.fault in
+    let at : IsAt (places_of c.in-Ok-parse_documents.trees) c.in-Err-Node.fault.rule c.in-Err-Node.fault.node c.documents_fault.result =
+    subst (λ (f : NodeFault). IsAt (places_of c.in-Ok-parse_documents.trees) f.rule f.node c.documents_fault.result) c.in-Err-Node.fault-is c.documents_fault.ensures in
     found_in_rules c.args.schema.now.1 (texts_of c.args.documents.now) c.in-Ok.tree c.in-Ok-parse_documents.trees trees c.in-Ok-build.schema c.documents_fault.result
     c.in-Ok-build.ensures.built c.in-Ok-build.ensures.sound
-    (record { rule = c.in-Err-Rule-check_documents.fault.rule; node = c.in-Err-Rule-check_documents.fault.node; first = broken; at = at })
+    (inl (record { rule = c.in-Err-Node.fault.rule; node = c.in-Err-Node.fault.node; first = broken; at = at }))
+
+pub returns-in-Err-Place-clause-fault : goal.returns-in-Err-Place-clause-fault
+returns-in-Err-Place-clause-fault c =
+    let trees = only_trees c.as_bytes.result.now c.args.schema.now.1 (texts_of c.args.documents.now) c.parse_schema.result c.in-Ok.tree c.in-Ok-parse_documents.trees
+    c.as_bytes.ensures.value c.in-Ok.is c.in-Ok.ensures.found c.parse_schema.ensures.only c.in-Ok-parse_documents.ensures.found in
+    let broken : (first_broken (node_rules c.in-Ok-build.schema c.in-Ok-parse_documents.trees) ≡ None)
+    × (merge_fault c.in-Ok-build.schema c.in-Ok-parse_documents.trees ≡ Some c.in-Err-Place.fault) =
+    subst (IsFaultOfDocuments c.in-Ok-build.schema c.in-Ok-parse_documents.trees) c.in-Err-Place.field-0-is c.in-Err-Place.ensures.fault in
+    let is : c.fault_at.result ≡ fault_at c.in-Err-Place.fault.place c.in-Err-Place.fault.rule =
+    subst (λ (f : PlaceFault). c.fault_at.result ≡ fault_at f.place f.rule) c.in-Err-Place.fault-is c.fault_at.ensures in
+    found_in_rules c.args.schema.now.1 (texts_of c.args.documents.now) c.in-Ok.tree c.in-Ok-parse_documents.trees trees c.in-Ok-build.schema c.fault_at.result
+    c.in-Ok-build.ensures.built c.in-Ok-build.ensures.sound
+    (inr (record { met = broken.0; found = c.in-Err-Place.fault; first = broken.1; fault = is }))

@@ -1,0 +1,147 @@
+//! The lines of the artifacts of an accepted project that stands ready to be expanded.
+ghost use Rattle.std.specs.Prelude.{◌≡◌, [], false, get_or, length, IfOk};
+ghost use Rattle.doc_sites.specs.SitesView.{definition_of};
+ghost use Rattle.plan_expand.specs.Answers.{whole_in, whole_is};
+ghost use Rattle.plan_expand.specs.Preparing.{IsReady};
+ghost use Rattle.plan_ir.specs.Sizes.{has_too_many_nodes, is_too_deep};
+ghost use Rattle.plan_ir.specs.declared.form.Form.TheVariants as form;
+ghost use Rattle.plan_project.specs.Expansions.{IsWithinLimits, fragment_lines, line_lists, lines_at, list_of, operation_lines};
+
+use crate::project::Project;
+use doc_sites::{DefinitionAt, FragmentAt, definitions_at};
+use gql_ast::Kind;
+use gql_plain::{Name, NoMemory, Words};
+use plan_expand::{ExpandFault, Expander, Form};
+use plan_text::{Artifact, artifact_line, operation_text};
+use schema_trees::located::NameAt;
+use std::alloc::Global;
+use std::marker::Model;
+
+/// An accepted project that stands ready to be expanded. Contracts see it as what the schema says,
+/// and the documents.
+#[derive(Drop)]
+pub(crate) struct ReadyProject<'p> {
+    expander: Expander<'p>,
+    definitions: Vec<DefinitionAt<'p>>,
+}
+
+impl<'p> Model for ReadyProject<'p> {
+    ghost use Rattle.std.specs.Prelude.{◌≡◌, List, None};
+    ghost use Rattle.std.specs.Coded.{coded×, coded_list};
+    ghost use Rattle.doc_sites.specs.Definitions.{AreIn};
+    ghost use Rattle.gql_ast.specs.contracts.document.Document as document_row;
+    ghost use Rattle.gql_ast.specs.contracts.place.Placed as placed_row;
+    ghost use Rattle.gql_ast.specs.contracts.schema.SchemaDef as definition_row;
+    ghost use Rattle.gql_ast.specs.declared.document.Document.{Document};
+    ghost use Rattle.gql_ast.specs.declared.place.Placed.{Placed};
+    ghost use Rattle.gql_graph.specs.Rules.{first_broken};
+    ghost use Rattle.plan_expand.specs.Preparing.{IsReady};
+    ghost use Rattle.plan_project.specs.Expansions.{size_rules};
+    ghost use Rattle.schema_tables.specs.Types.{Defs};
+
+    ghost Value = { Defs × List (Placed Document) };
+
+    ghost coded = { coded× (coded_list definition_row.the_row.coded) (coded_list (placed_row.the_row document_row.the_row).coded) };
+
+    ghost view = { λ a. (a.expander.schema.now, a.expander.documents.now) };
+
+    ghost invariant = { λ a. IsReady a.expander × AreIn a.expander.schema.now a.expander.documents.now a.definitions.items
+        × (first_broken (size_rules a.expander.schema.now a.expander.documents.now) ≡ None) };
+}
+
+impl<'p> ReadyProject<'p> {
+    /// A project, ready to be expanded.
+    pub(crate) fn of(alloc: Global, project: &'p Project) -> Result<ReadyProject<'p>, NoMemory>
+        ensures { IfOk result (λ ready. ready ≡ project.now) }
+    {
+        let schema = &project.schema;
+        let documents = &project.documents;
+        let definitions = definitions_at(alloc, schema, documents)?;
+        let expander = Expander::new(alloc, schema, documents, &definitions)?;
+        Ok(ReadyProject {
+            expander,
+            definitions,
+        })
+    }
+
+    /// The number of definitions.
+    pub(crate) fn len(&self) -> usize
+        ensures { result ≡ length (line_lists self.now.0 self.now.1) }
+    {
+        self.definitions.len()
+    }
+
+    /// The line of a definition by its number.
+    pub(crate) fn line(&self, alloc: Global, n: usize) -> Result<Option<Words>, NoMemory>
+        ensures { IfOk result (λ line. list_of line ≡ get_or (line_lists self.now.0 self.now.1) n []) }
+    {
+        if n >= self.definitions.len() {
+            return Ok(None);
+        }
+        definition_line(alloc, &self.expander, &self.definitions[n])
+    }
+}
+
+/// The line of a definition; none of an operation without a name.
+fn definition_line(
+    alloc: Global,
+    expander: &Expander<'_>,
+    definition: &DefinitionAt<'_>,
+) -> Result<Option<Words>, NoMemory>
+    requires ready { IsReady expander.now }
+    requires within { IsWithinLimits expander.now.schema.now expander.now.documents.now (definition_of definition.now) }
+    ensures { IfOk result (λ line. list_of line ≡ lines_at expander.now.schema.now expander.now.documents.now (definition_of definition.now)) }
+{
+    match definition {
+        DefinitionAt::Operation(operation) => match &operation.name {
+            Some(name) => operation_line(alloc, expander, operation.kind, name),
+            None => Ok(None),
+        },
+        DefinitionAt::Fragment(fragment) => fragment_line(alloc, fragment),
+    }
+}
+
+/// The line of the operation of a name.
+fn operation_line(
+    alloc: Global,
+    expander: &Expander<'_>,
+    kind: Kind,
+    name: &NameAt<'_>,
+) -> Result<Option<Words>, NoMemory>
+    requires ready { IsReady expander.now }
+    requires few { whole_is has_too_many_nodes (whole_in expander.now.schema.now expander.now.documents.now form.Operation name.now.name.now) ≡ false }
+    requires flat { whole_is is_too_deep (whole_in expander.now.schema.now expander.now.documents.now form.Operation name.now.name.now) ≡ false }
+    ensures { IfOk result (λ line. list_of line ≡ operation_lines kind (whole_in expander.now.schema.now expander.now.documents.now form.Operation name.now.name.now)) }
+{
+    let own = Name::new(alloc, name.name)?;
+    if !expander.has(&own, Form::Operation) {
+        return Ok(None);
+    }
+    match expander.expand(alloc, &own, Form::Operation) {
+        Ok(expanded) => {
+            let text = operation_text(alloc, &expanded)?;
+            let artifact = Artifact::Operation {
+                kind,
+                name: expanded.name,
+                text,
+            };
+            let line = artifact_line(alloc, &artifact)?;
+            Ok(Some(line))
+        }
+        Err(ExpandFault::TooManyNodes) => unreachable!(),
+        Err(ExpandFault::TooDeep) => unreachable!(),
+        Err(ExpandFault::NoMemory) => Err(NoMemory),
+    }
+}
+
+/// The line of a fragment.
+fn fragment_line(alloc: Global, fragment: &FragmentAt<'_>) -> Result<Option<Words>, NoMemory>
+    ensures { IfOk result (λ line. list_of line ≡ fragment_lines fragment.now.name.name.now fragment.now.on.name.now) }
+{
+    let artifact = Artifact::Fragment {
+        name: Name::new(alloc, fragment.name.name)?,
+        on: Name::new(alloc, fragment.on.name)?,
+    };
+    let line = artifact_line(alloc, &artifact)?;
+    Ok(Some(line))
+}
