@@ -3,30 +3,34 @@ use Rattle.std.proofs.Common.{◌≡◌, ◌⊎◌, ◌↔◌, ◌≤◌, ◌+�
 use Rattle.std.specs.Io.KnownBytes.{IsAtEnd}
 use Rattle.std.proofs.lemmas.Bool.{false≢true}
 use Rattle.std.proofs.lemmas.List.{take_all}
+use Rattle.gql_ast.specs.declared.document.Document.{Document}
+use Rattle.gql_ast.specs.declared.place.Placed.{Placed}
 use Rattle.relay_io.specs.Streams.{append, prepend}
 use Rattle.relay_io.proofs.Streaming.{append-none}
 use Rattle.relay_model.specs.Keys.{Text}
 use Rattle.relay_model.specs.Machine.{Project}
 use Rattle.relay_model.specs.Printed.{project_fault}
-use Rattle.relay_run.specs.Answers.{unknown, refused, accepted, due, Ran, EndsLine, IsWhole}
-use Rattle.relay_run.specs.Output.{max_script, output_text, has_refusal}
+use Rattle.relay_run.specs.Answers.{unknown, refused, accepted, due, AnsweringBy, Ran, EndsLine, IsWhole}
+use Rattle.relay_run.specs.FormProjects as projects
+use Rattle.relay_run.specs.Output.{max_script, output_text, has_refusal, artifacts_text}
 use Rattle.relay_run.specs.Statuses.{IsDone}
-use Rattle.relay_run.specs.Words.{Form, run}
+use Rattle.relay_run.specs.Words.{Form, run, compile}
+use Rattle.schema_tables.specs.Types.{Defs}
 use Rattle.relay_run.specs.declared.status.Status.{Status}
-use Rattle.relay_run.specs.declared.status.Status.TheVariants.{DoneWithRefusals, ProjectRefused, ReadFault, WriteFault, NoMemory, ScriptTooLong}
+use Rattle.relay_run.specs.declared.status.Status.TheVariants.{Done, DoneWithRefusals, ProjectRefused, ReadFault, WriteFault, NoMemory, ScriptTooLong}
 
 pub nothing_given : (told : Option Text) → told ≡ prepend [] told
 nothing_given None = refl
 nothing_given (Some xs) = refl
 
 -- no line is answered
-pub ran_unanswered : (form : Form) (p : Project) (status : Status) (left left_now : Option Text) (reads reads_now : ℕ) (held : Option Text) (puts : ℕ) (given : Text)
+pub ran_unanswered : (buffer : ℕ) (schema : Text) (documents : List Text) (p : Project) (status : Status) (left left_now : Option Text) (reads reads_now : ℕ) (held : Option Text) (puts : ℕ) (given : Text)
     → left ≡ prepend given left_now → reads_now ≤ reads + length given + 1 → length given ≤ max_script + 1
     → (length given ≡ max_script + 1 → (status ≡ ScriptTooLong) ⊎ ((status ≡ WriteFault) ⊎ (status ≡ NoMemory)))
     → (status ≡ ScriptTooLong → length given ≡ max_script + 1)
     → (IsWhole status → ⊥)
-    → Ran form (accepted p) status left left_now reads reads_now held held puts puts
-ran_unanswered form p status left left_now reads reads_now held puts given is most within over too_long partial = record {
+    → Ran (run buffer schema documents) (accepted (projects.plain p)) status left left_now reads reads_now held held puts puts
+ran_unanswered buffer schema documents p status left left_now reads reads_now held puts given is most within over too_long partial = record {
   taken = given;
   ended = false;
   took = record {
@@ -46,7 +50,7 @@ ran_unanswered form p status left left_now reads reads_now held puts given is mo
   puts_most = omega arith;
   unwritten = tt;
   ends = inr (inl refl);
-  more = due form (accepted p) (take max_script given) false;
+  more = due (run buffer schema documents) (accepted (projects.plain p)) (take max_script given) false;
   part = refl;
   whole = λ w. absurd (partial w);
   refusals = λ d. absurd (partial (inl d));
@@ -68,7 +72,7 @@ pub ran_answered : (buffer : ℕ) (schema : Text) (documents : List Text) (p : P
     → (added : Text) × (held_now ≡ append held added) × (puts_now ≤ puts + length added + 1) × ((status ≡ WriteFault) ⊎ EndsLine added)
     × (more : Text) × (added ++ more ≡ output_text p buffer given true) × (IsDone status → more ≡ [])
     → (IsDone status → (status ≡ DoneWithRefusals) ↔ IsTrue (has_refusal p buffer given))
-    → Ran (run buffer schema documents) (accepted p) status left left_now reads reads_now held held_now puts puts_now
+    → Ran (run buffer schema documents) (accepted (projects.plain p)) status left left_now reads reads_now held held_now puts puts_now
 ran_answered buffer schema documents p status left left_now reads reads_now held held_now puts puts_now given is most within at_end kind w refusals = record {
   taken = given;
   ended = true;
@@ -188,3 +192,54 @@ ran_unknown form status left reads held puts kind = record {
 
     not_done_then : IsDone status → ⊥
     not_done_then d = elim kind [ inl r ↦ subst IsDone r d | inr m ↦ subst IsDone m d ]
+
+-- an answer where artifact lines are put
+abbrev pub IsCompiled : Status → Type 0 → Type 0
+IsCompiled status sink = (status ≡ Done) ⊎ (((status ≡ WriteFault) × sink) ⊎ (status ≡ NoMemory))
+
+-- the artifact lines are put, as far as they are
+module _ (schema : Text) (documents : List Text) (defs : Defs) (ps : List (Placed Document)) (status : Status) (sink : Type 0) (kind : IsCompiled status sink) where
+  pub compiled_answers : AnsweringBy (compile schema documents) status ⊥ sink
+  compiled_answers = elim kind [ inl d ↦ inl (subst IsDone (sym d) tt) | inr f ↦ inr f ]
+
+  not_so : (other : Status) → (Done ≡ other → ⊥) → (WriteFault ≡ other → ⊥) → (NoMemory ≡ other → ⊥) → status ≡ other → ⊥
+  not_so other a b c e = elim kind [
+    | inl d ↦ a (sym d ∙ e)
+    | inr f ↦ elim f [ inl w ↦ b (sym w.0 ∙ e) | inr m ↦ c (sym m ∙ e) ]
+  ]
+
+  done_is : IsDone status → status ≡ Done
+  done_is done = elim kind [
+    | inl d ↦ d
+    | inr f ↦ absurd (elim f [ inl w ↦ subst IsDone w.0 done | inr m ↦ subst IsDone m done ])
+  ]
+
+  pub ran_compiled : (left : Option Text) (reads : ℕ) (held held_now : Option Text) (puts puts_now : ℕ)
+      → (added : Text) × (held_now ≡ append held added) × (puts_now ≤ puts + length added + 1) × ((status ≡ WriteFault) ⊎ EndsLine added)
+      × (more : Text) × (added ++ more ≡ artifacts_text defs ps) × (status ≡ Done → more ≡ [])
+      → Ran (compile schema documents) (accepted (projects.whole defs ps)) status left left reads reads held held_now puts puts_now
+  ran_compiled left reads held held_now puts puts_now w = record {
+    taken = [];
+    ended = false;
+    took = record {
+      is = nothing_given left;
+      read = refl;
+      end = λ e. absurd (false≢true e);
+      most = omega arith;
+      over = λ e. absurd (omega (arith, e));
+      too_long = λ e. absurd (not_so ScriptTooLong (λ x. cc) (λ x. cc) (λ x. cc) e);
+      read_fault = λ _. refl;
+      done = λ _. tt;
+    };
+    reads_most = omega arith;
+    unread = (refl, refl);
+    added = w.0;
+    adds = w.1;
+    puts_most = w.2;
+    unwritten = tt;
+    ends = w.3;
+    more = w.4;
+    part = w.5;
+    whole = λ d. elim d [ inl done ↦ w.6 (done_is done) | inr e ↦ absurd (not_so ProjectRefused (λ x. cc) (λ x. cc) (λ x. cc) e) ];
+    refusals = λ done. (λ e. absurd (not_so DoneWithRefusals (λ x. cc) (λ x. cc) (λ x. cc) e), λ e. absurd (false≢true e));
+  }

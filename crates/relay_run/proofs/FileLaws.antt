@@ -1,22 +1,15 @@
--- Files are read one after another, and the project that they are, or its fault.
-use Rattle.std.proofs.Common.{◌≡◌, ◌<◌, ◌≤◌, ◌+◌, ◌-◌, ℕ, suc, codes, List, [], ◌∷◌, ◌++◌, map, length, min, get_or, drop, drop-cons, add-one, Bor, Bool, true, false, cond, nat_le, Option, Some, None, refl, sym, ap, subst, inl, inr, ◌∙◌, arith}
+-- Files are read one after another.
+use Rattle.std.proofs.Common.{◌≡◌, ◌<◌, ◌≤◌, ◌+◌, ◌-◌, ℕ, suc, List, [], ◌∷◌, ◌++◌, map, length, min, get_or, drop, drop-cons, add-one, Bor, Bool, true, false, cond, nat_le, Option, Some, None, refl, sym, ap, subst, inl, inr, ◌∙◌, arith}
 use Rattle.std.specs.Prelude.{IsSomeAnd}
 use Rattle.std.proofs.lemmas.Bool.{leb-true, le-leb}
 use Rattle.std.proofs.lemmas.List.{length_push}
 use Rattle.plan_project.specs.Verdicts as plan
 use Rattle.relay_io.specs.Files.{file_of, GivesFile, IsAbsent, IsTooLong}
 use Rattle.relay_model.specs.Keys.{Text}
-use Rattle.relay_model.specs.Machine.{Project}
-use Rattle.relay_run.specs.Answers.{IsTheProjectOf, IsTheFaultOf}
-use Rattle.relay_run.specs.Files.{Files, Contents, absent, too_long, readable, within, take_file, documents_from, contents_of, max_file, max_all, name_of, IsFault, IsProject}
-use Rattle.relay_run.specs.Reads.{GivesDocuments, GivesFiles, IsDocumentAbsent, GoesOn, IsFileClosedBy, AreClosedBy}
-use Rattle.relay_run.specs.Rules.{rule_text}
-use Rattle.relay_run.specs.Verdicts.{AreOnlyProject, HaveOnlyFault, AreProjectFiles, AreRefusedFiles}
-use Rattle.relay_run.specs.Words.{Form, run}
+use Rattle.relay_run.specs.Files.{Files, Contents, absent, too_long, readable, within, take_file, documents_from, contents_under, max_file, max_all}
+use Rattle.relay_run.specs.Reads.{GivesDocuments, GivesFiles, IsDocumentAbsent, GoesOn, IsFileClosedBy, AreClosedBy, Hold, AreRead, IsFirstAbsentUnder, AreUnreadBy}
 use Rattle.relay_run.specs.declared.files.Closed.{Closed}
 use Rattle.relay_run.specs.declared.files.Closed.TheVariants as C
-use Rattle.relay_run.specs.declared.interim.project.ProjectRefusal.TheVariants.{Fault, NotTaken}
-use Rattle.plan_project.specs.declared.fault.ProjectFault.{ProjectFault}
 
 -- ---- one file
 
@@ -143,84 +136,72 @@ keeps_all files schema names (first ∷ documents) left rest e h =
     told_all None g = tt
     told_all (Some told_files) g = g
 
-pub files_given : (files : Option Files) (schema : Text × Text) (names : List Text) (kept : plan.Files) → GivesFiles files schema names kept → length kept ≡ suc (length names)
-files_given files schema names [] h = absurd h
-files_given files schema names (first ∷ documents) h = ap suc h.2
-
 -- ---- all files
 
-module _ (files : Files) (form : Form) where
-  fault_of_texts : (schema : Text) (texts : List Text) (n line column : ℕ) (rule : Text) → contents_of form files ≡ readable schema texts
-      → HaveOnlyFault schema texts n line column rule → IsTheFaultOf (Some files) form (name_of form n) line column rule
-  fault_of_texts schema texts n line column rule e h =
-      let P : Contents → Type 0 = λ x. IsFault form x (name_of form n) line column rule
-      × ((f : Text) (l c : ℕ) (r : Text) → IsFault form x f l c r → ◌≡◌ {A = Text × ℕ × ℕ × Text} (f, l, c, r) (name_of form n, line, column, rule))
-      × ((project : Project) → IsProject x project → ⊥) in
-      subst P (sym e) (
-        (n, refl, h.is),
-        (λ f l c r x. let same = h.only x.0 l c r x.2 in λ i. ((x.1 ∙ ap (λ (p : ℕ × ℕ × ℕ × Text). name_of form p.0) same) i, (same i).1, (same i).2, (same i).3)),
-        h.none,
-      )
+-- after the schema
+after_schema : (name : Text) (names : List Text) (schema : Text) (files : Files) → file_of name files ≡ Some schema → length schema ≤ min max_file max_all
+    → contents_under (name ∷ names) files ≡ documents_from files schema [] (max_all - length schema) names
+after_schema name names schema files e h = found_is name max_all (λ s. documents_from files s [] (max_all - length s) names) (file_of name files) schema e h
 
-  project_of_texts : (schema : Text) (texts : List Text) (p : Project) → contents_of form files ≡ readable schema texts → AreOnlyProject schema texts p
-      → IsTheProjectOf (Some files) form p
-  project_of_texts schema texts p e h =
-      let P : Contents → Type 0 = λ x. IsProject x p × ((other : Project) → IsProject x other → other ≡ p)
-      × ((file : Text) (line column : ℕ) (rule : Text) → IsFault form x file line column rule → ⊥) in
-      subst P (sym e) (h.is, h.only, λ file line column rule x. h.sound x.0 line column rule x.2)
+module _ (name : Text) (names : List Text) where
+  abbrev all_names : List Text
+  all_names = name ∷ names
 
--- the schema was read, and then the documents
-module _ (buffer : ℕ) (name : Text) (names : List Text) (schema : Text) where
-  abbrev form_given : Form
-  form_given = run buffer name names
+  -- the schema is not read
+  absent_schema : (files : Option Files) → IsAbsent files name → IsFirstAbsentUnder files all_names
+  absent_schema None a = a
+  absent_schema (Some files) a = found_none name max_all (λ s. documents_from files s [] (max_all - length s) names) (file_of name files) a
 
-  given_after : (files : Files) → file_of name files ≡ Some schema → length schema ≤ min max_file max_all
-      → contents_of form_given files ≡ documents_from files schema [] (max_all - length schema) names
-  given_after files e h = found_is name max_all (λ s. documents_from files s [] (max_all - length s) names) (file_of name files) schema e h
+  over_schema : (files : Option Files) (other : Text) → other ≡ name → IsTooLong files name (min max_file max_all) → Hold files all_names (too_long other)
+  over_schema None other e o = tt
+  over_schema (Some files) other e o =
+      found_over name max_all (λ s. documents_from files s [] (max_all - length s) names) (file_of name files) o ∙ ap (λ n. too_long n) (sym e)
 
-  pub project_given : (files : Option Files) (texts : List Text) (p : Project) → GivesFile files name schema → length schema ≤ min max_file max_all
-      → GivesDocuments files (max_all - length schema) names (λ s. readable s texts) → AreOnlyProject schema texts p → IsTheProjectOf files form_given p
-  project_given None texts p e h g x = tt
-  project_given (Some files) texts p e h g x = project_of_texts files form_given schema texts p (given_after files e h ∙ g schema) x
+  pub schema_closed : (files : Option Files) (closed : Closed) (rose : Type 0) → IsFileClosedBy files max_all name closed rose → AreUnreadBy files all_names closed rose
+  schema_closed files C.Unread rose x = elim x [ inl r ↦ inl r | inr a ↦ inr (absent_schema files a) ]
+  schema_closed files (C.TooLong other) rose x = over_schema files other.now x.0 x.1
+  schema_closed files (C.Fault f) rose x = x
+  schema_closed files (C.NotTaken n) rose x = x
+  schema_closed files C.NoMemory rose x = tt
 
-  pub fault_given : (files : Option Files) (texts : List Text) (n line column : ℕ) (rule : Text) → GivesFile files name schema → length schema ≤ min max_file max_all
-      → GivesDocuments files (max_all - length schema) names (λ s. readable s texts) → HaveOnlyFault schema texts n line column rule
-      → IsTheFaultOf files form_given (name_of form_given n) line column rule
-  fault_given None texts n line column rule e h g x = tt
-  fault_given (Some files) texts n line column rule e h g x = fault_of_texts files form_given schema texts n line column rule (given_after files e h ∙ g schema) x
+  -- the schema was read, and then the documents are
+  module _ (schema : Text × Text) where
+    abbrev left_then : ℕ
+    left_then = max_all - length schema.1
 
--- as the files are read: the schema, and then these files
-module _ (buffer : ℕ) (name : Text) (names : List Text) (schema : Text × Text) (files fs : Option Files) where
-  abbrev form_opened : Form
-  form_opened = run buffer name names
+    absent_documents : (files : Option Files) → GivesFile files name schema.1 → length schema.1 ≤ min max_file max_all → IsDocumentAbsent files left_then names → IsFirstAbsentUnder files all_names
+    absent_documents None e h a = a
+    absent_documents (Some files) e h a = after_schema name names schema.1 files e h ∙ a schema.1
 
-  abbrev Opened : (here kept : plan.Files) → Type 0
-  Opened here kept = (fs ≡ files) × (here ≡ kept) × GivesFile files name schema.1 × (length schema.1 ≤ min max_file max_all) × GivesFiles fs schema names kept
+    held_documents : (files : Option Files) (wanted : Text → Contents) → GivesFile files name schema.1 → length schema.1 ≤ min max_file max_all
+        → GivesDocuments files left_then names wanted → Hold files all_names (wanted schema.1)
+    held_documents None wanted e h g = tt
+    held_documents (Some files) wanted e h g = after_schema name names schema.1 files e h ∙ g schema.1
 
-  abbrev given_documents : List Text → Type 0
-  given_documents texts = GivesDocuments files (max_all - length schema.1) names (λ s. readable s texts)
+    closed_then : (files : Option Files) (closed : Closed) (rose later : Type 0) → GivesFile files name schema.1 → length schema.1 ≤ min max_file max_all
+        → AreClosedBy files left_then names closed rose → (rose → later) → AreUnreadBy files all_names closed later
+    closed_then files C.Unread rose later e h x up = elim x [ inl r ↦ inl (up r) | inr a ↦ inr (absent_documents files e h a) ]
+    closed_then files (C.TooLong other) rose later e h x up = held_documents files (λ s. too_long other.now) e h x
+    closed_then files (C.Fault f) rose later e h x up = x
+    closed_then files (C.NotTaken n) rose later e h x up = x
+    closed_then files C.NoMemory rose later e h x up = tt
 
-  pub project_opened : (here kept : plan.Files) (p : Project) → Opened here kept → AreProjectFiles here p → IsTheProjectOf files form_opened p
-  project_opened here [] p o x = absurd o.4
-  project_opened here (first ∷ documents) p o x =
-      let texts = plan.texts_of documents in
-      let only : AreOnlyProject first.1 texts p = subst (λ fs. AreProjectFiles fs p) o.1 x in
-      let told_here : given_documents texts = subst (λ f. GivesDocuments f (max_all - length schema.1) names (λ s. readable s texts)) o.0 o.4.1 in
-      project_given buffer name names schema.1 files texts p o.2 o.3 told_here (subst (λ (s : Text × Text). AreOnlyProject s.1 texts p) o.4.0 only)
+    pub documents_closed : (files fs : Option Files) (closed : Closed) (rose later : Type 0) → fs ≡ files → GivesFile files name schema.1 × (length schema.1 ≤ min max_file max_all)
+        → AreClosedBy fs left_then names closed rose → (rose → later) → AreUnreadBy files all_names closed later
+    documents_closed files fs closed rose later same read x up =
+        closed_then files closed rose later read.0 read.1 (subst (λ f. AreClosedBy f left_then names closed rose) same x) up
 
-  found_opened : (first : Text × Text) (documents : plan.Files) (n line column : ℕ) (rule : Text) → (fs ≡ files) × GivesFile files name schema.1 × (length schema.1 ≤ min max_file max_all)
-      × GivesFiles fs schema names (first ∷ documents) → HaveOnlyFault first.1 (plan.texts_of documents) n line column rule → IsTheFaultOf files form_opened (name_of form_opened n) line column rule
-  found_opened first documents n line column rule o x =
-      let texts = plan.texts_of documents in
-      let told_here : given_documents texts = subst (λ f. GivesDocuments f (max_all - length schema.1) names (λ s. readable s texts)) o.0 o.3.1 in
-      fault_given buffer name names schema.1 files texts n line column rule o.1 o.2 told_here (subst (λ (s : Text × Text). HaveOnlyFault s.1 texts n line column rule) o.3.0 x)
+    pub all_read : (files fs : Option Files) (kept : plan.Files) → fs ≡ files → GivesFile files name schema.1 × (length schema.1 ≤ min max_file max_all)
+        → GivesFiles fs schema names kept → AreRead files all_names kept
+    all_read files fs [] same read g = absurd g
+    all_read files fs (first ∷ documents) same read g =
+        let texts = plan.texts_of documents in
+        let given = subst (λ f. GivesDocuments f left_then names (λ s. readable s texts)) same g.1 in
+        let held : Hold files all_names (readable schema.1 texts) = held_documents files (λ s. readable s texts) read.0 read.1 given in
+        let many = g.2 in
+        (subst (λ (s : Text × Text). Hold files all_names (readable s.1 texts)) (sym g.0) held, omega (arith, many))
 
-  pub fault_opened : (here kept : plan.Files) (f : ProjectFault) → Opened here kept → AreRefusedFiles here (Fault f) → IsTheFaultOf files form_opened (name_of form_opened f.file) f.line f.column (rule_text f.rule)
-  fault_opened here [] f o x = absurd o.4
-  fault_opened here (first ∷ documents) f o x =
-      found_opened first documents f.file f.line f.column (rule_text f.rule) (o.0, o.2, o.3, o.4) (subst (λ fs. AreRefusedFiles fs (Fault f)) o.1 x)
-
-  pub not_taken_opened : (here kept : plan.Files) (n : ℕ) → Opened here kept → AreRefusedFiles here (NotTaken n) → IsTheFaultOf files form_opened (name_of form_opened n) 1 1 (codes "N1")
-  not_taken_opened here [] n o x = absurd o.4
-  not_taken_opened here (first ∷ documents) n o x =
-      found_opened first documents n 1 1 (codes "N1") (o.0, o.2, o.3, o.4) (subst (λ fs. AreRefusedFiles fs (NotTaken n)) o.1 x)
+-- there is a file for each name
+pub as_many_files : (files : Option Files) (names : List Text) (kept : plan.Files) → AreRead files names kept → length kept ≡ length names
+as_many_files files names [] o = absurd o
+as_many_files files names (first ∷ documents) o = let many = o.1 in omega (arith, many)

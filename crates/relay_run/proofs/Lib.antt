@@ -16,3 +16,5 @@ pub mod PlainFields
 pub mod PlainDocuments
 pub mod ProjectLaws
 pub mod FileLaws
+pub mod Opening
+pub mod ArtifactLines

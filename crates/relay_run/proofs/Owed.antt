@@ -1,20 +1,21 @@
 -- What the top call owes, from the course that it took.
-use Rattle.std.proofs.Common.{◌≡◌, ◌⊎◌, ◌↔◌, ◌≤◌, ◌+◌, ◌++◌, ℕ, [], length, take, Bool, true, IsTrue, Option, None, Some, refl, sym, ap, subst, inl, inr, ◌∙◌, arith, length-append}
+use Rattle.std.proofs.Common.{◌≡◌, ◌⊎◌, ◌↔◌, ◌≤◌, ◌+◌, ◌++◌, ℕ, List, [], length, take, Bool, true, IsTrue, Option, None, Some, refl, sym, ap, subst, inl, inr, ◌∙◌, arith, length-append}
 use Rattle.std.specs.Io.KnownBytes.{IsAtEnd}
 use Rattle.std.proofs.lemmas.Bool.{cases_eq}
 use Rattle.std.proofs.lemmas.List.{append-nil, take_all}
 use Rattle.relay_io.specs.Streams.{append, prepend}
 use Rattle.relay_model.specs.Keys.{Text}
-use Rattle.relay_model.specs.Machine.{Project}
 use Rattle.relay_model.specs.Printed.{project_fault}
-use Rattle.relay_run.specs.Answers.{Course, unknown, refused, accepted, IsCourse, IsTheProjectOf, IsTheFaultOf, Answering, Ran, Took, due, refuses, left_over, IsReadWhole, IsScriptFor, IsUntouched}
+use Rattle.relay_run.specs.Answers.{Course, unknown, refused, accepted, IsCourse, IsTheProjectOf, IsTheFaultOf, Answering, AnsweringBy, IsCall, Ran, Took, output_of, has_refusal_in, due, refuses, left_over, IsReadWhole, IsReadBy, IsEndedFor, IsScriptFor, IsUntouched}
 use Rattle.relay_run.specs.Files.{Files, Contents, absent, contents_of, IsProject, IsFault, IsFirstAbsent}
-use Rattle.relay_run.specs.Output.{max_script}
+use Rattle.relay_run.specs.FormProjects as projects
+use Rattle.relay_run.specs.FormProjects.{Project}
+use Rattle.relay_run.specs.Output.{max_script, output_text}
 use Rattle.relay_run.specs.Statuses.{IsDone}
-use Rattle.relay_run.specs.Words.{Form, run}
+use Rattle.relay_run.specs.Words.{Form, run, compile}
 use Rattle.relay_run.specs.declared.status.Status.{Status}
-use Rattle.relay_run.specs.declared.status.Status.TheVariants.{DoneWithRefusals, ProjectRefused, ReadFault, WriteFault, NoMemory, ScriptTooLong}
-use Rattle.relay_run.proofs.Courses.{not_done}
+use Rattle.relay_run.specs.declared.status.Status.TheVariants.{DoneWithRefusals, Usage, ProjectRefused, ReadFault, WriteFault, NoMemory, ScriptTooLong}
+use Rattle.relay_run.proofs.Courses.{not_done, nothing_given}
 
 all_given : (bytes taken : Text) (after : Option Text) → Some bytes ≡ prepend taken after → IsAtEnd after → (after ≡ Some []) × (taken ≡ bytes)
 all_given bytes taken None is at_end = absurd (cc)
@@ -27,32 +28,61 @@ given_within bytes taken None is = absurd (cc)
 given_within bytes taken (Some xs) is =
     let joined : bytes ≡ taken ++ xs = cc in omega (arith, ap length joined, length-append taken xs)
 
-no_course : (given : Contents) (project : Project) → given ≡ absent → IsProject given project → ⊥
-no_course given project e is = let P : Contents → Type 0 = λ x. IsProject x project in subst P e is
+no_course : (form : Form) (given : Contents) (project : Project) → given ≡ absent → IsProject form given project → ⊥
+no_course form given project e is = let P : Contents → Type 0 = λ x. IsProject form x project in subst P e is
 
 no_faults : (form : Form) (given : Contents) (file : Text) (line column : ℕ) (rule : Text) → given ≡ absent → IsFault form given file line column rule → ⊥
 no_faults form given file line column rule e is = let P : Contents → Type 0 = λ x. IsFault form x file line column rule in subst P e is
 
 -- all of a script was read as far as the form reads it
-read_whole : (form : Form) (taken : Text) (after : Option Text) → IsAtEnd after → length taken ≤ max_script → IsReadWhole form taken after
-read_whole (run buffer schema documents) taken after at_end within = (at_end, within)
+read_whole : (form : Form) (taken : Text) (after : Option Text) (ended : Bool) → IsReadBy form taken → (IsTrue ended → IsAtEnd after) → IsEndedFor form ended → length taken ≤ max_script → IsReadWhole form taken after
+read_whole (run buffer schema documents) taken after ended read end done within = (end done, within)
+read_whole (compile schema documents) taken after ended read end done within = read
 
--- a script that is told is read whole, and what the form leaves of it is left
-all_read : (form : Form) (bytes taken : Text) (after : Option Text) → Some bytes ≡ prepend taken after → IsReadWhole form taken after → (after ≡ Some (left_over form bytes)) × (taken ≡ bytes)
-all_read (run buffer schema documents) bytes taken after is whole = all_given bytes taken after is whole.0
+-- what was written is what is written of all of it
+written_whole : (form : Form) (p : Project) (taken : Text) (ended : Bool) → IsEndedFor form ended → length taken ≤ max_script → output_of form p (take max_script taken) ended ≡ output_of form p taken true
+written_whole (run buffer schema documents) (projects.plain p) taken ended done within =
+    ap (λ e. output_text p buffer (take max_script taken) e) done ∙ ap (λ t. output_text p buffer t true) (take_all max_script taken within)
+written_whole (run buffer schema documents) (projects.whole defs ps) taken ended done within = refl
+written_whole (compile schema documents) (projects.plain p) taken ended done within = refl
+written_whole (compile schema documents) (projects.whole defs ps) taken ended done within = refl
 
-script_within : (form : Form) (bytes : Text) → IsScriptFor form bytes → length bytes ≤ max_script
-script_within (run buffer schema documents) bytes within = within
+-- what was read of a script that is told: what the form leaves of it is left, and all of it would give no more
+abbrev AreAll : Form → Project → (bytes taken : Text) → (after : Option Text) → Type 0
+AreAll form p bytes taken after =
+    (after ≡ Some (left_over form bytes)) × (output_of form p taken true ≡ output_of form p bytes true) × (has_refusal_in form p taken ≡ has_refusal_in form p bytes)
+
+none_read : (bytes taken : Text) (after : Option Text) → Some bytes ≡ prepend taken after → taken ≡ [] → after ≡ Some bytes
+none_read bytes taken after is none = sym (is ∙ ap (λ t. prepend t after) none ∙ sym (nothing_given after))
+
+all_read : (form : Form) (p : Project) (bytes taken : Text) (after : Option Text) → Some bytes ≡ prepend taken after → IsReadWhole form taken after → AreAll form p bytes taken after
+all_read (run buffer schema documents) p bytes taken after is read =
+    let all = all_given bytes taken after is read.0 in
+    (all.0, ap (λ t. output_of (run buffer schema documents) p t true) all.1, ap (λ t. has_refusal_in (run buffer schema documents) p t) all.1)
+all_read (compile schema documents) (projects.plain p) bytes taken after is read = (none_read bytes taken after is read, refl, refl)
+all_read (compile schema documents) (projects.whole defs ps) bytes taken after is read = (none_read bytes taken after is read, refl, refl)
+
+-- no more than a script may have is read of one that is not too long
+short_enough : (form : Form) (bytes taken : Text) (after : Option Text) → IsScriptFor form bytes → Some bytes ≡ prepend taken after → IsReadBy form taken → length taken ≤ max_script
+short_enough (run buffer schema documents) bytes taken after within is read = let most = given_within bytes taken after is in omega (arith, most, within)
+short_enough (compile schema documents) bytes taken after within is read = omega (arith, ap length read)
+
+-- the answers by each form are among these
+among_all : (form : Form) (status : Status) (script sink : Type 0) → AnsweringBy form status script sink
+    → IsDone status ⊎ (((status ≡ ReadFault) × script) ⊎ (((status ≡ WriteFault) × sink) ⊎ ((status ≡ NoMemory) ⊎ (status ≡ ScriptTooLong))))
+among_all (run buffer schema documents) status script sink answering = answering
+among_all (compile schema documents) status script sink answering = elim answering [
+  | inl done ↦ inl done
+  | inr f ↦ elim f [ inl w ↦ inr (inr (inl w)) | inr m ↦ inr (inr (inr (inl m))) ]
+]
 
 -- a course that is answered so, with what it comes by
 module _ (status : Status) (script sink : Type 0) (left left_now : Option Text) (reads reads_now : ℕ) (held held_now : Option Text) (puts puts_now : ℕ) where
   abbrev pub Called : Option Files → Form → Type 0 → Type 0
-  Called files form vault =
-      (course : Course) × IsCourse files form course × Answering course status (vault ⊎ IsFirstAbsent files form) script sink
-      × Ran form course status left left_now reads reads_now held held_now puts puts_now
+  Called files form vault = IsCall files form status vault script sink left left_now reads reads_now held held_now puts puts_now
 
-  not_over : (course : Course) (taken : Text) (ended : Bool) → Took course status left left_now taken ended → IsDone status → length taken ≤ max_script
-  not_over course taken ended took done = elim (cases_eq (length taken) (max_script + 1)) [
+  not_over : (form : Form) (course : Course) (taken : Text) (ended : Bool) → Took form course status left left_now taken ended → IsDone status → length taken ≤ max_script
+  not_over form course taken ended took done = elim (cases_eq (length taken) (max_script + 1)) [
     | inl same ↦ absurd (elim (took.over same) [
       | inl e ↦ let d : ⊥ = subst IsDone e done in d
       | inr f ↦ elim f [ inl e ↦ let d : ⊥ = subst IsDone e done in d | inr e ↦ let d : ⊥ = subst IsDone e done in d ]
@@ -68,12 +98,11 @@ module _ (status : Status) (script sink : Type 0) (left left_now : Option Text) 
   -- in a course that is accepted, where the work is done
   whole_of : (form : Form) (p : Project) → Ran form (accepted p) status left left_now reads reads_now held held_now puts puts_now → IsDone status → (taken : Text) × IsWholeOf form p taken
   whole_of form p r done =
-      let within : length r.taken ≤ max_script = not_over (accepted p) r.taken r.ended r.took done in
-      let due_is : due form (accepted p) (take max_script r.taken) r.ended ≡ due form (accepted p) r.taken true =
-      ap (λ e. due form (accepted p) (take max_script r.taken) e) (r.took.done done) ∙ ap (λ t. due form (accepted p) t true) (take_all max_script r.taken within) in
+      let within : length r.taken ≤ max_script = not_over form (accepted p) r.taken r.ended r.took done in
+      let due_is : due form (accepted p) (take max_script r.taken) r.ended ≡ due form (accepted p) r.taken true = written_whole form p r.taken r.ended (r.took.done done) within in
       let added_is : r.added ≡ due form (accepted p) r.taken true =
       sym (append-nil r.added) ∙ ap (λ m. r.added ++ m) (sym (r.whole (inl done))) ∙ r.part ∙ due_is in
-      (r.taken, (r.took.is, read_whole form r.taken left_now (r.took.end (r.took.done done)) within, r.adds ∙ ap (append held) added_is, r.refusals done))
+      (r.taken, (r.took.is, read_whole form r.taken left_now r.ended r.took.read r.took.end (r.took.done done) within, r.adds ∙ ap (append held) added_is, r.refusals done))
 
   abbrev IsDoneOf : Form → Project → Text → Type 0
   IsDoneOf form project bytes =
@@ -84,12 +113,11 @@ module _ (status : Status) (script sink : Type 0) (left left_now : Option Text) 
       → IsDoneOf form p bytes
   done_of form p bytes told r done =
       let w = whole_of form p r done in
-      let all = all_read form bytes w.0 left_now (sym told ∙ w.1.0) w.1.1 in
-      let P : Text → Type 0 = λ t. (held_now ≡ append held (due form (accepted p) t true)) × ((status ≡ DoneWithRefusals) ↔ IsTrue (refuses form (accepted p) t)) in
-      let is = subst P all.1 (w.1.2, w.1.3) in
-      (all.0, is.0, is.1)
+      let all = all_read form p bytes w.0 left_now (sym told ∙ w.1.0) w.1.1 in
+      let P : Bool → Type 0 = λ b. (status ≡ DoneWithRefusals) ↔ IsTrue b in
+      (all.0, w.1.2 ∙ ap (append held) all.1, subst P all.2 w.1.3)
 
-  whole_in : (files : Option Files) (form : Form) (vault : Type 0) (course : Course) → IsCourse files form course → Answering course status (vault ⊎ IsFirstAbsent files form) script sink
+  whole_in : (files : Option Files) (form : Form) (vault : Type 0) (course : Course) → IsCourse files form course → Answering form course status (vault ⊎ IsFirstAbsent files form) script sink
       → Ran form course status left left_now reads reads_now held held_now puts puts_now
       → IsDone status → (project : Project) × IsTheProjectOf files form project × (taken : Text) × IsWholeOf form project taken
   whole_in files form vault unknown is answering r done = absurd (elim answering [
@@ -108,8 +136,8 @@ module _ (status : Status) (script sink : Type 0) (left left_now : Option Text) 
       (d.0, d.1, d.2, d.3.0, d.3.1, d.3.2, d.3.3)
 
   done_in : (files : Files) (form : Form) (vault : Type 0) (project : Project) (bytes : Text) (course : Course) → IsCourse (Some files) form course
-      → Answering course status (vault ⊎ IsFirstAbsent (Some files) form) script sink → Ran form course status left left_now reads reads_now held held_now puts puts_now
-      → IsProject (contents_of form files) project → left ≡ Some bytes → IsDone status → IsDoneOf form project bytes
+      → Answering form course status (vault ⊎ IsFirstAbsent (Some files) form) script sink → Ran form course status left left_now reads reads_now held held_now puts puts_now
+      → IsProject form (contents_of form files) project → left ≡ Some bytes → IsDone status → IsDoneOf form project bytes
   done_in files form vault project bytes unknown is answering r has told done = absurd (elim answering [
     | inl e ↦ let d : ⊥ = subst IsDone e.0 done in d
     | inr e ↦ let d : ⊥ = subst IsDone e done in d
@@ -120,7 +148,7 @@ module _ (status : Status) (script sink : Type 0) (left left_now : Option Text) 
       subst P (sym (is.1 project has)) (done_of form p bytes told r done)
 
   pub owed_done : (files : Files) (form : Form) (vault : Type 0) (project : Project) (bytes : Text) → Called (Some files) form vault
-      → IsProject (contents_of form files) project → left ≡ Some bytes → IsDone status
+      → IsProject form (contents_of form files) project → left ≡ Some bytes → IsDone status
       → (left_now ≡ Some (left_over form bytes)) × (held_now ≡ append held (due form (accepted project) bytes true)) × ((status ≡ DoneWithRefusals) ↔ IsTrue (refuses form (accepted project) bytes))
   owed_done files form vault project bytes w has told done = done_in files form vault project bytes w.0 w.1 w.2 w.3 has told done
 
@@ -128,15 +156,15 @@ module _ (status : Status) (script sink : Type 0) (left left_now : Option Text) 
   IsComplete form project bytes = (status ≡ NoMemory) ⊎ (IsDone status × (left_now ≡ Some (left_over form bytes)) × (held_now ≡ append held (due form (accepted project) bytes true)))
 
   complete_in : (files : Files) (form : Form) (vault : Type 0) (project : Project) (bytes : Text) (course : Course) → IsCourse (Some files) form course
-      → Answering course status (vault ⊎ IsFirstAbsent (Some files) form) script sink → Ran form course status left left_now reads reads_now held held_now puts puts_now
-      → IsProject (contents_of form files) project → left ≡ Some bytes → IsScriptFor form bytes → (vault → ⊥) → (script → ⊥) → (sink → ⊥) → IsComplete form project bytes
+      → Answering form course status (vault ⊎ IsFirstAbsent (Some files) form) script sink → Ran form course status left left_now reads reads_now held held_now puts puts_now
+      → IsProject form (contents_of form files) project → left ≡ Some bytes → IsScriptFor form bytes → (vault → ⊥) → (script → ⊥) → (sink → ⊥) → IsComplete form project bytes
   complete_in files form vault project bytes unknown is answering r has told within a b c = elim answering [
-    | inl e ↦ absurd (elim e.1 [ inl v ↦ a v | inr none ↦ no_course (contents_of form files) project none has ])
+    | inl e ↦ absurd (elim e.1 [ inl v ↦ a v | inr none ↦ no_course form (contents_of form files) project none has ])
     | inr e ↦ inl e
   ]
   complete_in files form vault project bytes (refused f l k g) is answering r has told within a b c = absurd (is.2 project has)
-  complete_in files form vault project bytes (accepted p) is answering r has told within a b c = elim answering [
-    | inl done ↦ let d = done_in files form vault project bytes (accepted p) is (inl done) r has told done in inr (done, d.0, d.1)
+  complete_in files form vault project bytes (accepted p) is answering r has told within a b c = elim (among_all form status script sink answering) [
+    | inl done ↦ let d = done_in files form vault project bytes (accepted p) is answering r has told done in inr (done, d.0, d.1)
     | inr f ↦ elim f [
       | inl e ↦ absurd (b e.1)
       | inr f ↦ elim f [
@@ -144,16 +172,15 @@ module _ (status : Status) (script sink : Type 0) (left left_now : Option Text) 
         | inr f ↦ elim f [
           | inl e ↦ inl e
           | inr e ↦ let over : length r.taken ≡ max_script + 1 = (r.took.too_long e).0 in
-              let most : length r.taken ≤ length bytes = given_within bytes r.taken left_now (sym told ∙ r.took.is) in
-              let short : length bytes ≤ max_script = script_within form bytes within in
-              absurd (omega (arith, over, most, short))
+              let short : length r.taken ≤ max_script = short_enough form bytes r.taken left_now within (sym told ∙ r.took.is) r.took.read in
+              absurd (omega (arith, over, short))
         ]
       ]
     ]
   ]
 
   pub owed_complete : (files : Files) (form : Form) (vault : Type 0) (project : Project) (bytes : Text) → Called (Some files) form vault
-      → IsProject (contents_of form files) project → left ≡ Some bytes → IsScriptFor form bytes → (vault → ⊥) → (script → ⊥) → (sink → ⊥) → IsComplete form project bytes
+      → IsProject form (contents_of form files) project → left ≡ Some bytes → IsScriptFor form bytes → (vault → ⊥) → (script → ⊥) → (sink → ⊥) → IsComplete form project bytes
   owed_complete files form vault project bytes w has told within a b c = complete_in files form vault project bytes w.0 w.1 w.2 w.3 has told within a b c
 
   abbrev IsFaulty : (file : Text) → (line column : ℕ) → (rule : Text) → Type 0 → Type 0
@@ -174,7 +201,7 @@ module _ (status : Status) (script sink : Type 0) (left left_now : Option Text) 
       r.adds ∙ ap (append held) (added_is ∙ sym (ap fault_text same))
 
   faulty_in : (files : Files) (form : Form) (vault : Type 0) (file : Text) (line column : ℕ) (rule : Text) (course : Course) → IsCourse (Some files) form course
-      → Answering course status (vault ⊎ IsFirstAbsent (Some files) form) script sink → Ran form course status left left_now reads reads_now held held_now puts puts_now
+      → Answering form course status (vault ⊎ IsFirstAbsent (Some files) form) script sink → Ran form course status left left_now reads reads_now held held_now puts puts_now
       → IsFault form (contents_of form files) file line column rule → IsFaulty file line column rule vault
   faulty_in files form vault file line column rule unknown is answering r fault = elim answering [
     | inl e ↦ elim e.1 [ inl v ↦ inr (inl (e.0, v)) | inr none ↦ absurd (no_faults form (contents_of form files) file line column rule none fault) ]
@@ -195,9 +222,9 @@ module _ (status : Status) (script sink : Type 0) (left left_now : Option Text) 
   other_than this other differs e r = differs (sym r ∙ e)
 
   -- no answer that a course with an accepted project comes to is this one
-  not_accepted : (this : Status) → (IsDone this → ⊥) → (this ≡ WriteFault → ⊥) → (this ≡ NoMemory → ⊥) → (this ≡ ScriptTooLong → ⊥) → (project : Project) (vault : Type 0)
-      → Answering (accepted project) status vault script sink → status ≡ this → (this ≡ ReadFault) × script
-  not_accepted this a b c d project vault answering e = elim answering [
+  not_accepted : (this : Status) → (IsDone this → ⊥) → (this ≡ WriteFault → ⊥) → (this ≡ NoMemory → ⊥) → (this ≡ ScriptTooLong → ⊥) → (form : Form) (project : Project) (vault : Type 0)
+      → Answering form (accepted project) status vault script sink → status ≡ this → (this ≡ ReadFault) × script
+  not_accepted this a b c d form project vault answering e = elim (among_all form status script sink answering) [
     | inl done ↦ absurd (a (subst IsDone e done))
     | inr f ↦ elim f [
       | inl g ↦ (sym e ∙ g.0, g.1)
@@ -216,7 +243,7 @@ module _ (status : Status) (script sink : Type 0) (left left_now : Option Text) 
   IsUnread = IsUntouched left left_now reads reads_now
 
   refused_in : (files : Option Files) (form : Form) (vault : Type 0) (course : Course) → IsCourse files form course
-      → Answering course status (vault ⊎ IsFirstAbsent files form) script sink → Ran form course status left left_now reads reads_now held held_now puts puts_now
+      → Answering form course status (vault ⊎ IsFirstAbsent files form) script sink → Ran form course status left left_now reads reads_now held held_now puts puts_now
       → status ≡ ProjectRefused → HasFault files form × IsUnread
   refused_in files form vault unknown is answering r e = absurd (elim answering [
     | inl f ↦ other_than ProjectRefused ReadFault (λ x. cc) f.0 e
@@ -225,7 +252,7 @@ module _ (status : Status) (script sink : Type 0) (left left_now : Option Text) 
   refused_in files form vault (refused f l k g) is answering r e =
       ((f, l, k, g, is, refused_whole form (f, l, k, g) (f, l, k, g) refl r e), r.unread)
   refused_in files form vault (accepted p) is answering r e =
-      absurd (read_fault_is (not_accepted ProjectRefused (λ d. d) (λ x. cc) (λ x. cc) (λ x. cc) p (vault ⊎ IsFirstAbsent files form) answering e).0)
+      absurd (read_fault_is (not_accepted ProjectRefused (λ d. d) (λ x. cc) (λ x. cc) (λ x. cc) form p (vault ⊎ IsFirstAbsent files form) answering e).0)
     where
       read_fault_is : ProjectRefused ≡ ReadFault → ⊥
       read_fault_is x = cc
@@ -238,7 +265,7 @@ module _ (status : Status) (script sink : Type 0) (left left_now : Option Text) 
   owed_unread files form vault w e = (refused_in files form vault w.0 w.1 w.2 w.3 e).1
 
   unread_in : (files : Option Files) (form : Form) (vault : Type 0) (course : Course)
-      → Answering course status (vault ⊎ IsFirstAbsent files form) script sink → Ran form course status left left_now reads reads_now held held_now puts puts_now
+      → Answering form course status (vault ⊎ IsFirstAbsent files form) script sink → Ran form course status left left_now reads reads_now held held_now puts puts_now
       → status ≡ ReadFault → (script → ⊥) → IsUnread × IsUntouched held held_now puts puts_now
   unread_in files form vault unknown answering r e none = (r.unread, r.unwritten)
   unread_in files form vault (refused f l k g) answering r e none = absurd (elim answering [
@@ -246,9 +273,34 @@ module _ (status : Status) (script sink : Type 0) (left left_now : Option Text) 
     | inr h ↦ elim h [ inl w ↦ other_than ReadFault WriteFault (λ x. cc) w.0 e | inr m ↦ other_than ReadFault NoMemory (λ x. cc) m e ]
   ])
   unread_in files form vault (accepted p) answering r e none =
-      absurd (none (not_accepted ReadFault (λ d. d) (λ x. cc) (λ x. cc) (λ x. cc) p (vault ⊎ IsFirstAbsent files form) answering e).1)
+      absurd (none (not_accepted ReadFault (λ d. d) (λ x. cc) (λ x. cc) (λ x. cc) form p (vault ⊎ IsFirstAbsent files form) answering e).1)
 
   -- the files could not be read
   pub owed_unopened : (files : Option Files) (form : Form) (vault : Type 0) → Called files form vault → status ≡ ReadFault → (script → ⊥)
       → (left_now ≡ left) × (reads_now ≡ reads) × (held_now ≡ held) × (puts_now ≡ puts)
   owed_unopened files form vault w e none = let d = unread_in files form vault w.0 w.2 w.3 e none in (d.0.0, d.0.1, d.1.0, d.1.1)
+
+  usage_in : (files : Option Files) (form : Form) (vault : Type 0) (course : Course) → Answering form course status (vault ⊎ IsFirstAbsent files form) script sink → status ≡ Usage → ⊥
+  usage_in files form vault unknown answering e = elim answering [ inl f ↦ other_than Usage ReadFault (λ x. cc) f.0 e | inr f ↦ other_than Usage NoMemory (λ x. cc) f e ]
+  usage_in files form vault (refused f l k g) answering e = elim answering [
+    | inl h ↦ other_than Usage ProjectRefused (λ x. cc) h e
+    | inr h ↦ elim h [ inl w ↦ other_than Usage WriteFault (λ x. cc) w.0 e | inr m ↦ other_than Usage NoMemory (λ x. cc) m e ]
+  ]
+  usage_in files form vault (accepted p) answering e =
+      read_fault_is (not_accepted Usage (λ d. d) (λ x. cc) (λ x. cc) (λ x. cc) form p (vault ⊎ IsFirstAbsent files form) answering e).0
+    where
+      read_fault_is : Usage ≡ ReadFault → ⊥
+      read_fault_is x = cc
+
+  -- the words are a form
+  pub owed_usage : (files : Option Files) (form : Form) (vault : Type 0) → Called files form vault → status ≡ Usage → ⊥
+  owed_usage files form vault w e = usage_in files form vault w.0 w.2 e
+
+  scriptless_in : (schema : Text) (documents : List Text) (course : Course) → Ran (compile schema documents) course status left left_now reads reads_now held held_now puts puts_now → IsUnread
+  scriptless_in schema documents unknown r = r.unread
+  scriptless_in schema documents (refused f l k g) r = r.unread
+  scriptless_in schema documents (accepted p) r = r.unread
+
+  -- to compile, the script is not called
+  pub owed_scriptless : (files : Option Files) (schema : Text) (documents : List Text) (vault : Type 0) → Called files (compile schema documents) vault → (left_now ≡ left) × (reads_now ≡ reads)
+  owed_scriptless files schema documents vault w = scriptless_in schema documents w.0 w.3

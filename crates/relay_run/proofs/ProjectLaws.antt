@@ -22,7 +22,7 @@ use Rattle.plan_project.specs.declared.fault.ProjectFault.{ProjectFault}
 abbrev Place : Type 0
 Place = ℕ × ℕ × ℕ × Text
 
-same_place : (schema : Text) (texts : List Text) (m l c : ℕ) (r : Text) (f : ProjectFault) (b : BreaksRule schema texts m l c r) → b.fault ≡ f
+pub same_place : (schema : Text) (texts : List Text) (m l c : ℕ) (r : Text) (f : ProjectFault) (b : BreaksRule schema texts m l c r) → b.fault ≡ f
     → ◌≡◌ {A = Place} (m, l, c, r) (f.file, f.line, f.column, rule_text f.rule)
 same_place schema texts m l c r f b e = λ i. (
   (b.file_is ∙ ap (λ (x : ProjectFault). x.file) e) i,

@@ -2,7 +2,8 @@
 use Rattle.std.specs.Prelude.{map}
 use Rattle.relay_run.specs.Words as forms
 use Rattle.relay_run.specs.declared.words.Form.{Form}
-use Rattle.relay_run.specs.declared.words.Form.TheVariants.{Run}
+use Rattle.relay_run.specs.declared.words.Form.TheVariants.{Run, Compile}
 
 abbrev pub form_shown : Form → forms.Form
 form_shown (Run buffer schema documents) = forms.run buffer schema.now (map (λ w. w.now) documents.now)
+form_shown (Compile schema documents) = forms.compile schema.now (map (λ w. w.now) documents.now)

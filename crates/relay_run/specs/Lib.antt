@@ -14,6 +14,7 @@ pub mod Said
 pub mod Reading
 pub mod Plain
 pub mod Projects
+pub mod FormProjects
 pub mod Rules
 pub mod PlainParts
 pub mod Verdicts

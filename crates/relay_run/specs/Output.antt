@@ -1,9 +1,14 @@
--- What a run writes.
-use Rattle.std.specs.Prelude.{◌≡◌, ℕ, ◌^◌, ◌++◌, Bool, true, Option}
+-- What is written: by a run the answers of the lines of its script, and where a project is compiled its artifact lines.
+use Rattle.std.specs.Prelude.{◌≡◌, ℕ, ◌^◌, List, [], ◌∷◌, ◌++◌, Bool, true, Option}
+use Rattle.gql_ast.specs.declared.document.Document.{Document}
+use Rattle.gql_ast.specs.declared.place.Placed.{Placed}
+use Rattle.gql_graph.specs.Rules.{each}
+use Rattle.plan_project.specs.Expansions.{artifact_lines}
 use Rattle.relay_io.specs.Streams.{append}
 use Rattle.relay_model.specs.Keys.{Text}
 use Rattle.relay_model.specs.Machine as machine
 use Rattle.relay_model.specs.Script.{lines_of, cut}
+use Rattle.schema_tables.specs.Types.{Defs}
 
 -- a script has at most 1 GiB
 abbrev pub max_script : ℕ
@@ -16,6 +21,14 @@ output_text project buffer bytes ended = machine.output project buffer (cut (lin
 -- whether one of these lines is refused
 abbrev pub has_refusal : machine.Project → (buffer : ℕ) → Text → Bool
 has_refusal project buffer bytes = machine.some_refused project buffer (cut (lines_of bytes true))
+
+-- lines, each ended by LF
+abbrev pub text_of_lines : List Text → Text
+text_of_lines lines = each {B = ℕ} (λ (line : Text). line ++ 10 ∷ []) lines
+
+-- the artifact lines of a project
+abbrev pub artifacts_text : Defs → List (Placed Document) → Text
+artifacts_text defs ps = text_of_lines (artifact_lines defs ps)
 
 -- what is held has grown by a part of the text, from its beginning on
 abbrev pub AddsPartOf : Option Text → Option Text → Text → Type 0

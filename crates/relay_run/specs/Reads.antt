@@ -1,10 +1,10 @@
 -- What the reading of files tells of them, and why there is no project.
-use Rattle.std.specs.Prelude.{◌≡◌, ◌⊎◌, ℕ, ◌-◌, List, [], ◌∷◌, length, min, codes, Option, Some, None, ⊤}
+use Rattle.std.specs.Prelude.{◌≡◌, ◌⊎◌, ℕ, ◌+◌, ◌-◌, List, [], ◌∷◌, length, min, codes, Option, Some, None, ⊤}
 use Rattle.plan_project.specs.Verdicts as plan
 use Rattle.relay_io.specs.Files.{IsAbsent, IsTooLong}
 use Rattle.relay_model.specs.Keys.{Text}
 use Rattle.relay_run.specs.Answers.{IsTheFaultOf}
-use Rattle.relay_run.specs.Files.{Files, Contents, absent, too_long, readable, documents_from, max_all, max_file, name_of, IsFirstAbsent}
+use Rattle.relay_run.specs.Files.{Files, Contents, absent, too_long, readable, contents_under, documents_from, max_all, max_file, name_of, IsFirstAbsent}
 use Rattle.relay_run.specs.Rules.{rule_text}
 use Rattle.relay_run.specs.Words.{Form}
 use Rattle.relay_run.specs.declared.files.Closed.{Closed}
@@ -47,6 +47,32 @@ AreClosedBy files left names (TooLong name) rose = GivesDocuments files left nam
 AreClosedBy files left names (Fault f) rose = ⊥
 AreClosedBy files left names (NotTaken n) rose = ⊥
 AreClosedBy files left names NoMemory rose = ⊤
+
+-- ---- all files
+
+-- the files of these names hold this, where they are told; the first is the schema
+abbrev pub Hold : Option Files → (names : List Text) → Contents → Type 0
+Hold None names contents = ⊤
+Hold (Some files) names contents = contents_under names files ≡ contents
+
+-- the files of these names, as they were read
+abbrev pub AreRead : Option Files → (names : List Text) → plan.Files → Type 0
+AreRead files names [] = ⊥
+AreRead files names (schema ∷ documents) =
+    Hold files names (readable schema.1 (plan.texts_of documents)) × (length documents + 1 ≡ length names)
+
+-- the files are told, and of these the first that is absent or too long is absent
+abbrev pub IsFirstAbsentUnder : Option Files → (names : List Text) → Type 0
+IsFirstAbsentUnder None names = ⊥
+IsFirstAbsentUnder (Some files) names = contents_under names files ≡ absent
+
+-- why the files of these names are not read
+abbrev pub AreUnreadBy : Option Files → (names : List Text) → Closed → (rose : Type 0) → Type 0
+AreUnreadBy files names Unread rose = rose ⊎ IsFirstAbsentUnder files names
+AreUnreadBy files names (TooLong name) rose = Hold files names (too_long name.now)
+AreUnreadBy files names (Fault f) rose = ⊥
+AreUnreadBy files names (NotTaken n) rose = ⊥
+AreUnreadBy files names NoMemory rose = ⊤
 
 -- why there is no project
 abbrev pub IsClosedBy : Option Files → Form → Closed → (rose : Type 0) → Type 0

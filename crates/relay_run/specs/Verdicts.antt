@@ -1,9 +1,9 @@
--- What is found of the texts of a project: it is accepted, or has one fault, and nothing else beside that.
+-- What is found of the texts of a project that a script is run against: it is accepted, or has one fault, and nothing else beside that.
 use Rattle.std.specs.Prelude.{◌≡◌, ℕ, List, [], ◌∷◌, codes}
 use Rattle.plan_project.specs.Verdicts.{Files, texts_of}
 use Rattle.relay_model.specs.Keys.{Text}
 use Rattle.relay_model.specs.Machine.{Project}
-use Rattle.relay_run.specs.Files.{IsFaultIn}
+use Rattle.relay_run.specs.Files.{IsRunFault}
 use Rattle.relay_run.specs.Projects.{IsPlainProject}
 use Rattle.relay_run.specs.Rules.{rule_text}
 use Rattle.relay_run.specs.declared.interim.project.ProjectRefusal.{ProjectRefusal}
@@ -13,12 +13,12 @@ use Rattle.relay_run.specs.declared.interim.project.ProjectRefusal.TheVariants.{
 pub record AreOnlyProject (schema : Text) (texts : List Text) (project : Project) : Type 0 where
   pub is : IsPlainProject schema texts project
   pub only : (other : Project) → IsPlainProject schema texts other → other ≡ project
-  pub sound : (n line column : ℕ) (rule : Text) → IsFaultIn schema texts n line column rule → ⊥
+  pub sound : (n line column : ℕ) (rule : Text) → IsRunFault schema texts n line column rule → ⊥
 
 -- the texts have this fault, no other, and are no project
 pub record HaveOnlyFault (schema : Text) (texts : List Text) (n line column : ℕ) (rule : Text) : Type 0 where
-  pub is : IsFaultIn schema texts n line column rule
-  pub only : (m l c : ℕ) (r : Text) → IsFaultIn schema texts m l c r → ◌≡◌ {A = ℕ × ℕ × ℕ × Text} (m, l, c, r) (n, line, column, rule)
+  pub is : IsRunFault schema texts n line column rule
+  pub only : (m l c : ℕ) (r : Text) → IsRunFault schema texts m l c r → ◌≡◌ {A = ℕ × ℕ × ℕ × Text} (m, l, c, r) (n, line, column, rule)
   pub none : (project : Project) → IsPlainProject schema texts project → ⊥
 
 abbrev pub IsRefusal : (schema : Text) → (texts : List Text) → ProjectRefusal → Type 0

@@ -30,21 +30,32 @@ abbrev pub are_documents : List Text → Bool
 are_documents names = nat_le 1 (length names) && nat_le (length names) max_documents
 
 -- What the words ask for. `run B SCHEMA DOC..` runs a script against the project of these files, and keeps at
--- most B released operations.
+-- most B released operations. `compile SCHEMA DOC..` writes the artifact lines of the project of these files.
 pub data Form : Type 0 where
   run : (buffer : ℕ) (schema : Text) (documents : List Text) → Form
+  compile : (schema : Text) (documents : List Text) → Form
+
+-- by the words after `run`
+abbrev pub run_form : List Text → Option Form
+run_form [] = None
+run_form (buffer ∷ []) = None
+run_form (buffer ∷ schema ∷ documents) = cond (is_buffer buffer && are_documents documents) (Some (run (decimal buffer) schema documents)) None
+
+-- by the words after `compile`
+abbrev pub compile_form : List Text → Option Form
+compile_form [] = None
+compile_form (schema ∷ documents) = cond (are_documents documents) (Some (compile schema documents)) None
 
 abbrev pub form_of : List Text → Option Form
-form_of (first ∷ buffer ∷ schema ∷ documents) =
-    cond (bytes_eq first (codes "run") && is_buffer buffer && are_documents documents) (Some (run (decimal buffer) schema documents)) None
 form_of [] = None
-form_of (first ∷ []) = None
-form_of (first ∷ buffer ∷ []) = None
+form_of (first ∷ words) = cond (bytes_eq first (codes "run")) (run_form words) (cond (bytes_eq first (codes "compile")) (compile_form words) None)
 
 -- the names of the files that a form reads, in their order
 abbrev pub file_names : Form → List Text
 file_names (run buffer schema documents) = schema ∷ documents
+file_names (compile schema documents) = schema ∷ documents
 
 -- the numbers of a form are within their limits
 abbrev pub IsWithin : Form → Type 0
 IsWithin (run buffer schema documents) = (1 ≤ buffer) × (buffer ≤ 100) × (1 ≤ length documents) × (length documents ≤ max_documents)
+IsWithin (compile schema documents) = (1 ≤ length documents) × (length documents ≤ max_documents)

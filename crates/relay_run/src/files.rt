@@ -1,11 +1,12 @@
 //! Reading the files of the project.
-ghost use Rattle.std.specs.Prelude.{◌≡◌, ◌≤◌, ◌+◌, ◌-◌, ℕ, map, min, length, IfOk, IfErr};
+ghost use Rattle.std.specs.Prelude.{◌≡◌, ◌≤◌, ◌+◌, ◌-◌, ◌∷◌, ℕ, map, min, length, IfOk, IfErr};
 ghost use Rattle.gql_plain.specs.Counted.{next_count};
 ghost use Rattle.relay_io.specs.Causes.{Rose};
 ghost use Rattle.relay_io.specs.Files.{GivesFile};
 ghost use Rattle.relay_run.specs.Answers.{IsTheProjectOf};
-ghost use Rattle.relay_run.specs.Files.{max_all, max_file, name_of};
-ghost use Rattle.relay_run.specs.Reads.{GivesFiles, IsClosedBy, AreClosedBy, IsFileClosedBy};
+ghost use Rattle.relay_run.specs.Files.{max_all, max_file, name_under};
+ghost use Rattle.relay_run.specs.FormProjects as projects;
+ghost use Rattle.relay_run.specs.Reads.{AreRead, AreUnreadBy, GivesFiles, IsClosedBy, AreClosedBy, IsFileClosedBy};
 ghost use Rattle.relay_run.specs.Shown.{project_shown};
 ghost use Rattle.relay_run.specs.Words.{max_documents, run};
 
@@ -35,7 +36,7 @@ pub enum Closed<'a> {
     NoMemory,
 }
 
-/// The project of the schema and the documents of these names, which are read in this order.
+/// The project of the files of these names that a script is run against.
 pub fn open_project<'a, V: Vault>(
     alloc: Global,
     vault: &mut V,
@@ -45,17 +46,13 @@ pub fn open_project<'a, V: Vault>(
     requires least { 1 ≤ length documents.now }
     requires most { length documents.now ≤ max_documents }
     ensures same { V.files vault.new ≡ V.files vault.old }
-    ensures project { IfOk result (λ p. (buffer : ℕ) → IsTheProjectOf (V.files vault.old) (run buffer schema.now (map (λ w. w.now) documents.now)) (project_shown p)) }
+    ensures project { IfOk result (λ p. (buffer : ℕ) → IsTheProjectOf (V.files vault.old) (run buffer schema.now (map (λ w. w.now) documents.now)) (projects.plain (project_shown p))) }
     ensures closed { IfErr result (λ closed. (buffer : ℕ) → IsClosedBy (V.files vault.old) (run buffer schema.now (map (λ w. w.now) documents.now)) closed
         (Rose (V.faults vault.old) (V.faults vault.new))) }
     ensures later { V.faults vault.old ≤ V.faults vault.new }
     ensures calls { V.calls vault.new ≤ V.calls vault.old + (length documents.now + 1) }
 {
-    let first = match read_file(alloc, vault, schema, MAX_ALL) {
-        Ok(file) => file,
-        Err(closed) => return Err(closed),
-    };
-    let files = match read_documents(alloc, vault, first, documents) {
+    let files = match read_files(alloc, vault, schema, documents) {
         Ok(files) => files,
         Err(closed) => return Err(closed),
     };
@@ -64,6 +61,30 @@ pub fn open_project<'a, V: Vault>(
         Err(ProjectRefusal::Fault(fault)) => Err(Closed::Fault(fault)),
         Err(ProjectRefusal::NotTaken(file)) => Err(Closed::NotTaken(file)),
         Err(ProjectRefusal::NoMemory) => Err(Closed::NoMemory),
+    }
+}
+
+/// The schema and the documents of these names, which are read in this order.
+pub fn read_files<'a, V: Vault>(
+    alloc: Global,
+    vault: &mut V,
+    schema: &'a str,
+    documents: &[&'a str],
+) -> Result<Vec<ProjectFile>, Closed<'a>>
+    ensures same { V.files vault.new ≡ V.files vault.old }
+    ensures files { IfOk result (λ files. AreRead (V.files vault.old) (schema.now ∷ map (λ w. w.now) documents.now) files.items) }
+    ensures closed { IfErr result (λ closed. AreUnreadBy (V.files vault.old) (schema.now ∷ map (λ w. w.now) documents.now) closed
+        (Rose (V.faults vault.old) (V.faults vault.new))) }
+    ensures later { V.faults vault.old ≤ V.faults vault.new }
+    ensures calls { V.calls vault.new ≤ V.calls vault.old + (length documents.now + 1) }
+{
+    let first = match read_file(alloc, vault, schema, MAX_ALL) {
+        Ok(file) => file,
+        Err(closed) => return Err(closed),
+    };
+    match read_documents(alloc, vault, first, documents) {
+        Ok(files) => Ok(files),
+        Err(closed) => Err(closed),
     }
 }
 
@@ -129,7 +150,7 @@ fn read_file<'a, V: Vault>(
 /// The name of a file by its number: the schema is 0, documents are numbered from 1. The empty text
 /// where there is none; takes no memory.
 pub fn name_at<'a>(schema: &'a str, documents: &[&'a str], file: u32) -> &'a str
-    ensures { (buffer : ℕ) → result.now ≡ name_of (run buffer schema.now (map (λ w. w.now) documents.now)) file }
+    ensures { result.now ≡ name_under (schema.now ∷ map (λ w. w.now) documents.now) file }
 {
     if file == 0 {
         return schema;

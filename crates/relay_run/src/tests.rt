@@ -15,17 +15,22 @@ fn answer_of(alloc: Global, words: &[&str]) -> Result<Status, Fail> {
     Ok(relay_top(alloc, words, &mut vault, &mut script, &mut out, &mut steps))
 }
 
-// The words of a project of so many documents.
-fn words_of(alloc: Global, documents: usize) -> Result<Vec<&'static str>, Fail> {
-    let mut words = Vec::new(alloc);
-    words.push("run")?;
-    words.push("10")?;
-    words.push("s")?;
+// The words of a project of so many documents, after these.
+fn words_of(
+    alloc: Global,
+    front: &[&'static str],
+    documents: usize,
+) -> Result<Vec<&'static str>, Fail> {
+    let mut words = front.to_vec(alloc)?;
     for _ in 0..documents {
         words.push("d")?;
     }
     Ok(words)
 }
+
+const RUN: [&str; 3] = ["run", "10", "s"];
+
+const COMPILE: [&str; 2] = ["compile", "s"];
 
 #[test]
 fn words_are_a_form_or_usage(rt: HostRuntime) -> Result<(), Fail> {
@@ -38,10 +43,13 @@ fn words_are_a_form_or_usage(rt: HostRuntime) -> Result<(), Fail> {
         Status::ReadFault
     );
     assert_eq!(rt;
-        answer_of(alloc, &words_of(alloc, 1_000)?)?,
+        answer_of(alloc, &words_of(alloc, &RUN, 1_000)?)?,
         Status::ReadFault
     );
-    assert_eq!(rt; answer_of(alloc, &words_of(alloc, 1_001)?)?, Status::Usage);
+    assert_eq!(rt;
+        answer_of(alloc, &words_of(alloc, &RUN, 1_001)?)?,
+        Status::Usage
+    );
     for buffer in [
         "",
         "0",
@@ -63,6 +71,25 @@ fn words_are_a_form_or_usage(rt: HostRuntime) -> Result<(), Fail> {
             answer_of(alloc, &["run", buffer, "s", "d"])?,
             Status::ReadFault,
             "at {buffer}"
+        );
+    }
+    Ok(())
+}
+
+#[test]
+fn words_compile_one_to_a_thousand_documents(rt: HostRuntime) -> Result<(), Fail> {
+    let alloc = rt.alloc();
+    assert_eq!(rt; answer_of(alloc, &["compile"])?, Status::Usage);
+    for (documents, status) in [
+        (0, Status::Usage),
+        (1, Status::ReadFault),
+        (1_000, Status::ReadFault),
+        (1_001, Status::Usage),
+    ] {
+        assert_eq!(rt;
+            answer_of(alloc, &words_of(alloc, &COMPILE, documents)?)?,
+            status,
+            "at {documents}"
         );
     }
     Ok(())
@@ -437,5 +464,127 @@ fn bytes_that_are_no_text_are_refused(rt: HostRuntime) -> Result<(), Fail> {
     let (status, text) = run_of(alloc, &ONE, vault, SCRIPT, 60, Vec::new(alloc))?;
     assert_eq!(rt; status, Status::ProjectRefused);
     assert_eq!(rt; text.as_slice(), refusal_of(alloc, "L7", "1")?.as_bytes());
+    Ok(())
+}
+
+const CONNECTIONS: &str = "interface Node{id:ID!}
+    type Query{me:User node(id:ID!):Node team(size:Int):[User]}
+    type Mutation{rename(name:String!):User}
+    type User implements Node{id:ID! name:String age:Int friend:User address:Address tags:[Tag]
+      friends(first:Int,after:String,last:Int,before:String):UserConnection}
+    type Address{city:String} type Tag{text:String}
+    type UserConnection{edges:[UserEdge] pageInfo:PageInfo!} type UserEdge{cursor:String node:User}
+    type PageInfo{hasNextPage:Boolean! hasPreviousPage:Boolean! startCursor:String endCursor:String}";
+
+const TWO_LINES: &str = "query F{me{...P}} fragment P on User{name}";
+
+const FIRST_LINE: &str =
+    "{\"kind\":\"query\",\"name\":\"F\",\"text\":\"query F{me{...on User{name} id}}\"}\n";
+
+// What compiling a document is answered, to a sink of which these calls fail; and what the sink then
+// holds.
+fn compile_of(alloc: Global, document: &str, failing: Vec<u64>) -> Result<(Status, Vec<u8>), Fail> {
+    let vault = vault_of(alloc, CONNECTIONS, document.as_bytes(), "")?;
+    let words = ["compile", "s.graphql", "d.graphql"];
+    run_of(alloc, &words, vault, SCRIPT, 60, failing)
+}
+
+#[test]
+fn operations_and_fragments_are_compiled(rt: HostRuntime) -> Result<(), Fail> {
+    let alloc = rt.alloc();
+    let rows = [
+        (
+            QUERY,
+            "{\"kind\":\"query\",\"name\":\"Q\",\"text\":\"query Q{me{name id}}\"}\n",
+        ),
+        (
+            TWO_LINES,
+            "{\"kind\":\"query\",\"name\":\"F\",\"text\":\"query F{me{...on User{name} id}}\"}\n\
+             {\"kind\":\"fragment\",\"name\":\"P\",\"type\":\"User\"}\n",
+        ),
+        (
+            "query S($size:Int){...R@arguments(size:3) u:team(size:$size){name}} query S2{...R} \
+             fragment R on Query@argumentDefinitions(size:{type:\"Int\",defaultValue:2}){t:team(size:$size){name}}",
+            "{\"kind\":\"query\",\"name\":\"S\",\"text\":\"query S($size:Int){...on Query{t:team(size:3){name id}} u:team(size:$size){name id}}\"}\n\
+             {\"kind\":\"query\",\"name\":\"S2\",\"text\":\"query S2{...on Query{t:team(size:2){name id}}}\"}\n\
+             {\"kind\":\"fragment\",\"name\":\"R\",\"type\":\"Query\"}\n",
+        ),
+        (
+            "query X($v:Boolean!){me{name@include(if:$v)}}",
+            "{\"kind\":\"query\",\"name\":\"X\",\"text\":\"query X($v:Boolean!){me{name@include(if:$v) id}}\"}\n",
+        ),
+        (
+            "query K($after:String){me{friends(first:2,after:$after)@connection(key:\"K_friends\"){edges{node{name}}}}}",
+            "{\"kind\":\"query\",\"name\":\"K\",\"text\":\"query K($after:String){me{friends(after:$after,first:2){edges{node{name id}} \
+             edges{cursor node{id}} pageInfo{endCursor hasNextPage hasPreviousPage startCursor}} id}}\"}\n",
+        ),
+    ];
+    for (document, lines) in rows {
+        let (status, held) = compile_of(alloc, document, Vec::new(alloc))?;
+        assert_eq!(rt; status, Status::Done, "at {document}");
+        assert_eq!(rt; held.as_slice(), lines.as_bytes(), "at {document}");
+    }
+    Ok(())
+}
+
+#[test]
+fn documents_are_not_compiled_by_their_first_fault(rt: HostRuntime) -> Result<(), Fail> {
+    let alloc = rt.alloc();
+    for (document, rule, column) in [
+        ("query Y{me{x:name x:age}}", "V24", "19"),
+        ("query Y{me{x:name x:age ...P}}", "V4", "28"),
+    ] {
+        let (status, held) = compile_of(alloc, document, Vec::new(alloc))?;
+        assert_eq!(rt; status, Status::ProjectRefused, "at {document}");
+        let line = refusal_of(alloc, rule, column)?;
+        assert_eq!(rt; held.as_slice(), line.as_bytes(), "at {document}");
+    }
+    Ok(())
+}
+
+#[test]
+fn a_sink_that_fails_holds_the_artifact_lines_before(rt: HostRuntime) -> Result<(), Fail> {
+    let alloc = rt.alloc();
+    let (status, held) = compile_of(alloc, TWO_LINES, one(alloc, 2)?)?;
+    assert_eq!(rt; status, Status::WriteFault);
+    assert_eq!(rt; held.as_slice(), FIRST_LINE.as_bytes());
+    Ok(())
+}
+
+// A query of so many fields, each under an alias of its own.
+fn query_of(alloc: Global, fields: u64) -> Result<String, Fail> {
+    let mut text = String::from_str(alloc, "query B{")?;
+    for n in 1..=fields {
+        if n > 1 {
+            text.push(' ')?;
+        }
+        text.push_str(format!(in alloc; "a{n}:__typename")?.as_str())?;
+    }
+    text.push('}')?;
+    Ok(text)
+}
+
+#[test]
+fn a_query_of_more_than_100_000_nodes_is_refused(rt: HostRuntime) -> Result<(), Fail> {
+    let alloc = rt.alloc();
+    let (status, held) = compile_of(alloc, query_of(alloc, 100_001)?.as_str(), Vec::new(alloc))?;
+    assert_eq!(rt; status, Status::ProjectRefused);
+    assert_eq!(rt; held.as_slice(), refusal_of(alloc, "E1", "7")?.as_bytes());
+    Ok(())
+}
+
+#[test]
+fn a_query_of_100_000_nodes_is_compiled(rt: HostRuntime) -> Result<(), Fail> {
+    let alloc = rt.alloc();
+    let query = query_of(alloc, 100_000)?;
+    let mut vault = vault_of(alloc, CONNECTIONS, query.as_bytes(), "")?;
+    let mut source = MemSource::new(Vec::new(alloc), 1, Vec::new(alloc));
+    let mut out = MemSink::new(alloc, 1 << 22, 65_536, Vec::new(alloc))?;
+    let mut steps = Counts::new();
+    let words = ["compile", "s.graphql", "d.graphql"];
+    let status = relay_top(alloc, &words, &mut vault, &mut source, &mut out, &mut steps);
+    assert_eq!(rt; status, Status::Done);
+    let line = format!(in alloc; "{{\"kind\":\"query\",\"name\":\"B\",\"text\":\"{query}\"}}\n")?;
+    assert_eq!(rt; out.contents(), line.as_bytes());
     Ok(())
 }

@@ -1,18 +1,20 @@
 //! The top call: from the words, the files and the script to what is written.
-ghost use Rattle.std.specs.Prelude.{◌≡◌, ◌⊎◌, ◌↔◌, ℕ, ◌+◌, ◌≤◌, List, length, map, take, Bool, true, None, Some, IsTrue};
+ghost use Rattle.std.specs.Prelude.{◌≡◌, ◌⊎◌, ◌↔◌, ℕ, ◌+◌, ◌≤◌, ◌∷◌, List, length, map, take, Bool, true, Option, None, Some, IsTrue};
 ghost use Rattle.relay_io.specs.Causes.{Rose};
 ghost use Rattle.relay_io.specs.Streams.{append, prepend};
-ghost use Rattle.relay_model.specs.Machine as machine;
 ghost use Rattle.relay_model.specs.Printed.{project_fault};
-ghost use Rattle.relay_run.specs.Answers.{Course, IsCourse, IsTheProjectOf, IsTheFaultOf, Took, Ran, Answering, EndsLine, accepted, due, refuses, left_over, IsReadWhole, IsScriptFor};
+ghost use Rattle.relay_run.specs.Answers.{Course, IsCourse, IsTheProjectOf, IsTheFaultOf, IsCall, Took, Ran, Answering, EndsLine, accepted, due, refuses, left_over, IsReadWhole, IsScriptFor};
 ghost use Rattle.relay_run.specs.Files.{Files, contents_of, IsProject, IsFault, IsFirstAbsent};
+ghost use Rattle.relay_run.specs.FormProjects as projects;
 ghost use Rattle.relay_run.specs.FormShown.{form_shown};
 ghost use Rattle.relay_run.specs.Output.{max_script, AddsPartOf};
+ghost use Rattle.relay_run.specs.Reads.{IsClosedBy};
 ghost use Rattle.relay_run.specs.Shown.{project_shown};
 ghost use Rattle.relay_run.specs.Statuses.{IsDone};
 ghost use Rattle.relay_run.specs.Words as forms;
 ghost use Rattle.relay_run.specs.Words.{form_of, file_names, max_documents, IsWithin};
 
+use crate::compiling::{compile_project, put_artifacts};
 use crate::files::{Closed, name_at, open_project};
 use crate::interim::project::Project;
 use crate::lines::answer_lines;
@@ -39,22 +41,23 @@ pub fn relay_top<V: Vault, S: Source, K: Sink>(
     ensures untouched { result ≡ Status.Usage
         → (V.calls vault.new ≡ V.calls vault.old) × (S.calls script.new ≡ S.calls script.old) × (K.calls out.new ≡ K.calls out.old)
         × (S.left script.new ≡ S.left script.old) × (K.contents out.new ≡ K.contents out.old) }
-    // What is written is what is due of the form: for `run` what the machine writes, line by line.
-    ensures done { (files : Files) (form : forms.Form) (project : machine.Project) (bytes : List ℕ)
+    // What is written is what is due of the form: for `run` what the machine writes, line by line, for
+    // `compile` the artifact lines.
+    ensures done { (files : Files) (form : forms.Form) (project : projects.Project) (bytes : List ℕ)
         → form_of (map (λ w. w.now) words.now) ≡ Some form
-        → V.files vault.old ≡ Some files → IsProject (contents_of form files) project
+        → V.files vault.old ≡ Some files → IsProject form (contents_of form files) project
         → S.left script.old ≡ Some bytes → IsDone result
         → (S.left script.new ≡ Some (left_over form bytes)) × (K.contents out.new ≡ append (K.contents out.old) (due form (accepted project) bytes true))
         × ((result ≡ Status.DoneWithRefusals) ↔ IsTrue (refuses form (accepted project) bytes)) }
     ensures whole { (form : forms.Form) → form_of (map (λ w. w.now) words.now) ≡ Some form → IsDone result
-        → (project : machine.Project) × IsTheProjectOf (V.files vault.old) form project
+        → (project : projects.Project) × IsTheProjectOf (V.files vault.old) form project
         × (taken : List ℕ) × (S.left script.old ≡ prepend taken (S.left script.new)) × IsReadWhole form taken (S.left script.new)
         × (K.contents out.new ≡ append (K.contents out.old) (due form (accepted project) taken true))
         × ((result ≡ Status.DoneWithRefusals) ↔ IsTrue (refuses form (accepted project) taken)) }
     // Where nothing fails and memory is had, all is written.
-    ensures complete { (files : Files) (form : forms.Form) (project : machine.Project) (bytes : List ℕ)
+    ensures complete { (files : Files) (form : forms.Form) (project : projects.Project) (bytes : List ℕ)
         → form_of (map (λ w. w.now) words.now) ≡ Some form
-        → V.files vault.old ≡ Some files → IsProject (contents_of form files) project
+        → V.files vault.old ≡ Some files → IsProject form (contents_of form files) project
         → S.left script.old ≡ Some bytes → IsScriptFor form bytes
         → ¬ Rose (V.faults vault.old) (V.faults vault.new) → ¬ Rose (S.faults script.old) (S.faults script.new) → ¬ Rose (K.faults out.old) (K.faults out.new)
         → (result ≡ Status.NoMemory)
@@ -63,7 +66,7 @@ pub fn relay_top<V: Vault, S: Source, K: Sink>(
     // project's fault, or by the first 2^30 bytes that the script gave. A script that is too long gave a byte more.
     ensures part { (form : forms.Form) → form_of (map (λ w. w.now) words.now) ≡ Some form
         → (course : Course) × IsCourse (V.files vault.old) form course
-        × (taken : List ℕ) × (ended : Bool) × Took course result (S.left script.old) (S.left script.new) taken ended
+        × (taken : List ℕ) × (ended : Bool) × Took form course result (S.left script.old) (S.left script.new) taken ended
         × AddsPartOf (K.contents out.old) (K.contents out.new) (due form course (take max_script taken) ended) }
     ensures ends { (result ≡ Status.WriteFault) ⊎ ((added : List ℕ) × (K.contents out.new ≡ append (K.contents out.old) added) × EndsLine added) }
     // What is outside is called so often, and files stay as they are.
@@ -73,6 +76,9 @@ pub fn relay_top<V: Vault, S: Source, K: Sink>(
     ensures sink_calls { (added : List ℕ) × (K.contents out.new ≡ append (K.contents out.old) added) × (K.calls out.new ≤ K.calls out.old + length added + 1) }
     // The script is not read of a project that is refused.
     ensures unread { result ≡ Status.ProjectRefused → (S.left script.new ≡ S.left script.old) × (S.calls script.new ≡ S.calls script.old) }
+    // To compile, the script is never called.
+    ensures compile_unread { (schema : List ℕ) (documents : List (List ℕ)) → form_of (map (λ w. w.now) words.now) ≡ Some (forms.compile schema documents)
+        → (S.left script.new ≡ S.left script.old) × (S.calls script.new ≡ S.calls script.old) }
     // Where a file could not be read, nothing is read of the script and nothing is written.
     ensures unopened { result ≡ Status.ReadFault → ¬ Rose (S.faults script.old) (S.faults script.new)
         → (S.left script.new ≡ S.left script.old) × (S.calls script.new ≡ S.calls script.old)
@@ -107,16 +113,21 @@ fn answer_form<V: Vault, S: Source, K: Sink>(
     out: &mut K,
 ) -> Status
     requires { IsWithin (form_shown form) }
-    ensures ran { (course : Course) × IsCourse (V.files vault.old) (form_shown form.entry) course
-        × Answering course result (Rose (V.faults vault.old) (V.faults vault.new) ⊎ IsFirstAbsent (V.files vault.old) (form_shown form.entry))
-        (Rose (S.faults script.old) (S.faults script.new)) (Rose (K.faults out.old) (K.faults out.new))
-        × Ran (form_shown form.entry) course result (S.left script.old) (S.left script.new) (S.calls script.old) (S.calls script.new)
+    ensures ran { IsCall (V.files vault.old) (form_shown form.entry) result
+        (Rose (V.faults vault.old) (V.faults vault.new)) (Rose (S.faults script.old) (S.faults script.new)) (Rose (K.faults out.old) (K.faults out.new))
+        (S.left script.old) (S.left script.new) (S.calls script.old) (S.calls script.new)
         (K.contents out.old) (K.contents out.new) (K.calls out.old) (K.calls out.new) }
     ensures files { V.files vault.new ≡ V.files vault.old }
     ensures vault_calls { V.calls vault.new ≤ V.calls vault.old + length (file_names (form_shown form.entry)) }
 {
-    let (buffer, schema, documents) = form.parts();
-    run(alloc, buffer, schema, documents, vault, script, out)
+    match form {
+        Form::Run {
+            buffer,
+            schema,
+            documents,
+        } => run(alloc, buffer, schema, documents, vault, script, out),
+        Form::Compile { schema, documents } => compile(alloc, schema, documents, vault, out),
+    }
 }
 
 /// Runs the script against the project of these files, and keeps at most so many released operations.
@@ -131,27 +142,64 @@ fn run<V: Vault, S: Source, K: Sink>(
 ) -> Status
     requires least { 1 ≤ length documents.now }
     requires most { length documents.now ≤ max_documents }
-    ensures ran { (course : Course) × IsCourse (V.files vault.old) (forms.run buffer schema.now (map (λ w. w.now) documents.now)) course
-        × Answering course result (Rose (V.faults vault.old) (V.faults vault.new) ⊎ IsFirstAbsent (V.files vault.old) (forms.run buffer schema.now (map (λ w. w.now) documents.now)))
-        (Rose (S.faults script.old) (S.faults script.new)) (Rose (K.faults out.old) (K.faults out.new))
-        × Ran (forms.run buffer schema.now (map (λ w. w.now) documents.now)) course result (S.left script.old) (S.left script.new) (S.calls script.old) (S.calls script.new)
+    ensures ran { IsCall (V.files vault.old) (forms.run buffer schema.now (map (λ w. w.now) documents.now)) result
+        (Rose (V.faults vault.old) (V.faults vault.new)) (Rose (S.faults script.old) (S.faults script.new)) (Rose (K.faults out.old) (K.faults out.new))
+        (S.left script.old) (S.left script.new) (S.calls script.old) (S.calls script.new)
         (K.contents out.old) (K.contents out.new) (K.calls out.old) (K.calls out.new) }
     ensures files { V.files vault.new ≡ V.files vault.old }
     ensures vault_calls { V.calls vault.new ≤ V.calls vault.old + (length documents.now + 1) }
 {
     match open_project(alloc, vault, schema, documents) {
         Ok(project) => run_project(alloc, project, buffer, script, out),
-        Err(Closed::TooLong(name)) => refuse(alloc, name, 1, 1, "F1", out),
-        Err(Closed::Fault(fault)) => {
+        Err(closed) => answer_closed(alloc, schema, documents, closed, out),
+    }
+}
+
+/// Writes the artifact lines of the project of these files.
+fn compile<V: Vault, K: Sink>(
+    alloc: Global,
+    schema: &str,
+    documents: &[&str],
+    vault: &mut V,
+    out: &mut K,
+) -> Status
+    requires least { 1 ≤ length documents.now }
+    requires most { length documents.now ≤ max_documents }
+    ensures ran { (left : Option (List ℕ)) (reads misses misses_now : ℕ) → IsCall (V.files vault.old) (forms.compile schema.now (map (λ w. w.now) documents.now)) result
+        (Rose (V.faults vault.old) (V.faults vault.new)) (Rose misses misses_now) (Rose (K.faults out.old) (K.faults out.new))
+        left left reads reads (K.contents out.old) (K.contents out.new) (K.calls out.old) (K.calls out.new) }
+    ensures files { V.files vault.new ≡ V.files vault.old }
+    ensures vault_calls { V.calls vault.new ≤ V.calls vault.old + (length documents.now + 1) }
+{
+    match compile_project(alloc, vault, schema, documents) {
+        Ok(project) => put_artifacts(alloc, &project, out),
+        Err(closed) => answer_closed(alloc, schema, documents, closed, out),
+    }
+}
+
+/// Answers that there is no project of these files.
+fn answer_closed<K: Sink>(
+    alloc: Global,
+    schema: &str,
+    documents: &[&str],
+    closed: Closed<'_>,
+    out: &mut K,
+) -> Status
+    ensures { (files : Option Files) (form : forms.Form) (faults faults_now misses misses_now : ℕ) (left : Option (List ℕ)) (reads : ℕ)
+        → file_names form ≡ schema.now ∷ map (λ w. w.now) documents.now → IsClosedBy files form closed.entry (Rose faults faults_now)
+        → IsCall files form result (Rose faults faults_now) (Rose misses misses_now) (Rose (K.faults out.old) (K.faults out.new))
+        left left reads reads (K.contents out.old) (K.contents out.new) (K.calls out.old) (K.calls out.new) }
+{
+    match closed {
+        Closed::TooLong(name) => refuse(alloc, name, 1, 1, "F1", out),
+        Closed::Fault(fault) => {
             let name = name_at(schema, documents, fault.file);
             let rule = rule_text(fault.rule);
             refuse(alloc, name, fault.line, fault.column, rule, out)
         }
-        Err(Closed::NotTaken(file)) => {
-            refuse(alloc, name_at(schema, documents, file), 1, 1, "N1", out)
-        }
-        Err(Closed::Unread) => Status::ReadFault,
-        Err(Closed::NoMemory) => Status::NoMemory,
+        Closed::NotTaken(file) => refuse(alloc, name_at(schema, documents, file), 1, 1, "N1", out),
+        Closed::Unread => Status::ReadFault,
+        Closed::NoMemory => Status::NoMemory,
     }
 }
 
@@ -163,9 +211,10 @@ fn run_project<S: Source, K: Sink>(
     script: &mut S,
     out: &mut K,
 ) -> Status
-    ensures answering { Answering (accepted (project_shown project)) result ⊥ (Rose (S.faults script.old) (S.faults script.new)) (Rose (K.faults out.old) (K.faults out.new)) }
+    ensures answering { (schema : List ℕ) (documents : List (List ℕ)) → Answering (forms.run buffer schema documents) (accepted (projects.plain (project_shown project))) result ⊥
+        (Rose (S.faults script.old) (S.faults script.new)) (Rose (K.faults out.old) (K.faults out.new)) }
     ensures ran { (schema : List ℕ) (documents : List (List ℕ))
-        → Ran (forms.run buffer schema documents) (accepted (project_shown project)) result (S.left script.old) (S.left script.new) (S.calls script.old) (S.calls script.new)
+        → Ran (forms.run buffer schema documents) (accepted (projects.plain (project_shown project))) result (S.left script.old) (S.left script.new) (S.calls script.old) (S.calls script.new)
         (K.contents out.old) (K.contents out.new) (K.calls out.old) (K.calls out.new) }
 {
     match read_script(alloc, script) {

@@ -1,7 +1,7 @@
 //! The words of the program.
 ghost use Rattle.std.specs.Prelude.{◌≡◌, true, map, option_map, IfSome};
 ghost use Rattle.relay_run.specs.FormShown.{form_shown};
-ghost use Rattle.relay_run.specs.Words.{form_of, is_buffer, are_documents, decimal, IsWithin, run};
+ghost use Rattle.relay_run.specs.Words.{form_of, run_form, compile_form, is_buffer, are_documents, decimal, IsWithin};
 
 /// The most documents of a project.
 const MAX_DOCUMENTS: usize = 1_000;
@@ -16,39 +16,52 @@ pub enum Form<'a, 'b> {
         schema: &'a str,
         documents: &'b [&'a str],
     },
+    /// Writes the artifact lines of the project of these files.
+    Compile {
+        schema: &'a str,
+        documents: &'b [&'a str],
+    },
 }
 
-impl<'a, 'b> Form<'a, 'b> {
-    /// The number of released operations that are kept, the name of the schema's file, and those of
-    /// the documents' files; takes no memory.
-    pub fn parts(self) -> (u64, &'a str, &'b [&'a str])
-        ensures { form_shown self.entry ≡ run result.0 result.1.now (map (λ w. w.now) result.2.now) }
-    {
-        match self {
-            Form::Run {
-                buffer,
-                schema,
-                documents,
-            } => (buffer, schema, documents),
-        }
-    }
-}
-
-/// What the words ask for: `run B SCHEMA DOC..`, with a B of 1 to 100 and 1 to 1,000 documents.
-/// None where they are no form; takes no memory.
+/// What the words ask for: `run B SCHEMA DOC..`, with a B of 1 to 100, or `compile SCHEMA DOC..`, each
+/// with 1 to 1,000 documents. None where they are no form; takes no memory.
 pub fn form_of<'a, 'b>(words: &'b [&'a str]) -> Option<Form<'a, 'b>>
     ensures asked { option_map form_shown result ≡ form_of (map (λ w. w.now) words.now) }
     ensures within { IfSome result (λ f. IsWithin (form_shown f)) }
 {
     match words {
-        [first, word, schema, documents @ ..]
-            if *first == "run" && is_buffer(word) && are_documents(documents) => {
+        [first, words @ ..] if *first == "run" => run_form(words),
+        [first, words @ ..] if *first == "compile" => compile_form(words),
+        _ => None,
+    }
+}
+
+/// What the words after `run` ask for.
+fn run_form<'a, 'b>(words: &'b [&'a str]) -> Option<Form<'a, 'b>>
+    ensures asked { option_map form_shown result ≡ run_form (map (λ w. w.now) words.now) }
+    ensures within { IfSome result (λ f. IsWithin (form_shown f)) }
+{
+    match words {
+        [word, schema, documents @ ..] if is_buffer(word) && are_documents(documents) => {
             let buffer = number(word);
             Some(Form::Run {
                 buffer,
                 schema,
                 documents,
             })
+        }
+        _ => None,
+    }
+}
+
+/// What the words after `compile` ask for.
+fn compile_form<'a, 'b>(words: &'b [&'a str]) -> Option<Form<'a, 'b>>
+    ensures asked { option_map form_shown result ≡ compile_form (map (λ w. w.now) words.now) }
+    ensures within { IfSome result (λ f. IsWithin (form_shown f)) }
+{
+    match words {
+        [schema, documents @ ..] if are_documents(documents) => {
+            Some(Form::Compile { schema, documents })
         }
         _ => None,
     }

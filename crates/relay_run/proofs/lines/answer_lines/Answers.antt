@@ -1,12 +1,12 @@
-use Rattle.std.proofs.Common.{◌≡◌, ◌+◌, ◌++◌, ◌||◌, true, [], length, refl, sym, ap, inl, inr, ◌∙◌, arith, take, length-append, length-take, Option}
+use Rattle.std.proofs.Common.{◌≡◌, ◌+◌, ◌++◌, ◌||◌, true, [], length, refl, sym, ap, inl, inr, ◌∙◌, arith, take, length-append, length-take}
 use Rattle.std.proofs.lemmas.Bool.{true≢false, eqb-true}
 use Rattle.relay_io.specs.Streams.{append}
-use Rattle.relay_io.proofs.Streaming.{append-none, append-append}
+use Rattle.relay_io.proofs.Streaming.{append-none}
 use Rattle.gql_plain.specs.Limits.{max_line}
-use Rattle.relay_model.specs.Keys.{Text}
 use Rattle.relay_model.specs.Machine.{beginning, step, refused_from}
 use Rattle.relay_model.specs.Script.{lines_of, cut}
 use Rattle.relay_run.specs.Shown.{project_shown}
+use Rattle.relay_run.proofs.Pieces.{added_more}
 use Rattle.relay_run.proofs.Written.{written_next, refused_next, part_then, no_lines, written_all, refused_all, step_ends, both_end}
 use Rattle.relay_run.proofs.lines.answer_lines.Goals as goal
 
@@ -16,9 +16,6 @@ lines-init g c = record {
   numbered = omega arith;
   later = omega arith;
 }
-
-added_more : (h0 h1 h2 : Option Text) (added more : Text) → h1 ≡ append h0 added → h2 ≡ append h1 more → h2 ≡ append h0 (added ++ more)
-added_more h0 h1 h2 added more first next = next ∙ ap (λ h. append h more) first ∙ append-append h0 added more
 
 pub returns-in-Err-WriteFault-clause-added : goal.returns-in-Err-WriteFault-clause-added
 returns-in-Err-WriteFault-clause-added g c =

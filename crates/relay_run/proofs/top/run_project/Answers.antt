@@ -5,7 +5,6 @@ use Rattle.relay_run.specs.Answers.{EndsLine, GivesNoScript}
 use Rattle.relay_run.specs.Output.{max_script, output_text, has_refusal}
 use Rattle.relay_run.specs.Statuses.{IsDone}
 use Rattle.relay_run.specs.Shown.{project_shown}
-use Rattle.relay_run.specs.Words as forms
 use Rattle.relay_run.specs.declared.status.Status.TheVariants.{DoneWithRefusals, ReadFault, WriteFault, NoMemory, ScriptTooLong}
 use Rattle.relay_run.proofs.Courses.{ran_unanswered, ran_answered}
 use Rattle.relay_run.proofs.top.run_project.Goals as goal
@@ -28,19 +27,19 @@ pub returns-in-Err-Failed-clause-ran : goal.returns-in-Err-Failed-clause-ran
 returns-in-Err-Failed-clause-ran g c = λ schema documents.
     let w = c.in-Err-Failed.ensures.gives in
     let few : length w.0 ≤ max_script = subst (GivesNoScript w.0) c.in-Err-Failed.field-0-is w.2 in
-    ran_unanswered (forms.run c.args.buffer schema documents) (project_shown c.args.project) ReadFault (g.S.Source.left c.args.script.now) (g.S.Source.left c.read_script.new.script) (g.S.Source.calls c.args.script.now) (g.S.Source.calls c.read_script.new.script)
+    ran_unanswered c.args.buffer schema documents (project_shown c.args.project) ReadFault (g.S.Source.left c.args.script.now) (g.S.Source.left c.read_script.new.script) (g.S.Source.calls c.args.script.now) (g.S.Source.calls c.read_script.new.script)
     (g.K.Sink.contents c.args.out.now) (g.K.Sink.calls c.args.out.now) w.0 w.1 w.3 (omega (arith, few)) (λ e. absurd (omega (arith, e, few))) (λ e. absurd (cc)) (λ h. elim h [ inl d ↦ d | inr e ↦ cc ])
 
 pub returns-in-Err-TooLong-clause-ran : goal.returns-in-Err-TooLong-clause-ran
 returns-in-Err-TooLong-clause-ran g c = λ schema documents.
     let w = c.in-Err-TooLong.ensures.gives in
     let over : length w.0 ≡ max_script + 1 = subst (GivesNoScript w.0) c.in-Err-TooLong.field-0-is w.2 in
-    ran_unanswered (forms.run c.args.buffer schema documents) (project_shown c.args.project) ScriptTooLong (g.S.Source.left c.args.script.now) (g.S.Source.left c.read_script.new.script) (g.S.Source.calls c.args.script.now) (g.S.Source.calls c.read_script.new.script)
+    ran_unanswered c.args.buffer schema documents (project_shown c.args.project) ScriptTooLong (g.S.Source.left c.args.script.now) (g.S.Source.left c.read_script.new.script) (g.S.Source.calls c.args.script.now) (g.S.Source.calls c.read_script.new.script)
     (g.K.Sink.contents c.args.out.now) (g.K.Sink.calls c.args.out.now) w.0 w.1 w.3 (omega (arith, over)) (λ _. inl refl) (λ _. over) (λ h. elim h [ inl d ↦ d | inr e ↦ cc ])
 
 pub returns-clause-ran : goal.returns-clause-ran
 returns-clause-ran g c = λ schema documents.
     let w = c.in-Err-NoMemory.ensures.gives in
     let within : length w.0 ≤ max_script + 1 = subst (GivesNoScript w.0) c.in-Err-NoMemory.field-0-is w.2 in
-    ran_unanswered (forms.run c.args.buffer schema documents) (project_shown c.args.project) NoMemory (g.S.Source.left c.args.script.now) (g.S.Source.left c.read_script.new.script) (g.S.Source.calls c.args.script.now) (g.S.Source.calls c.read_script.new.script)
+    ran_unanswered c.args.buffer schema documents (project_shown c.args.project) NoMemory (g.S.Source.left c.args.script.now) (g.S.Source.left c.read_script.new.script) (g.S.Source.calls c.args.script.now) (g.S.Source.calls c.read_script.new.script)
     (g.K.Sink.contents c.args.out.now) (g.K.Sink.calls c.args.out.now) w.0 w.1 w.3 within (λ _. inr (inr refl)) (λ e. absurd (cc)) (λ h. elim h [ inl d ↦ d | inr e ↦ cc ])

@@ -1,0 +1,35 @@
+use Rattle.std.proofs.Common.{◌∷◌, map, length, List, ℕ, Bor, ap, subst, arith}
+use Rattle.plan_project.specs.Verdicts.{HaveTheFault}
+use Rattle.std.proofs.lemmas.List.{length-map}
+use Rattle.relay_io.specs.Causes.{Rose}
+use Rattle.relay_run.proofs.FileLaws.{as_many_files}
+use Rattle.relay_run.proofs.Opening.{closed_unread, project_compiled, fault_compiled}
+use Rattle.relay_run.proofs.compiling.compile_project.Goals as goal
+use Rattle.relay_run.specs.Words as forms
+
+pub returns-in-Err-clause-closed : goal.returns-in-Err-clause-closed
+returns-in-Err-clause-closed g c =
+    closed_unread (forms.compile c.args.schema.now (map (λ (w : Bor (List ℕ)). w.now) c.args.documents.now)) (g.V.Vault.files c.args.vault.now) c.in-Err.closed
+    (Rose (g.V.Vault.faults c.args.vault.now) (g.V.Vault.faults c.read_files.new.vault)) c.in-Err.ensures.closed
+
+pub returns-in-Ok-compile-clause-project : goal.returns-in-Ok-compile-clause-project
+returns-in-Ok-compile-clause-project g c =
+    project_compiled c.args.schema.now (map (λ (w : Bor (List ℕ)). w.now) c.args.documents.now) (g.V.Vault.files c.args.vault.now) c.deref.result.now c.in-Ok.files.items
+    c.in-Ok-compile.project.0 c.in-Ok-compile.project.1 c.deref.ensures.value c.in-Ok.ensures.files c.in-Ok-compile.ensures.project
+
+pub returns-in-Err-Refused-clause-closed : goal.returns-in-Err-Refused-clause-closed
+returns-in-Err-Refused-clause-closed g c =
+    fault_compiled c.args.schema.now (map (λ (w : Bor (List ℕ)). w.now) c.args.documents.now) (g.V.Vault.files c.args.vault.now) c.deref.result.now c.in-Ok.files.items
+    c.in-Err-Refused.fault c.deref.ensures.value c.in-Ok.ensures.files (subst (HaveTheFault c.deref.result.now) c.in-Err-Refused.field-0-is c.in-Err-Refused.ensures.fault)
+
+pub compile-requires-clause-least : goal.compile-requires-clause-least
+compile-requires-clause-least g c =
+    let names = map (λ (w : Bor (List ℕ)). w.now) c.args.documents.now in
+    let all = as_many_files (g.V.Vault.files c.args.vault.now) (c.args.schema.now ∷ names) c.in-Ok.files.items c.in-Ok.ensures.files in
+    omega (arith, all, length-map c.args.documents.now (λ (w : Bor (List ℕ)). w.now), ap length c.deref.ensures.value, c.requires.least)
+
+pub compile-requires-clause-most : goal.compile-requires-clause-most
+compile-requires-clause-most g c =
+    let names = map (λ (w : Bor (List ℕ)). w.now) c.args.documents.now in
+    let all = as_many_files (g.V.Vault.files c.args.vault.now) (c.args.schema.now ∷ names) c.in-Ok.files.items c.in-Ok.ensures.files in
+    omega (arith, all, length-map c.args.documents.now (λ (w : Bor (List ℕ)). w.now), ap length c.deref.ensures.value, c.requires.most)
