@@ -39,11 +39,13 @@ fn put_value(text: &mut String, value: &ValueTree) -> Result<(), Fail> {
 /// Writes values in written order.
 #[cycle(values)]
 fn put_values(text: &mut String, values: &ValueTrees) -> Result<(), Fail> {
-    let mut between = "";
+    let mut begun = false;
     for value in &values.items {
-        text.push_str(between)?;
+        if begun {
+            text.push_str(",")?;
+        }
         put_value(text, value)?;
-        between = ",";
+        begun = true;
     }
     Ok(())
 }
@@ -51,13 +53,15 @@ fn put_values(text: &mut String, values: &ValueTrees) -> Result<(), Fail> {
 /// Writes names and values in written order.
 #[cycle(values)]
 fn put_pairs(text: &mut String, pairs: &Arguments) -> Result<(), Fail> {
-    let mut between = "";
+    let mut begun = false;
     for pair in &pairs.items {
-        text.push_str(between)?;
+        if begun {
+            text.push_str(",")?;
+        }
         text.push_str(pair.name.as_str())?;
         text.push_str(":")?;
         put_value(text, &pair.value)?;
-        between = ",";
+        begun = true;
     }
     Ok(())
 }
@@ -90,11 +94,13 @@ fn put_set(text: &mut String, nodes: &Nodes) -> Result<(), Fail> {
         return Ok(());
     }
     text.push_str("{")?;
-    let mut between = "";
+    let mut begun = false;
     for node in &nodes.items {
-        text.push_str(between)?;
+        if begun {
+            text.push_str(" ")?;
+        }
         put_node(text, node)?;
-        between = " ";
+        begun = true;
     }
     text.push_str("}")?;
     Ok(())
