@@ -7,6 +7,8 @@ mod arguments;
 #[cfg(test)]
 mod directives;
 #[cfg(test)]
+mod expansion_rows;
+#[cfg(test)]
 mod fields;
 #[cfg(test)]
 mod names;

@@ -11,7 +11,7 @@ use std::process::Abort;
 use std::test::Fail;
 
 /// A schema with types, arguments and directives of each kind.
-const SCHEMA: &str = "interface Node { id: ID! }
+pub(crate) const SCHEMA: &str = "interface Node { id: ID! }
 interface Named { name: String }
 interface Lone { name: String }
 type User implements Node & Named {
