@@ -13,9 +13,9 @@ use std::test::Fail;
 fn fields_that_merge(rt: HostRuntime) -> Result<(), Fail> {
     let rows = "V24 query A { me { x: name ^x: id } }
 V24 query A { me { name ^name: friend { name } } }
-V24 query A { team(size: 1) { size } ^team(size: 2) { size } }
-V24 query A { team(size: 1) { size } ^team { size } }
-V24 query A { x: score ^x: scores }
+V24 query A { team(size: 1) { name } ^team(size: 2) { name } }
+V24 query A { team(size: 1) { name } ^team { name } }
+V24 query A { x: color ^x: any }
 V24 query A { thing { ... on User { x: name } ... on Team { ^x: size } } }
 V24 query A { me { ...F ^name: id } } fragment F on User { name }
 V24 query A { me { name: id ...F } } fragment F on User { ^name }
@@ -25,7 +25,7 @@ V24 query A { me { name } } ; query B { me { x: name ^x: id } } ; query C { me {
 V24 query B { me { ...F } } fragment F on User { y: name ^y: id } query A { me { x: name x: id } }
 V22 query A { me { x: name x: id } } query B { me { name @^connection(key: \"B_name\") } }
 ok query A { thing { ... on User { x: name } ... on Team { x: name } } }
-ok query A { team(size: 1) { size } team(size: 1) { name size } }
+ok query A { team(size: 1) { name } team(size: 1) { id name } }
 ok query A { me { ...F name } } fragment F on User { name friend { name } friend { id } }";
     compare(&rt, rt.alloc(), SCHEMA, rows)?;
     Ok(())
