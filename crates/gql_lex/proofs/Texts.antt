@@ -80,10 +80,10 @@ far_from_hex c h e =
     let k : false ≡ true = rw (a, b, d, f, g, i) at e in
     cc
 
-hex_below : (c : ℕ) → is_hex c ≡ true → c < 128
+pub hex_below : (c : ℕ) → is_hex c ≡ true → c < 128
 hex_below c e = ⊎_elim (λ l. l) (λ h. absurd (far_from_hex c h e)) (cases_lt c 128)
 
-simple_below : (c : ℕ) → is_simple_escape c ≡ true → c < 128
+pub simple_below : (c : ℕ) → is_simple_escape c ≡ true → c < 128
 simple_below c =
     or_below c _ (eqb c 116)
     (or_below c _ (eqb c 114)

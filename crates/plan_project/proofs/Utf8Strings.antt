@@ -7,7 +7,7 @@ use Rattle.std.proofs.lemmas.Str.{IsCharBoundary-after_ascii, IsCharBoundary-bef
 use Rattle.std.specs.Char.{IsScalar}
 use Rattle.std.specs.List.{AllByRecursion, prefix_len, suffix_len}
 use Rattle.gql_lex.proofs.Escapes.{code_below, four_hex}
-use Rattle.gql_lex.proofs.Extents.{or_below, same_below}
+use Rattle.gql_lex.proofs.Texts.{hex_below, simple_below}
 use Rattle.gql_lex.proofs.Margins.{indent_boundary}
 use Rattle.gql_lex.specs.Lexemes.{Part, character, escape, unicode, AreParts, parts_then, BlockPart, letter, quotes, AreBlockParts, block_then}
 use Rattle.gql_lex.specs.Lines.{ends_line, lines, onto_first}
@@ -44,32 +44,6 @@ cut_at front c rest below u =
     )
 
 -- ---- escapes
-
-far_from_hex : (c : ℕ) → 128 ≤ c → is_hex c ≡ true → ⊥
-far_from_hex c h e =
-    let a : ltb c 48 ≡ false = grind (arith, nat_tests) in
-    let b : ltb c 58 ≡ false = grind (arith, nat_tests) in
-    let d : ltb c 65 ≡ false = grind (arith, nat_tests) in
-    let f : ltb c 91 ≡ false = grind (arith, nat_tests) in
-    let g : ltb c 97 ≡ false = grind (arith, nat_tests) in
-    let i : ltb c 123 ≡ false = grind (arith, nat_tests) in
-    let k : false ≡ true = rw (a, b, d, f, g, i) at e in
-    cc
-
-hex_below : (c : ℕ) → is_hex c ≡ true → c < 128
-hex_below c e = elim (cases_lt c 128) [ inl l ↦ l | inr h ↦ absurd (far_from_hex c h e) ]
-
-simple_below : (c : ℕ) → is_simple_escape c ≡ true → c < 128
-simple_below c =
-    or_below c _ (eqb c 116)
-    (or_below c _ (eqb c 114)
-    (or_below c _ (eqb c 110)
-    (or_below c _ (eqb c 102)
-    (or_below c _ (eqb c 98)
-    (or_below c _ (eqb c 47)
-    (or_below c (eqb c 34) (eqb c 92)
-    (same_below c 34 (lit< tt)) (same_below c 92 (lit< tt))) (same_below c 47 (lit< tt))) (same_below c 98 (lit< tt))) (same_below c 102 (lit< tt)))
-    (same_below c 110 (lit< tt))) (same_below c 114 (lit< tt))) (same_below c 116 (lit< tt))
 
 low_scalar : (c : ℕ) → c < 55296 → IsScalar c
 low_scalar c h = grind (arith, nat_tests)

@@ -14,7 +14,7 @@ use Rattle.plan_ir.specs.Nodes.{Nodes, end, field, inline, nodes_append}
 use Rattle.plan_ir.specs.Substitution.{Scope, operation_scope, scope_at_spread, substitute_in}
 use Rattle.plan_text.proofs.AddedFields.{Added, IsBare, all_added, nothing_added, printed-append}
 use Rattle.plan_text.proofs.Evaluating.{Means, arguments-printed, means_inside}
-use Rattle.plan_text.specs.Collecting.{Around, CollectTheSame, Field, Group, Part, SameField, SameGroup, TextCollectsTheSame, applies, arguments_in_environment, collect, collect_inside, collect_part, collect_parts, collect_with, environment_inside, field_of, fragment_selections, group_onto, groups_at, is_left_out, is_true, leaves_out, members, parts, with_additions, with_field}
+use Rattle.plan_text.specs.Collecting.{Around, CollectTheSame, Field, Group, Part, SameField, SameGroup, TextCollectsTheSame, applies, collect, collect_inside, collect_part, collect_parts, collect_with, environment_inside, field_of, fragment_selections, group_onto, groups_at, is_left_out, leaves_out, members, parts, with_additions, with_field}
 use Rattle.plan_text.specs.Printed.{alias_of, printed_arguments, printed_directive, printed_directives, printed_selections}
 use Rattle.schema_tables.specs.Types.{Text, Defs, base_of, root}
 use Rattle.schema_trees.specs.Located.{directives_nodes}

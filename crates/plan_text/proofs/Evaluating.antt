@@ -15,7 +15,7 @@ use Rattle.relay_dirs.specs.Connections.{value_of_name}
 use Rattle.relay_dirs.specs.Locals.{Local, locals_of}
 use Rattle.plan_ir.specs.OperationText.{by_name, with_member}
 use Rattle.plan_ir.specs.Substitution.{Arguments, Scope, arguments_in, default_named, scope_at_spread, substitute, substitute_in, substitute_items, substitute_members, value_of_local, value_or}
-use Rattle.plan_text.specs.Collecting.{arguments_in_environment, environment_inside, local_value, with_locals}
+use Rattle.plan_text.specs.Collecting.{environment_inside, local_value, with_locals}
 use Rattle.plan_text.specs.Printed.{printed_arguments, printed_members, printed_pair, printed_value, printed_values}
 use Rattle.gql_ast.specs.declared.directive.Directive.{Directive}
 use Rattle.gql_graph.specs.Rules.{each}

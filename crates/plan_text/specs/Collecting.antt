@@ -8,7 +8,7 @@ use Rattle.gql_plain.specs.Tree.{Tree}
 use Rattle.gql_graph.specs.Rules.{each}
 use Rattle.gql_ast.specs.Sels as sels
 use Rattle.gql_ast.specs.Sels.{Sels, sels_append}
-use Rattle.gql_ast.specs.Value.{Val, members_of}
+use Rattle.gql_ast.specs.Value.{Val}
 use Rattle.gql_ast.specs.declared.directive.Directive.{Directive}
 use Rattle.gql_ast.specs.declared.place.FilePlace.{FilePlace}
 use Rattle.plan_ir.specs.Additions.{additions, type_or}
@@ -18,7 +18,7 @@ use Rattle.relay_dirs.specs.Locals.{Local, locals_of}
 use Rattle.plan_ir.specs.Substitution.{Arguments, arguments_in}
 use Rattle.plan_text.specs.Printed.{printed_operation, printed_selections}
 use Rattle.schema_tables.specs.Types.{Text, Defs, base_of, possible, root}
-use Rattle.schema_types.specs.Environments.{Values, evaluation, pairs_evaluated, value_in, with_pair}
+use Rattle.schema_types.specs.Environments.{Values, arguments_in_environment, evaluation, is_true, value_in, with_pair}
 use Rattle.schema_types.specs.NameRules.{fragment_named}
 use Rattle.schema_types.specs.Sites.{FragmentAt, OperationAt, below, condition_or, field_type}
 
@@ -55,13 +55,6 @@ abbrev pub environment_inside : (own around : Values) → List Directive → Fra
 environment_inside own around ds f = with_locals own around (each arguments_in ds) (locals_of f.directives)
 
 -- ---- what is left out
-
-abbrev pub arguments_in_environment : Values → Arguments → Values
-arguments_in_environment env xs = pairs_evaluated env (members_of xs)
-
-abbrev pub is_true : Tree → Bool
-is_true (t.truth b) = b
-is_true x = false
 
 abbrev pub condition_holds : Values → Directive → Bool
 condition_holds env d = is_true (value_in (arguments_in_environment env d.arguments) (codes "if"))

@@ -130,6 +130,14 @@ abbrev mutual
   pairs_evaluated env v.no_members = []
   pairs_evaluated env (v.member n x ms) = with_new_pair n (evaluation env x) (pairs_evaluated env ms)
 
+-- the values of arguments, in byte order of their names
+abbrev pub arguments_in_environment : Values → List (Text × Val) → Values
+arguments_in_environment env xs = pairs_evaluated env (v.members_of xs)
+
+abbrev pub is_true : Tree → Bool
+is_true (t.truth b) = b
+is_true x = false
+
 abbrev pub default_value : Option ValueTree → Tree
 default_value None = t.null
 default_value (Some x) = evaluation [] (value_of x)
