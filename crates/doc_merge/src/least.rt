@@ -1,26 +1,26 @@
-//! The least of places in files.
+//! The least of places in files (this project's own).
 ghost use Rattle.std.specs.Prelude.{◌≡◌, [], ◌∷◌, None};
 ghost use Rattle.doc_merge.specs.Places as places;
 ghost use Rattle.doc_merge.specs.Places.{least_from, wrong};
 
 use gql_ast::FilePlace;
 
-/// The least of the places that were noted.
+/// The least of the places that were noted, by file, line and column.
 #[derive(Clone, Copy, Debug)]
-pub(crate) struct Least {
-    pub(crate) at: Option<FilePlace>,
+pub struct Least {
+    pub at: Option<FilePlace>,
 }
 
 impl Least {
     /// No place is noted.
-    pub(crate) fn new() -> Least
+    pub fn new() -> Least
         ensures { result.at ≡ None }
     {
         Least { at: None }
     }
 
     /// Notes a place.
-    pub(crate) fn note(&mut self, at: FilePlace)
+    pub fn note(&mut self, at: FilePlace)
         ensures { self.new.at ≡ least_from self.old.at (at ∷ []) }
     {
         match self.at {

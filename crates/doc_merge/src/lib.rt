@@ -8,7 +8,7 @@ mod check;
 mod fault;
 mod groups;
 pub mod laws;
-mod least;
+pub mod least;
 mod merging;
 mod others;
 mod pattern;

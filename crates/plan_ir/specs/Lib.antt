@@ -15,3 +15,4 @@ pub mod Additions
 pub mod Expansion
 pub mod Sizes
 pub mod OperationText
+pub mod NormalMeaning

@@ -1,6 +1,6 @@
 -- What the operations and the fragments of documents become, and the rules on that: E1 and E2, and then V23 and V24 (this project's own).
 -- They are stated of documents that meet V1 to V22.
-use Rattle.std.specs.Prelude.{◌≡◌, ℕ, false, cond, List, [], ◌∷◌, map, Option, None, Some}
+use Rattle.std.specs.Prelude.{◌≡◌, ℕ, false, cond, List, [], ◌∷◌, map, Option, None, Some, option_map}
 use Rattle.doc_merge.specs.Faults.{field_differences, fault_or, values_unfit}
 use Rattle.doc_merge.specs.Places.{least}
 use Rattle.doc_merge.specs.declared.fault.PlaceFault.{PlaceFault}
@@ -72,6 +72,12 @@ abbrev pub merge_fault : Defs → List (Placed Document) → Option PlaceFault
 merge_fault defs ps =
     fault_or (least (each (λ d. values_unfit_at defs (whole_at defs ps d)) (definitions_in defs ps)))
     (least (each (λ d. differences_at defs (whole_at defs ps d)) (definitions_in defs ps)))
+
+-- ---- texts
+
+-- the text of the operation of a name, where there is one
+abbrev pub text_named : Defs → List (Placed Document) → Text → Option Text
+text_named defs ps n = option_map (λ (w : Whole). operation_text w.expanded) (whole_in defs ps F.Operation n)
 
 -- ---- artifacts: a line for each operation and each fragment, in the order of the files and of their texts
 

@@ -1,11 +1,11 @@
 //! The artifacts of an accepted project: a line for each operation and each fragment (this project's
 //! own).
 ghost use Rattle.std.specs.Prelude.{◌≡◌, [], get_or, length, IfOk};
-ghost use Rattle.plan_project.specs.Expansions.{line_lists, list_of};
+ghost use Rattle.plan_project.specs.Expansions.{line_lists, list_of, text_named};
 
 use crate::project::Project;
 use crate::ready::ReadyProject;
-use gql_plain::{NoMemory, Words};
+use gql_plain::{Name, NoMemory, Words};
 use std::alloc::Global;
 
 /// What stands ready to write the artifacts of a project.
@@ -40,5 +40,13 @@ impl<'p> Artifacts<'p> {
         ensures { IfOk result (λ line. list_of line ≡ get_or (line_lists self.now.project.now.0 self.now.project.now.1) n []) }
     {
         self.ready.line(alloc, n)
+    }
+
+    /// The text of the operation of a name, as it is sent; `None` where the project has no operation
+    /// of that name. Its only error is that memory is lacking.
+    pub fn text(&self, alloc: Global, name: &Name) -> Result<Option<Words>, NoMemory>
+        ensures { IfOk result (λ text. text ≡ text_named self.now.project.now.0 self.now.project.now.1 name.now) }
+    {
+        self.ready.text(alloc, name)
     }
 }

@@ -1,58 +1,14 @@
 //! The least places at which the rules E1, E2, V23 and V24 are not met.
-ghost use Rattle.std.specs.Prelude.{◌≡◌, [], ◌∷◌, Some, None};
-ghost use Rattle.doc_merge.specs.Places as places;
-ghost use Rattle.doc_merge.specs.Places.{least_from};
+ghost use Rattle.std.specs.Prelude.{◌≡◌, Some, None};
 ghost use Rattle.plan_project.specs.Noting as noting;
 ghost use Rattle.plan_project.specs.Noting.{HasNotedFault};
 
 use crate::fault::DocumentsFault;
 use doc_merge::PlaceFault;
+use doc_merge::least::Least as LeastPlace;
 use gql_ast::FilePlace;
 use gql_graph::least::Least;
 use schema_types::{NodeFault, Rule};
-
-/// The least of the places that were noted.
-#[derive(Clone, Copy, Debug)]
-pub(crate) struct LeastPlace {
-    pub(crate) at: Option<FilePlace>,
-}
-
-impl LeastPlace {
-    /// Notes a place.
-    fn note(&mut self, at: FilePlace)
-        ensures { self.new.at ≡ least_from self.old.at (at ∷ []) }
-    {
-        match self.at {
-            Some(least) => {
-                if is_before(at, least) {
-                    self.at = Some(at);
-                }
-            }
-            None => {
-                self.at = Some(at);
-            }
-        }
-    }
-}
-
-/// Whether a place is before another: by file, line and column.
-fn is_before(one: FilePlace, other: FilePlace) -> bool
-    ensures { result ≡ places.is_before one other }
-{
-    if one.file < other.file {
-        return true;
-    }
-    if one.file != other.file {
-        return false;
-    }
-    if one.line < other.line {
-        return true;
-    }
-    if one.line != other.line {
-        return false;
-    }
-    one.column < other.column
-}
 
 /// The least places at which expanded operations and fragments do not meet rules: the nodes of the
 /// names of those that have too many nodes (E1) or nest too deep (E2), and the places of values that
@@ -76,8 +32,8 @@ impl LeastFaults {
         LeastFaults {
             size: Least::new(),
             depth: Least::new(),
-            values: LeastPlace { at: None },
-            fields: LeastPlace { at: None },
+            values: LeastPlace::new(),
+            fields: LeastPlace::new(),
         }
     }
 

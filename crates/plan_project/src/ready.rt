@@ -1,17 +1,19 @@
-//! The lines of the artifacts of an accepted project that stands ready to be expanded.
-ghost use Rattle.std.specs.Prelude.{◌≡◌, [], false, get_or, length, IfOk};
+//! The artifacts of an accepted project that stands ready to be expanded: lines and texts.
+ghost use Rattle.std.specs.Prelude.{◌≡◌, [], false, get_or, length, option_map, IfOk};
 ghost use Rattle.doc_sites.specs.SitesView.{definition_of};
 ghost use Rattle.plan_expand.specs.Answers.{whole_in, whole_is};
 ghost use Rattle.plan_expand.specs.Preparing.{IsReady};
+ghost use Rattle.plan_ir.specs.Expansion.{Whole};
 ghost use Rattle.plan_ir.specs.Sizes.{has_too_many_nodes, is_too_deep};
 ghost use Rattle.plan_ir.specs.declared.form.Form.TheVariants as form;
-ghost use Rattle.plan_project.specs.Expansions.{IsWithinLimits, fragment_lines, line_lists, lines_at, list_of, operation_lines};
+ghost use Rattle.plan_project.specs.Expansions.{IsWithinLimits, fragment_lines, line_lists, lines_at, list_of, operation_lines, text_named};
 
 use crate::project::Project;
 use doc_sites::{DefinitionAt, FragmentAt, definitions_at};
 use gql_ast::Kind;
 use gql_plain::{Name, NoMemory, Words};
 use plan_expand::{ExpandFault, Expander, Form};
+use plan_ir::Expanded;
 use plan_text::{Artifact, artifact_line, operation_text};
 use schema_trees::located::NameAt;
 use std::alloc::Global;
@@ -80,6 +82,55 @@ impl<'p> ReadyProject<'p> {
         }
         definition_line(alloc, &self.expander, &self.definitions[n])
     }
+
+    /// The text of the operation of a name.
+    pub(crate) fn text(&self, alloc: Global, name: &Name) -> Result<Option<Words>, NoMemory>
+        ensures { IfOk result (λ text. text ≡ text_named self.now.0 self.now.1 name.now) }
+    {
+        operation_text_of(alloc, &self.expander, name)
+    }
+}
+
+/// The operation of a name, expanded; `None` where there is no operation of that name.
+fn expanded_operation(
+    alloc: Global,
+    expander: &Expander<'_>,
+    name: &Name,
+) -> Result<Option<Expanded>, NoMemory>
+    requires ready { IsReady expander.now }
+    requires few { whole_is has_too_many_nodes (whole_in expander.now.schema.now expander.now.documents.now form.Operation name.now) ≡ false }
+    requires flat { whole_is is_too_deep (whole_in expander.now.schema.now expander.now.documents.now form.Operation name.now) ≡ false }
+    ensures { IfOk result (λ expanded. expanded ≡ option_map (λ (w : Whole). w.expanded) (whole_in expander.now.schema.now expander.now.documents.now form.Operation name.now)) }
+{
+    if !expander.has(name, Form::Operation) {
+        return Ok(None);
+    }
+    match expander.expand(alloc, name, Form::Operation) {
+        Ok(expanded) => Ok(Some(expanded)),
+        Err(ExpandFault::TooManyNodes) => unreachable!(),
+        Err(ExpandFault::TooDeep) => unreachable!(),
+        Err(ExpandFault::NoMemory) => Err(NoMemory),
+    }
+}
+
+/// The text of the operation of a name.
+fn operation_text_of(
+    alloc: Global,
+    expander: &Expander<'_>,
+    name: &Name,
+) -> Result<Option<Words>, NoMemory>
+    requires ready { IsReady expander.now }
+    requires few { whole_is has_too_many_nodes (whole_in expander.now.schema.now expander.now.documents.now form.Operation name.now) ≡ false }
+    requires flat { whole_is is_too_deep (whole_in expander.now.schema.now expander.now.documents.now form.Operation name.now) ≡ false }
+    ensures { IfOk result (λ text. text ≡ text_named expander.now.schema.now expander.now.documents.now name.now) }
+{
+    match expanded_operation(alloc, expander, name)? {
+        Some(expanded) => {
+            let text = operation_text(alloc, &expanded)?;
+            Ok(Some(text))
+        }
+        None => Ok(None),
+    }
 }
 
 /// The line of a definition; none of an operation without a name.
@@ -114,11 +165,8 @@ fn operation_line(
     ensures { IfOk result (λ line. list_of line ≡ operation_lines kind (whole_in expander.now.schema.now expander.now.documents.now form.Operation name.now.name.now)) }
 {
     let own = Name::new(alloc, name.name)?;
-    if !expander.has(&own, Form::Operation) {
-        return Ok(None);
-    }
-    match expander.expand(alloc, &own, Form::Operation) {
-        Ok(expanded) => {
+    match expanded_operation(alloc, expander, &own)? {
+        Some(expanded) => {
             let text = operation_text(alloc, &expanded)?;
             let artifact = Artifact::Operation {
                 kind,
@@ -128,9 +176,7 @@ fn operation_line(
             let line = artifact_line(alloc, &artifact)?;
             Ok(Some(line))
         }
-        Err(ExpandFault::TooManyNodes) => unreachable!(),
-        Err(ExpandFault::TooDeep) => unreachable!(),
-        Err(ExpandFault::NoMemory) => Err(NoMemory),
+        None => Ok(None),
     }
 }
 

@@ -9,3 +9,5 @@ pub mod Refusals
 pub mod Printed
 pub mod Machine
 pub mod Script
+pub mod Collection
+pub mod Responses

@@ -1,0 +1,18 @@
+-- What a response says to an operation of the documents: its first fault, or its facts and pages.
+use Rattle.std.specs.Prelude.{List, [], ◌∷◌, true}
+use Rattle.gql_ast.specs.declared.place.FilePlace.{FilePlace}
+use Rattle.plan_ir.specs.Expansion.{Project, name_or}
+use Rattle.relay_model.specs.Collection.{Setting, collect, part_of}
+use Rattle.schema_tables.specs.Types.{root}
+use Rattle.schema_types.specs.Environments.{Values}
+use Rattle.schema_types.specs.Sites.{OperationAt}
+use Rattle.serde_json.specs.Data as J
+use Rattle.store_model.specs.Verdicts.{Verdict, says}
+
+-- by the whole form
+abbrev pub whole_setting : Project → FilePlace → Values → Setting
+whole_setting p place own = record { project = p; place = place; own = own; whole = true }
+
+-- under this environment of the operation
+abbrev pub operation_says : Project → FilePlace → OperationAt → Values → J.Data → Verdict
+operation_says p place o own response = says (collect (whole_setting p place own)) (name_or (root p.defs o.kind)) (part_of (whole_setting p place own) o ∷ []) response
