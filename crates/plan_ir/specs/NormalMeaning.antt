@@ -1,9 +1,10 @@
 -- What a plan that normalizes asks of an object of a type, in an environment: its steps in order, those behind a guard where the guard lets
 -- them. What a response says to a plan is said by the same walk as along documents.
-use Rattle.std.specs.Prelude.{Bool, true, not, ◌&&◌, cond, List, [], ◌∷◌, ◌++◌, codes, Option, Some, None, option_map}
+use Rattle.std.specs.Prelude.{Bool, true, not, ◌&&◌, cond, List, [], ◌∷◌, ◌++◌, codes, bytes_eq, Option, Some, None, option_map}
 use Rattle.std.specs.List.{list_all}
 use Rattle.gql_ast.specs.Value.{Val}
 use Rattle.gql_ast.specs.ValueView.{value_of}
+use Rattle.gql_plain.specs.Names.{is_name}
 use Rattle.gql_plain.specs.Order.{has_text}
 use Rattle.gql_plain.specs.declared.ids.Conn.{Conn}
 use Rattle.plan_ir.specs.Normal as n
@@ -68,3 +69,18 @@ collect_plan T p = collect_steps p.environment T p.steps
 -- what a response says to a plan, at a root type
 abbrev pub plan_says : (root_type : Text) → Values → Normal → J.Data → Verdict
 plan_says T env steps response = says collect_plan T (record { environment = env; steps = steps } ∷ []) response
+
+-- ---- what every plan is like: the types below its steps are Names, and none of its fields is the type name of a record
+
+abbrev pub are_names : List Text → Bool
+are_names ts = list_all is_name ts
+
+abbrev pub is_field_name : Text → Bool
+is_field_name n = not (bytes_eq n (codes "__typename"))
+
+abbrev pub is_formed : Normal → Bool
+is_formed n.done = true
+is_formed (n.typename r rest) = is_formed rest
+is_formed (n.leaf r name xs rest) = is_field_name name && is_formed rest
+is_formed (n.object r name xs m ts is o c child rest) = is_field_name name && (are_names ts && (is_formed child && is_formed rest))
+is_formed (n.guarded g child rest) = is_formed child && is_formed rest
