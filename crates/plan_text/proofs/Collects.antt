@@ -18,7 +18,7 @@ use Rattle.plan_text.specs.Collecting.{Around, CollectTheSame, Field, Group, Par
 use Rattle.plan_text.specs.Printed.{alias_of, printed_arguments, printed_directive, printed_directives, printed_selections}
 use Rattle.schema_tables.specs.Types.{Text, Defs, base_of, root}
 use Rattle.schema_trees.specs.Located.{directives_nodes}
-use Rattle.schema_types.specs.Environments.{Values, value_in}
+use Rattle.schema_types.specs.Environments.{Values, arguments_in_environment, is_true, value_in}
 use Rattle.schema_types.specs.NameRules.{fragment_named}
 use Rattle.schema_types.specs.Sites.{FragmentAt, arguments_nodes, below, condition_or, field_type, head_nodes, optional_name_nodes, selections_nodes}
 

@@ -20,7 +20,7 @@ use Rattle.plan_text.specs.Printed.{printed_arguments, printed_members, printed_
 use Rattle.gql_ast.specs.declared.directive.Directive.{Directive}
 use Rattle.gql_graph.specs.Rules.{each}
 use Rattle.schema_tables.specs.Types.{Text}
-use Rattle.schema_types.specs.Environments.{Values, evaluation, items_evaluated, or_null, pairs_evaluated, value_in, with_new_pair, with_pair}
+use Rattle.schema_types.specs.Environments.{Values, arguments_in_environment, evaluation, items_evaluated, or_null, pairs_evaluated, value_in, with_new_pair, with_pair}
 use Rattle.schema_types.specs.Sites.{FragmentAt}
 
 -- ---- names in order
