@@ -1,17 +1,24 @@
 -- The line of a definition by its number.
-use Rattle.std.proofs.Common.{◌≡◌, ◌<◌, ◌≤◌, ℕ, zero, suc, List, [], ◌∷◌, length, map, get_or, None, refl, sym, ap, subst, ◌∙◌, arith}
+use Rattle.std.proofs.Common.{◌≡◌, ◌<◌, ◌≤◌, ℕ, zero, suc, List, [], ◌∷◌, length, map, get_or, false, Option, Some, None, option_map, refl, sym, ap, subst, ◌∙◌, arith}
+use Rattle.std.specs.List.{AllByRecursion}
 use Rattle.doc_sites.specs.SitesView.{definition_of}
 use Rattle.doc_sites.specs.declared.site.DefinitionAt as code
 use Rattle.gql_ast.specs.declared.document.Document.{Document}
 use Rattle.gql_ast.specs.declared.place.Placed.{Placed}
 use Rattle.gql_graph.specs.Rules.{first_broken}
-use Rattle.plan_expand.specs.Answers.{definitions_in}
+use Rattle.plan_expand.specs.Answers.{definitions_in, project, whole_in, whole_is}
+use Rattle.plan_ir.specs.Expansion.{Whole, operation_named, whole_operation}
+use Rattle.plan_ir.specs.Sizes.{has_too_many_nodes, is_too_deep}
+use Rattle.plan_ir.specs.declared.form.Form.TheVariants as F
 use Rattle.plan_project.proofs.Accepting.{holds, rest_holds}
 use Rattle.plan_project.proofs.LeastLaws.{nothing_first, nothing_then}
 use Rattle.plan_project.proofs.NotingLaws.{limits_by}
-use Rattle.plan_project.specs.Expansions.{IsWithinLimits, lines_at, line_lists, size_rules, too_deep, too_many}
+use Rattle.plan_project.proofs.SoundProjects.{operation_found}
+use Rattle.plan_project.specs.Expansions.{IsWithinLimits, lines_at, line_lists, size_rules, too_deep, too_many, whole_of_operation}
 use Rattle.schema_rules.specs.declared.fault.Rule.TheVariants as R
-use Rattle.schema_tables.specs.Types.{Defs}
+use Rattle.schema_tables.specs.Types.{Text, Defs}
+use Rattle.schema_types.specs.NameRules.{operations}
+use Rattle.schema_types.specs.Sites.{DefinitionAt, OperationAt, operation, fragment}
 
 -- an element of a list that is seen through a function
 pub element_of : {X A : Type 0} (view : X → A) (xs : List X) (i : ℕ) (x : X) (d : A) → i < length xs → x ≡ get_or xs i x → get_or (map view xs) i d ≡ view x
@@ -63,3 +70,40 @@ module _ (defs : Defs) (ps : List (Placed Document)) where
 
   pub no_line : (xs : List code.DefinitionAt) (i : ℕ) → map definition_of xs ≡ definitions_in defs ps → length xs ≤ i → [] ≡ get_or (line_lists defs ps) i []
   no_line xs i are h = let same = lists_length xs are in sym (none_behind (line_lists defs ps) i [] (omega (arith, h, same)))
+
+  -- ---- the operation of a name
+
+  abbrev Limits : Option Whole → Type 0
+  Limits w = (whole_is has_too_many_nodes w ≡ false) × (whole_is is_too_deep w ≡ false)
+
+  -- each operation is within the limits
+  all_within : (es : List DefinitionAt) → too_many defs ps es ≡ [] → too_deep defs ps es ≡ [] → AllByRecursion (λ (o : OperationAt). Limits (whole_of_operation defs ps o.name)) (operations es)
+  all_within [] m d = tt
+  all_within (operation o ∷ es) m d =
+      (
+        limits_by defs ps (operation o) (nothing_first _ (too_many defs ps es) m) (nothing_first _ (too_deep defs ps es) d),
+        all_within es (nothing_then _ (too_many defs ps es) m) (nothing_then _ (too_deep defs ps es) d),
+      )
+  all_within (fragment f ∷ es) m d = all_within es (nothing_then _ (too_many defs ps es) m) (nothing_then _ (too_deep defs ps es) d)
+
+  -- so the operation of a name is within them
+  pub limits_named : (n : Text) → first_broken (size_rules defs ps) ≡ None → Limits (whole_in defs ps F.Operation n)
+  limits_named n small = at (operation_named (operations all) n) refl
+    where
+      all : List DefinitionAt
+      all = definitions_in defs ps
+
+      within : AllByRecursion (λ (o : OperationAt). Limits (whole_of_operation defs ps o.name)) (operations all)
+      within =
+          all_within all (holds R.E1 (too_many defs ps all) ((R.E2, too_deep defs ps all) ∷ []) small)
+          (holds R.E2 (too_deep defs ps all) [] (rest_holds R.E1 (too_many defs ps all) ((R.E2, too_deep defs ps all) ∷ []) small))
+
+      at : (found : Option OperationAt) → operation_named (operations all) n ≡ found → Limits (whole_in defs ps F.Operation n)
+      at None e =
+          (
+            ap (λ (f : Option OperationAt). whole_is has_too_many_nodes (option_map (whole_operation (project defs ps)) f)) e,
+            ap (λ (f : Option OperationAt). whole_is is_too_deep (option_map (whole_operation (project defs ps)) f)) e,
+          )
+      at (Some o) e =
+          let two = operation_found (λ (q : OperationAt). Limits (whole_of_operation defs ps q.name)) (operations all) n o within e in
+          subst (λ k. Limits (whole_in defs ps F.Operation k)) two.1.same (subst (λ l. Limits (whole_of_operation defs ps l)) two.1.is two.0)

@@ -2,7 +2,8 @@
 //! `docs/LANGUAGE.md`.
 use crate::texts::{file, text_of_fault};
 use gql_ast::{Definition, Document, Placed};
-use plan_project::{CompileFault, Project, ProjectFile, compile};
+use gql_plain::Name;
+use plan_project::{Artifacts, CompileFault, Project, ProjectFile, compile};
 use std::alloc::Global;
 use std::test::Fail;
 
@@ -87,6 +88,29 @@ fn look_up(alloc: Global, first: &str, second: &str, name: &str) -> Result<Strin
             let fragment = fragment(alloc, &project, name)?;
             Ok(format!(in alloc; "{}/{}", operation.as_str(), fragment.as_str())?)
         }
+        Err(_) => Ok(format!(in alloc; "no project")?),
+    }
+}
+
+/// The text of the operation of a name; nothing where there is none.
+fn text_of(alloc: Global, project: &Project, name: &str) -> Result<String, Fail> {
+    let artifacts = Artifacts::of(alloc, project)?;
+    let name = Name::new(alloc, name)?;
+    match artifacts.text(alloc, &name)? {
+        Some(text) => Ok(format!(in alloc; "{}", text.as_str())?),
+        None => Ok(String::new(alloc)),
+    }
+}
+
+/// The text of the operation of a name in the project that these texts are.
+fn text_among(alloc: Global, first: &str, second: &str, name: &str) -> Result<String, Fail> {
+    let files = [
+        file(alloc, "s.graphql", SCHEMA)?,
+        file(alloc, "d.graphql", first)?,
+        file(alloc, "e.graphql", second)?,
+    ];
+    match compile(alloc, &files) {
+        Ok(project) => text_of(alloc, &project, name),
         Err(_) => Ok(format!(in alloc; "no project")?),
     }
 }
@@ -245,5 +269,24 @@ fn a_thousand_documents_are_one_project(rt: HostRuntime) -> Result<(), Fail> {
     assert_eq!(rt; count_files(alloc, &files)?.as_str(), "V1 1000 1 7");
     let files = many(alloc, 999, "fragment F998 on User{...F999}")?;
     assert_eq!(rt; count_files(alloc, &files)?.as_str(), "V2 1000 1 10");
+    Ok(())
+}
+
+/// A fragment has no text, and no operation has the last name.
+#[test]
+fn texts_are_found_by_name(rt: HostRuntime) -> Result<(), Fail> {
+    let alloc = rt.alloc();
+    let first = "query Q($of:Int!){me{...A}pick(of:$of)}";
+    let second = "fragment A on User{name}query R{any{...on Cat{x:name}}}";
+    assert_eq!(rt;
+        text_among(alloc, first, second, "Q")?.as_str(),
+        "query Q($of:Int!){me{...on User{name}} pick(of:$of)}"
+    );
+    assert_eq!(rt;
+        text_among(alloc, first, second, "R")?.as_str(),
+        "query R{any{...on Cat{x:name} __typename}}"
+    );
+    assert_eq!(rt; text_among(alloc, first, second, "A")?.as_str(), "");
+    assert_eq!(rt; text_among(alloc, first, second, "S")?.as_str(), "");
     Ok(())
 }
