@@ -79,11 +79,10 @@ module _ (defs : Defs) (ps : List (Placed Document)) where
   -- each operation is within the limits
   all_within : (es : List DefinitionAt) → too_many defs ps es ≡ [] → too_deep defs ps es ≡ [] → AllByRecursion (λ (o : OperationAt). Limits (whole_of_operation defs ps o.name)) (operations es)
   all_within [] m d = tt
-  all_within (operation o ∷ es) m d =
-      (
-        limits_by defs ps (operation o) (nothing_first _ (too_many defs ps es) m) (nothing_first _ (too_deep defs ps es) d),
-        all_within es (nothing_then _ (too_many defs ps es) m) (nothing_then _ (too_deep defs ps es) d),
-      )
+  all_within (operation o ∷ es) m d = (
+    limits_by defs ps (operation o) (nothing_first _ (too_many defs ps es) m) (nothing_first _ (too_deep defs ps es) d),
+    all_within es (nothing_then _ (too_many defs ps es) m) (nothing_then _ (too_deep defs ps es) d),
+  )
   all_within (fragment f ∷ es) m d = all_within es (nothing_then _ (too_many defs ps es) m) (nothing_then _ (too_deep defs ps es) d)
 
   -- so the operation of a name is within them
@@ -99,11 +98,10 @@ module _ (defs : Defs) (ps : List (Placed Document)) where
           (holds R.E2 (too_deep defs ps all) [] (rest_holds R.E1 (too_many defs ps all) ((R.E2, too_deep defs ps all) ∷ []) small))
 
       at : (found : Option OperationAt) → operation_named (operations all) n ≡ found → Limits (whole_in defs ps F.Operation n)
-      at None e =
-          (
-            ap (λ (f : Option OperationAt). whole_is has_too_many_nodes (option_map (whole_operation (project defs ps)) f)) e,
-            ap (λ (f : Option OperationAt). whole_is is_too_deep (option_map (whole_operation (project defs ps)) f)) e,
-          )
+      at None e = (
+        ap (λ (f : Option OperationAt). whole_is has_too_many_nodes (option_map (whole_operation (project defs ps)) f)) e,
+        ap (λ (f : Option OperationAt). whole_is is_too_deep (option_map (whole_operation (project defs ps)) f)) e,
+      )
       at (Some o) e =
           let two = operation_found (λ (q : OperationAt). Limits (whole_of_operation defs ps q.name)) (operations all) n o within e in
           subst (λ k. Limits (whole_in defs ps F.Operation k)) two.1.same (subst (λ l. Limits (whole_of_operation defs ps l)) two.1.is two.0)

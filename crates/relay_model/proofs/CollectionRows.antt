@@ -72,7 +72,6 @@ over fs = record { defs = defs; fragments = fs; place = at }
 abbrev plain : Text → (subs rest : Sels) → Sels
 plain n s rest = sels.field None n [] [] s rest
 
-
 -- ---- `query Q{me{name ...F@arguments(n:5)}}` with `fragment F on User @argumentDefinitions(n:{type:"Int"}){short:name(size:$n)}`
 
 abbrev said : Val
@@ -110,9 +109,9 @@ pub fragment_says : operation_says (over (fragment ∷ [])) (at 1) (query spread
     (me (J.member (codes "id") (J.string (codes "4")) (J.member (codes "name") (J.string (codes "Ann")) (J.member (codes "short") (J.string (codes "A")) J.no_members))))
     ≡ content (record {
       facts =
-        fact (codes "4") (codes "__typename") (Leaf (Words (codes "User"))) ∷ fact (codes "4") (codes "id") (Leaf (Words (codes "4")))
-        ∷ fact (codes "4") (codes "name") (Leaf (Words (codes "Ann"))) ∷ fact (codes "4") (codes "name(size:5)") (Leaf (Words (codes "A")))
-        ∷ root_fact ∷ fact (codes "client:root") (codes "me") (Link (codes "4")) ∷ [];
+          fact (codes "4") (codes "__typename") (Leaf (Words (codes "User"))) ∷ fact (codes "4") (codes "id") (Leaf (Words (codes "4")))
+          ∷ fact (codes "4") (codes "name") (Leaf (Words (codes "Ann"))) ∷ fact (codes "4") (codes "name(size:5)") (Leaf (Words (codes "A")))
+          ∷ root_fact ∷ fact (codes "client:root") (codes "me") (Link (codes "4")) ∷ [];
       handles = [];
     })
 unfolding serde_json_on_literals digits read head

@@ -148,8 +148,8 @@ pub arguments_that_are_null_are_dropped : says_to [] teams ((codes "n", t.null) 
     (J.object (J.member (codes "a") team_a (J.member (codes "b") no_team (J.member (codes "c") no_team J.no_members))))
     ≡ content (record {
       facts =
-        typed (codes "1") (codes "User") ∷ fact (codes "1") (codes "id") (Leaf (Words (codes "1"))) ∷ fact (codes "1") (codes "name") (Leaf (Words (codes "A")))
-        ∷ typed root (codes "__Root") ∷ fact root (codes "team") (Links []) ∷ fact root (codes "team(size:2)") (Links (Some (codes "1") ∷ [])) ∷ [];
+          typed (codes "1") (codes "User") ∷ fact (codes "1") (codes "id") (Leaf (Words (codes "1"))) ∷ fact (codes "1") (codes "name") (Leaf (Words (codes "A")))
+          ∷ typed root (codes "__Root") ∷ fact root (codes "team") (Links []) ∷ fact root (codes "team(size:2)") (Links (Some (codes "1") ∷ [])) ∷ [];
       handles = [];
     })
 unfolding serde_json_on_literals digits read head
@@ -222,8 +222,8 @@ pub a_type_name_is_told : says_to [] node u1
     (J.object (object_in (codes "node") (text (codes "id") (codes "u1") (text (codes "__typename") (codes "User") J.no_members)) J.no_members))
     ≡ content (record {
       facts =
-        typed root (codes "__Root") ∷ fact root (codes "node(id:\"u1\")") (Link (codes "u1")) ∷ typed (codes "u1") (codes "User")
-        ∷ fact (codes "u1") (codes "id") (Leaf (Words (codes "u1"))) ∷ [];
+          typed root (codes "__Root") ∷ fact root (codes "node(id:\"u1\")") (Link (codes "u1")) ∷ typed (codes "u1") (codes "User")
+          ∷ fact (codes "u1") (codes "id") (Leaf (Words (codes "u1"))) ∷ [];
       handles = [];
     })
 unfolding serde_json_on_literals digits read head
@@ -246,28 +246,28 @@ pub a_page_is_told : says_to [] page ((codes "after", t.text (codes "c1")) ∷ [
     (object_in (codes "pageInfo") (text (codes "endCursor") (codes "c2") J.no_members) J.no_members)) J.no_members)) J.no_members))
     ≡ content (record {
       facts =
-        typed (codes "4") (codes "User") ∷ fact (codes "4") (codes "friends(after:\"c1\",first:2)") (Link (codes "client:4:friends(after:\"c1\",first:2)"))
-        ∷ fact (codes "4") (codes "id") (Leaf (Words (codes "4")))
-        ∷ typed (codes "5") (codes "User") ∷ fact (codes "5") (codes "id") (Leaf (Words (codes "5"))) ∷ fact (codes "5") (codes "name") (Leaf (Words (codes "Al")))
-        ∷ typed (codes "client:4:friends(after:\"c1\",first:2)") (codes "UserConnection")
-        ∷ fact (codes "client:4:friends(after:\"c1\",first:2)") (codes "edges") (Links (Some (codes "client:4:friends(after:\"c1\",first:2):edges:0") ∷ []))
-        ∷ fact (codes "client:4:friends(after:\"c1\",first:2)") (codes "pageInfo") (Link (codes "client:4:friends(after:\"c1\",first:2):pageInfo"))
-        ∷ typed (codes "client:4:friends(after:\"c1\",first:2):edges:0") (codes "UserEdge")
-        ∷ fact (codes "client:4:friends(after:\"c1\",first:2):edges:0") (codes "cursor") (Leaf (Words (codes "c2")))
-        ∷ fact (codes "client:4:friends(after:\"c1\",first:2):edges:0") (codes "node") (Link (codes "5"))
-        ∷ typed (codes "client:4:friends(after:\"c1\",first:2):pageInfo") (codes "PageInfo")
-        ∷ fact (codes "client:4:friends(after:\"c1\",first:2):pageInfo") (codes "endCursor") (Leaf (Words (codes "c2")))
-        ∷ typed root (codes "__Root") ∷ fact root (codes "me") (Link (codes "4")) ∷ [];
+          typed (codes "4") (codes "User") ∷ fact (codes "4") (codes "friends(after:\"c1\",first:2)") (Link (codes "client:4:friends(after:\"c1\",first:2)"))
+          ∷ fact (codes "4") (codes "id") (Leaf (Words (codes "4")))
+          ∷ typed (codes "5") (codes "User") ∷ fact (codes "5") (codes "id") (Leaf (Words (codes "5"))) ∷ fact (codes "5") (codes "name") (Leaf (Words (codes "Al")))
+          ∷ typed (codes "client:4:friends(after:\"c1\",first:2)") (codes "UserConnection")
+          ∷ fact (codes "client:4:friends(after:\"c1\",first:2)") (codes "edges") (Links (Some (codes "client:4:friends(after:\"c1\",first:2):edges:0") ∷ []))
+          ∷ fact (codes "client:4:friends(after:\"c1\",first:2)") (codes "pageInfo") (Link (codes "client:4:friends(after:\"c1\",first:2):pageInfo"))
+          ∷ typed (codes "client:4:friends(after:\"c1\",first:2):edges:0") (codes "UserEdge")
+          ∷ fact (codes "client:4:friends(after:\"c1\",first:2):edges:0") (codes "cursor") (Leaf (Words (codes "c2")))
+          ∷ fact (codes "client:4:friends(after:\"c1\",first:2):edges:0") (codes "node") (Link (codes "5"))
+          ∷ typed (codes "client:4:friends(after:\"c1\",first:2):pageInfo") (codes "PageInfo")
+          ∷ fact (codes "client:4:friends(after:\"c1\",first:2):pageInfo") (codes "endCursor") (Leaf (Words (codes "c2")))
+          ∷ typed root (codes "__Root") ∷ fact root (codes "me") (Link (codes "4")) ∷ [];
       handles =
-        record {
-          parent = codes "4";
-          handle_key = codes "__K_friends_connection";
-          field_key = codes "friends(after:\"c1\",first:2)";
-          after = Words (codes "c1");
-          before = Null;
-          page_type = codes "UserConnection";
-          info_type = codes "PageInfo";
-        } ∷ [];
+          record {
+            parent = codes "4";
+            handle_key = codes "__K_friends_connection";
+            field_key = codes "friends(after:\"c1\",first:2)";
+            after = Words (codes "c1");
+            before = Null;
+            page_type = codes "UserConnection";
+            info_type = codes "PageInfo";
+          } ∷ [];
     })
 unfolding serde_json_on_literals digits read head
 a_page_is_told = refl
@@ -296,8 +296,8 @@ true_skips_and_includes = refl
 pub null_leaves_out_what_is_to_be_included : says_to [] conditions ((codes "b", t.null) ∷ []) ann
     ≡ content (record {
       facts =
-        typed (codes "4") (codes "User") ∷ fact (codes "4") (codes "id") (Leaf (Words (codes "4"))) ∷ fact (codes "4") (codes "name") (Leaf (Words (codes "Ann")))
-        ∷ typed root (codes "__Root") ∷ fact root (codes "me") (Link (codes "4")) ∷ [];
+          typed (codes "4") (codes "User") ∷ fact (codes "4") (codes "id") (Leaf (Words (codes "4"))) ∷ fact (codes "4") (codes "name") (Leaf (Words (codes "Ann")))
+          ∷ typed root (codes "__Root") ∷ fact root (codes "me") (Link (codes "4")) ∷ [];
       handles = [];
     })
 unfolding serde_json_on_literals digits read head
