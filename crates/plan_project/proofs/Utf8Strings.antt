@@ -7,6 +7,7 @@ use Rattle.std.proofs.lemmas.Str.{IsCharBoundary-after_ascii, IsCharBoundary-bef
 use Rattle.std.specs.Char.{IsScalar}
 use Rattle.std.specs.List.{AllByRecursion, prefix_len, suffix_len}
 use Rattle.gql_lex.proofs.Escapes.{code_below, four_hex}
+use Rattle.gql_lex.proofs.Extents.{or_below, same_below}
 use Rattle.gql_lex.proofs.Texts.{hex_below, simple_below}
 use Rattle.gql_lex.proofs.Margins.{indent_boundary}
 use Rattle.gql_lex.specs.Lexemes.{Part, character, escape, unicode, AreParts, parts_then, BlockPart, letter, quotes, AreBlockParts, block_then}
