@@ -1,0 +1,4 @@
+pub mod PutSteps
+pub mod WalkSteps
+pub mod GroupSteps
+pub mod ValueSteps

@@ -1,0 +1,179 @@
+//! The fields of steps by their response keys.
+ghost use Rattle.std.specs.Prelude.{◌≡◌, ◌<◌, [], map, length, set, slice_index, OnOk, IfOk};
+ghost use Rattle.plan_ir.specs.NormalMeaning.{collect_steps, collect_plan};
+ghost use Rattle.plan_ir.specs.NormalView.{step_of};
+ghost use Rattle.store_model.specs.Items.{asked_of, collect_all, grouped_onto, groups_at, with_asked};
+ghost use Rattle.plan_groups.specs.FieldView.{asked_at, plan_at};
+ghost use Rattle.plan_groups.specs.GroupView.{group_of, groups_in, IsPlaced};
+ghost use Rattle.plan_groups.specs.Putting.{put_at};
+
+use crate::field::{Call, FieldAt, PlanAt, connection_in, form_of_objects};
+use crate::guards::guard_passes;
+use gql_plain::NoMemory;
+use plan_ir::{NormalStep, NormalSteps};
+use schema_values::Env;
+use std::alloc::Global;
+use std::collections::BTreeMap;
+
+/// The fields of one response key.
+#[derive(Drop)]
+pub(crate) struct Fields<'p> {
+    pub(crate) first: FieldAt<'p>,
+    pub(crate) others: Vec<FieldAt<'p>>,
+}
+
+/// Fields by their response keys, in order of first response key.
+#[derive(Drop)]
+pub(crate) struct Gathered<'p> {
+    pub(crate) groups: Vec<Fields<'p>>,
+    /// Where the fields of a response key stand.
+    pub(crate) places: BTreeMap<&'p str, usize>,
+}
+
+/// The fields that plans ask of an object of that type.
+pub(crate) fn gather<'p>(
+    alloc: Global,
+    object: &str,
+    parts: &[PlanAt<'p>],
+) -> Result<Vec<Fields<'p>>, NoMemory>
+    ensures { IfOk result (λ groups. map group_of groups.items ≡ groups_at collect_plan object.now (map plan_at parts.now)) }
+{
+    let mut gathered = Gathered::new(alloc);
+    'parts: for part in parts {
+        gathered.put_part(alloc, object, part)?;
+    }
+    Ok(gathered.groups)
+}
+
+impl<'p> Gathered<'p> {
+    /// No field; takes no memory.
+    fn new(alloc: Global) -> Gathered<'p>
+        ensures none { groups_in result ≡ [] }
+        ensures placed { IsPlaced result }
+    {
+        Gathered {
+            groups: Vec::new(alloc),
+            places: BTreeMap::new(alloc),
+        }
+    }
+
+    /// Puts the fields of a plan.
+    fn put_part(&mut self, alloc: Global, object: &str, part: &PlanAt<'p>) -> Result<(), NoMemory>
+        requires { IsPlaced self.old }
+        ensures put { OnOk result (groups_in self.new ≡ grouped_onto (groups_in self.old) (asked_of (collect_plan object.now (plan_at part.now)))) }
+        ensures placed { OnOk result (IsPlaced self.new) }
+    {
+        match part.steps {
+            Some(steps) => self.put_steps(alloc, part.env, object, steps),
+            None => Ok(()),
+        }
+    }
+
+    /// Puts the fields of steps.
+    #[cycle(gather)]
+    fn put_steps(
+        &mut self,
+        alloc: Global,
+        env: &'p Env,
+        object: &str,
+        steps: &'p NormalSteps,
+    ) -> Result<(), NoMemory>
+        requires { IsPlaced self.old }
+        ensures put { OnOk result (groups_in self.new ≡ grouped_onto (groups_in self.old) (asked_of (collect_steps env.now.values object.now steps.now))) }
+        ensures placed { OnOk result (IsPlaced self.new) }
+    {
+        'steps: for step in steps.as_slice() {
+            self.put_step(alloc, env, object, step)?;
+        }
+        Ok(())
+    }
+
+    /// Puts the field of a step, or the fields behind a guard that lets them.
+    #[cycle(gather)]
+    fn put_step(
+        &mut self,
+        alloc: Global,
+        env: &'p Env,
+        object: &str,
+        step: &'p NormalStep,
+    ) -> Result<(), NoMemory>
+        requires { IsPlaced self.old }
+        ensures put { OnOk result (groups_in self.new ≡ grouped_onto (groups_in self.old) (asked_of (collect_steps env.now.values object.now (step_of step.now)))) }
+        ensures placed { OnOk result (IsPlaced self.new) }
+    {
+        match step {
+            NormalStep::Typename { response } => {
+                self.put(alloc, FieldAt::type_name(env, response))
+            }
+            NormalStep::Leaf {
+                response,
+                name,
+                arguments,
+            } => self.put(alloc, FieldAt::leaf(env, response, name, arguments)),
+            NormalStep::Object {
+                response,
+                name,
+                arguments,
+                many,
+                types,
+                identified,
+                open_type,
+                connection,
+                child,
+            } => {
+                let field = FieldAt {
+                    response,
+                    call: Some(Call { name, arguments }),
+                    connection: connection_in(connection),
+                    form: form_of_objects(*many, types, identified, *open_type),
+                    part: PlanAt::new(env, child),
+                };
+                self.put(alloc, field)
+            }
+            NormalStep::Guarded { guard, child } => {
+                let passes = guard_passes(alloc, env, object, guard)?;
+                if !passes {
+                    return Ok(());
+                }
+                self.put_steps(alloc, env, object, &child.steps)
+            }
+        }
+    }
+
+    /// Puts a field behind those of its response key.
+    fn put(&mut self, alloc: Global, field: FieldAt<'p>) -> Result<(), NoMemory>
+        requires { IsPlaced self.old }
+        ensures put { OnOk result (groups_in self.new ≡ with_asked (groups_in self.old) (asked_at field.entry)) }
+        ensures placed { OnOk result (IsPlaced self.new) }
+    {
+        let key = field.response.as_str();
+        match self.places.get(key) {
+            Some(place) => {
+                put_behind(&mut self.groups, *place, field)?;
+                Ok(())
+            }
+            None => {
+                drop(self.places.insert(key, self.groups.len())?);
+                self.groups.push(Fields {
+                    first: field,
+                    others: Vec::new(alloc),
+                })?;
+                Ok(())
+            }
+        }
+    }
+}
+
+/// Puts a field behind those of the group at a place.
+fn put_behind<'p>(
+    groups: &mut Vec<Fields<'p>>,
+    place: usize,
+    field: FieldAt<'p>,
+) -> Result<(), NoMemory>
+    requires { place < length groups.old.items }
+    ensures { OnOk result (map group_of groups.new.items ≡ put_at place (map group_of groups.old.items) (asked_at field.entry)) }
+{
+    let group = &mut groups[place];
+    group.others.push(field)?;
+    Ok(())
+}

@@ -1,0 +1,19 @@
+//! What plans that normalize ask of an object: its fields by their response keys, each with the key
+//! that it is stored under, and what stands below it (GraphQL, October 2021, section 6.3.2).
+//!
+//! In contracts a view of a plan is what it stands for: a `PlanAt` is steps with the values of their
+//! operation's variables, a `GroupAt` the fields of one response key, and `Groups` their list.
+#![tactic(auto)]
+
+mod arguments;
+pub mod field;
+mod gathered;
+pub mod group;
+pub mod groups;
+mod guards;
+pub mod pages;
+
+pub use field::{BelowAt, FormAt, PlanAt};
+pub use group::GroupAt;
+pub use groups::Groups;
+pub use pages::put_pages;

@@ -1,0 +1,11 @@
+pub mod Clashes
+pub mod GatherSteps
+pub mod InOrder
+pub mod Joins
+pub mod LastSteps
+pub mod LoopSteps
+pub mod Orders
+pub mod RowLoop
+pub mod RowSteps
+pub mod Seatings
+pub mod Takings

@@ -1,0 +1,17 @@
+//! What a response says, gathered while the response is walked, and taken for facts or a refusal.
+#![tactic(auto)]
+
+mod conflict;
+pub mod fault;
+pub mod gathered;
+pub mod laws;
+mod pages;
+pub mod path;
+mod rows;
+mod said;
+mod verdict;
+
+pub use fault::NormFault;
+pub use gathered::Gathered;
+pub use laws::gathering_is_right;
+pub use path::{Path, Step};
