@@ -1,0 +1,15 @@
+-- The plan is that of the definition, which is formed and means what the operation means.
+use Rattle.std.proofs.Common.{ap, ◌∙◌}
+use Rattle.plan_ir.specs.Normal.{Normal}
+use Rattle.plan_ir.specs.NormalMeaning.{is_formed, plan_says}
+use Rattle.plan_build.proofs.Formed.{steps_formed}
+use Rattle.plan_build.proofs.Meaning.{plan_means}
+use Rattle.plan_build.proofs.normal.normal_plan.Goals as goal
+
+pub returns-clause-formed : goal.returns-clause-formed
+returns-clause-formed c = λ names. ap is_formed c.in_ok-plan.ensures ∙ steps_formed c.args.schema.now names _ c.args.expanded.now.selections
+
+pub returns-clause-means : goal.returns-clause-means
+returns-clause-means c = λ sound suited none own response.
+    ap (λ (steps : Normal). plan_says c.args.expanded.now.root own steps response) c.in_ok-plan.ensures
+    ∙ plan_means c.args.schema.now c.args.expanded.now sound suited none own response

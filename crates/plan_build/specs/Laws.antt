@@ -1,0 +1,52 @@
+-- What holds of expanded operations and of their plans.
+use Rattle.std.specs.Prelude.{◌≡◌, ℕ, List, [], ◌++◌, Some, None}
+use Rattle.gql_ast.specs.declared.document.Document.{Document}
+use Rattle.gql_ast.specs.declared.place.FilePlace.{FilePlace}
+use Rattle.gql_ast.specs.declared.place.Placed.{Placed}
+use Rattle.gql_graph.specs.Rules.{first_broken}
+use Rattle.doc_merge.specs.Faults.{field_differences}
+use Rattle.plan_build.specs.NodesMeaning.{nodes_say}
+use Rattle.plan_build.specs.Plans.{MeansTheSame}
+use Rattle.plan_build.specs.Suited.{IsSuited}
+use Rattle.plan_ir.specs.Expansion.{Project, operation_named, project_of, whole_operation}
+use Rattle.plan_ir.specs.Normal.{Normal}
+use Rattle.plan_ir.specs.NormalMeaning.{plan_says}
+use Rattle.relay_dirs.specs.RelayRules.{relay_rules}
+use Rattle.relay_model.specs.Responses.{operation_says}
+use Rattle.schema_rules.specs.Checked.{IsSound}
+use Rattle.schema_tables.specs.Types.{Text, Defs}
+use Rattle.schema_types.specs.DocumentRules.{Rules, argument_rules, field_rules, name_rules, trees_of}
+use Rattle.schema_types.specs.Environments.{Values}
+use Rattle.schema_types.specs.NameRules.{operations}
+use Rattle.schema_types.specs.Sites.{DefinitionAt, OperationAt, all_definitions}
+use Rattle.serde_json.specs.Data as J
+
+-- a response says to an operation of the documents what it says to the operation's expansion
+abbrev pub DocumentsAreNodes : Type 0
+DocumentsAreNodes = (p : Project) (place : FilePlace) (o : OperationAt) (own : Values) (response : J.Data)
+    → operation_says p place o own response ≡ nodes_say p.defs (whole_operation p o).expanded own response
+
+-- V1 to V22
+abbrev pub rules : Defs → List DefinitionAt → Rules
+rules defs ds = name_rules defs ds ++ (field_rules defs ds ++ (argument_rules defs ds ++ relay_rules defs ds))
+
+abbrev pub definitions : Defs → List (Placed Document) → List DefinitionAt
+definitions defs ps = all_definitions defs (trees_of ps)
+
+abbrev pub MeetsRules : Defs → List (Placed Document) → Type 0
+MeetsRules defs ps = first_broken (rules defs (definitions defs ps)) ≡ None
+
+-- the expansion of an operation of documents that meet V1 to V22 is suited
+abbrev pub OperationsAreSuited : Type 0
+OperationsAreSuited = (defs : Defs) (ps : List (Placed Document)) (place : ℕ → FilePlace) (name : Text) (o : OperationAt) → IsSound defs → MeetsRules defs ps
+    → operation_named (operations (definitions defs ps)) name ≡ Some o → IsSuited defs (whole_operation (project_of defs place (definitions defs ps)) o).expanded
+
+-- so, where its fields merge too (V24), each response says to its plan what it says to the operation of the documents
+abbrev pub PlansMeanDocuments : Type 0
+PlansMeanDocuments = (defs : Defs) (ps : List (Placed Document)) (place : ℕ → FilePlace) (added : FilePlace) (name : Text) (o : OperationAt) (plan : Normal)
+    → IsSound defs → MeetsRules defs ps → operation_named (operations (definitions defs ps)) name ≡ Some o
+    → field_differences defs (whole_operation (project_of defs place (definitions defs ps)) o).expanded ≡ []
+    → MeansTheSame defs (whole_operation (project_of defs place (definitions defs ps)) o).expanded plan
+    → (own : Values) (response : J.Data)
+    → plan_says (whole_operation (project_of defs place (definitions defs ps)) o).expanded.root own plan response
+    ≡ operation_says (project_of defs place (definitions defs ps)) added o own response

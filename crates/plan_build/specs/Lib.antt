@@ -1,0 +1,9 @@
+pub mod NodesMeaning
+pub mod Suited
+pub mod Plans
+pub mod Laws
+pub mod Conditions
+pub mod Classes
+pub mod Steps
+pub mod ClassView
+pub mod KeptView

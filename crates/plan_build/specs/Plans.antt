@@ -1,0 +1,25 @@
+-- What the plan of an expanded operation is held to.
+use Rattle.std.specs.Prelude.{◌≡◌, true, []}
+use Rattle.doc_merge.specs.Faults.{field_differences}
+use Rattle.plan_build.specs.NodesMeaning.{nodes_say}
+use Rattle.plan_build.specs.Suited.{IsSuited}
+use Rattle.plan_ir.specs.Normal.{Normal}
+use Rattle.plan_ir.specs.NormalMeaning.{are_names, is_formed, plan_says}
+use Rattle.plan_ir.specs.declared.expanded.Expanded.{Expanded}
+use Rattle.schema_rules.specs.Checked.{IsSound}
+use Rattle.schema_tables.specs.Types.{Text, Defs, possible}
+use Rattle.schema_types.specs.Environments.{Values}
+use Rattle.serde_json.specs.Data as J
+
+-- the object types of a schema that was read from a text have Names
+abbrev pub HaveNames : Defs → Type 0
+HaveNames defs = (t : Text) → are_names (possible defs t) ≡ true
+
+abbrev pub IsWellFormed : Defs → Normal → Type 0
+IsWellFormed defs plan = HaveNames defs → is_formed plan ≡ true
+
+-- under a sound schema, for each environment each response says the same to the plan and to the expanded operation, where its fields merge (V24)
+abbrev pub MeansTheSame : Defs → Expanded → Normal → Type 0
+MeansTheSame defs e plan =
+    IsSound defs → IsSuited defs e → field_differences defs e ≡ [] → (own : Values) (response : J.Data)
+    → plan_says e.root own plan response ≡ nodes_say defs e own response

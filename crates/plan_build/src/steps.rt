@@ -1,0 +1,397 @@
+//! The steps that come of nodes, where the objects are of known types.
+ghost use Rattle.std.specs.Prelude.{◌≡◌, ◌++◌, [], ◌∷◌, None, Some, false, true, map, codes, bytes_eq, IfOk, OnOk};
+ghost use Rattle.plan_ir.specs.NodesView.{node_of};
+ghost use Rattle.plan_ir.specs.Normal.{normal_append, done, guarded};
+ghost use Rattle.plan_ir.specs.NormalView.{step_of};
+ghost use Rattle.schema_tables.specs.Types as types;
+ghost use Rattle.plan_build.specs.ClassView.{class_view, field_view, target_view};
+ghost use Rattle.plan_build.specs.Conditions as tests;
+ghost use Rattle.plan_build.specs.KeptView.{IsRight};
+ghost use Rattle.plan_build.specs.Steps as spec;
+
+use crate::classes::{Class, Target, classes_of, is_abstract, one_target};
+use crate::conditions::conditions_of;
+use crate::kept::Kept;
+use gql_ast::{Arguments, Directives};
+use gql_plain::{Conn, Ids, Name, NoMemory};
+use plan_ir::{Conditions, Guard, Node, Nodes, NormalPlan, NormalStep, NormalSteps};
+use schema_types::Schema;
+use std::alloc::Global;
+
+/// A field, with the nodes that stand below it.
+#[derive(Drop)]
+pub(crate) struct Field<'a> {
+    pub(crate) response: &'a Name,
+    pub(crate) name: &'a Name,
+    pub(crate) arguments: &'a Arguments,
+    pub(crate) connection: &'a Option<Conn>,
+    pub(crate) selections: &'a Nodes,
+}
+
+/// The same connection, or none where there is none.
+fn copy_of_conn(conn: &Option<Conn>) -> Result<Option<Conn>, NoMemory>
+    ensures { IfOk result (λ copy. copy ≡ conn.now) }
+{
+    match conn {
+        Some(conn) => Ok(Some(conn.copy()?)),
+        None => Ok(None),
+    }
+}
+
+/// Whether each type is one of these.
+fn are_within(types: &Ids, ids: &Ids) -> bool
+    ensures { result ≡ spec.are_within ids.now types.now }
+{
+    'types: for name in types.as_slice() {
+        if !ids.contains(name.as_str()) {
+            return false;
+        }
+    }
+    true
+}
+
+/// Whether it is one type.
+fn is_one(types: &Ids) -> bool
+    ensures { result ≡ spec.is_one types.now }
+{
+    matches!(types.as_slice(), [_])
+}
+
+/// Steps behind a guard.
+fn behind(types: Option<Ids>, conditions: Conditions, steps: NormalSteps) -> NormalStep
+    ensures { step_of result ≡ guarded (record { types = types; conditions = conditions }) steps done }
+{
+    NormalStep::Guarded {
+        guard: Guard { types, conditions },
+        child: NormalPlan { steps },
+    }
+}
+
+/// Puts a leaf.
+fn put_leaf(field: &Field<'_>, steps: &mut NormalSteps) -> Result<(), NoMemory>
+    ensures { OnOk result (steps.new ≡ normal_append steps.old (spec.leaf_step (field_view field.now))) }
+{
+    let response = field.response.copy()?;
+    let name = field.name.copy()?;
+    let arguments = field.arguments.copy()?;
+    steps.push(NormalStep::Leaf {
+        response,
+        name,
+        arguments,
+    })
+}
+
+/// Puts a field of the objects of a type, with the steps that stand below it.
+fn put_object_step<'a>(
+    alloc: Global,
+    schema: &Schema,
+    kept: &mut Kept<'a>,
+    field: &Field<'_>,
+    target: &Target<'a>,
+    child: NormalSteps,
+    steps: &mut NormalSteps,
+) -> Result<(), NoMemory>
+    requires right { IsRight schema.now kept.old }
+    requires composite { types.is_composite schema.now target.now.base.now ≡ true }
+    ensures right { OnOk result (IsRight schema.now kept.new) }
+    ensures put { OnOk result (steps.new ≡ normal_append steps.old (spec.object_step schema.now (field_view field.now) (target_view target.now) child)) }
+{
+    let response = field.response.copy()?;
+    let name = field.name.copy()?;
+    let arguments = field.arguments.copy()?;
+    let connection = copy_of_conn(field.connection)?;
+    let types = schema.possible(target.base).copy()?;
+    let identified = kept.identified(alloc, schema, target.base)?;
+    steps.push(NormalStep::Object {
+        response,
+        name,
+        arguments,
+        many: target.many,
+        types,
+        identified,
+        open_type: is_abstract(schema, target.base),
+        connection,
+        child: NormalPlan { steps: child },
+    })
+}
+
+/// The steps of nodes.
+#[cycle(steps)]
+pub(crate) fn make_steps<'a>(
+    alloc: Global,
+    schema: &'a Schema,
+    kept: &mut Kept<'a>,
+    types: &Ids,
+    nodes: &Nodes,
+) -> Result<NormalSteps, NoMemory>
+    requires { IsRight schema.now kept.old }
+    ensures right { OnOk result (IsRight schema.now kept.new) }
+    ensures put { IfOk result (λ steps. steps ≡ spec.steps_of schema.now types.now nodes.now) }
+{
+    let mut steps = NormalSteps::new(alloc);
+    put_nodes(alloc, schema, kept, types, nodes, &mut steps)?;
+    Ok(steps)
+}
+
+/// Puts the steps of nodes.
+#[cycle(steps)]
+fn put_nodes<'a>(
+    alloc: Global,
+    schema: &'a Schema,
+    kept: &mut Kept<'a>,
+    types: &Ids,
+    nodes: &Nodes,
+    steps: &mut NormalSteps,
+) -> Result<(), NoMemory>
+    requires { IsRight schema.now kept.old }
+    ensures right { OnOk result (IsRight schema.now kept.new) }
+    ensures put { OnOk result (steps.new ≡ normal_append steps.old (spec.steps_of schema.now types.now nodes.now)) }
+{
+    'nodes: for node in nodes.as_slice() {
+        put_node(alloc, schema, kept, types, node, steps)?;
+    }
+    Ok(())
+}
+
+/// Puts the steps of a node.
+#[cycle(steps)]
+fn put_node<'a>(
+    alloc: Global,
+    schema: &'a Schema,
+    kept: &mut Kept<'a>,
+    types: &Ids,
+    node: &Node,
+    steps: &mut NormalSteps,
+) -> Result<(), NoMemory>
+    requires { IsRight schema.now kept.old }
+    ensures right { OnOk result (IsRight schema.now kept.new) }
+    ensures put { OnOk result (steps.new ≡ normal_append steps.old (spec.steps_of schema.now types.now (node_of node.now))) }
+{
+    match node {
+        Node::Field {
+            response,
+            name,
+            arguments,
+            directives,
+            connection,
+            selections,
+            ..
+        } => {
+            let field = Field {
+                response,
+                name,
+                arguments,
+                connection,
+                selections,
+            };
+            put_field(alloc, schema, kept, types, directives, &field, steps)
+        }
+        Node::Inline {
+            on,
+            directives,
+            selections,
+            ..
+        } => put_inline(
+            alloc, schema, kept, types, on, directives, selections, steps,
+        ),
+    }
+}
+
+/// Puts the steps of a field, behind its conditions.
+#[cycle(steps)]
+fn put_field<'a>(
+    alloc: Global,
+    schema: &'a Schema,
+    kept: &mut Kept<'a>,
+    types: &Ids,
+    directives: &Directives,
+    field: &Field<'_>,
+    steps: &mut NormalSteps,
+) -> Result<(), NoMemory>
+    requires { IsRight schema.now kept.old }
+    ensures right { OnOk result (IsRight schema.now kept.new) }
+    ensures put { OnOk result (steps.new ≡ normal_append steps.old (spec.behind None (tests.conditions_of directives.now)
+        (spec.field_steps schema.now types.now (field_view field.now) (λ us. spec.steps_of schema.now us field.now.selections.now)))) }
+{
+    let conditions = conditions_of(alloc, directives)?;
+    if conditions.is_empty() {
+        return put_field_steps(alloc, schema, kept, types, field, steps);
+    }
+    let mut inside = NormalSteps::new(alloc);
+    put_field_steps(alloc, schema, kept, types, field, &mut inside)?;
+    steps.push(behind(None, conditions, inside))
+}
+
+/// Puts the steps of a field: one for each class of the object types.
+#[cycle(steps)]
+fn put_field_steps<'a>(
+    alloc: Global,
+    schema: &'a Schema,
+    kept: &mut Kept<'a>,
+    types: &Ids,
+    field: &Field<'_>,
+    steps: &mut NormalSteps,
+) -> Result<(), NoMemory>
+    requires { IsRight schema.now kept.old }
+    ensures right { OnOk result (IsRight schema.now kept.new) }
+    ensures put { OnOk result (steps.new ≡ normal_append steps.old
+        (spec.field_steps schema.now types.now (field_view field.now) (λ us. spec.steps_of schema.now us field.now.selections.now))) }
+{
+    if field.name.as_str() == "__typename" {
+        let response = field.response.copy()?;
+        return steps.push(NormalStep::Typename { response });
+    }
+    if let Some(target) = one_target(schema, types, field.name.as_str()) {
+        return put_target(alloc, schema, kept, &target, field, steps);
+    }
+    let classes = classes_of(alloc, schema, types, field.name.as_str())?;
+    put_classes(alloc, schema, kept, &classes, field, steps)
+}
+
+/// Puts a step for each class; one class alone wants no guard.
+#[cycle(steps)]
+fn put_classes<'a>(
+    alloc: Global,
+    schema: &'a Schema,
+    kept: &mut Kept<'a>,
+    classes: &[Class<'a>],
+    field: &Field<'_>,
+    steps: &mut NormalSteps,
+) -> Result<(), NoMemory>
+    requires { IsRight schema.now kept.old }
+    ensures right { OnOk result (IsRight schema.now kept.new) }
+    ensures put { OnOk result (steps.new ≡ normal_append steps.old (spec.class_steps
+        (spec.target_step schema.now (field_view field.now) (λ us. spec.steps_of schema.now us field.now.selections.now)) (map class_view classes.now))) }
+{
+    if classes.len() == 1 {
+        return put_target(alloc, schema, kept, &classes[0].target, field, steps);
+    }
+    'classes: for class in classes {
+        put_class(alloc, schema, kept, class, field, steps)?;
+    }
+    Ok(())
+}
+
+/// Puts the step of a class behind the guard of its types.
+#[cycle(steps)]
+fn put_class<'a>(
+    alloc: Global,
+    schema: &'a Schema,
+    kept: &mut Kept<'a>,
+    class: &Class<'a>,
+    field: &Field<'_>,
+    steps: &mut NormalSteps,
+) -> Result<(), NoMemory>
+    requires { IsRight schema.now kept.old }
+    ensures right { OnOk result (IsRight schema.now kept.new) }
+    ensures put { OnOk result (steps.new ≡ normal_append steps.old (spec.guarded_classes
+        (spec.target_step schema.now (field_view field.now) (λ us. spec.steps_of schema.now us field.now.selections.now)) (class_view class.now ∷ []))) }
+{
+    let mut inside = NormalSteps::new(alloc);
+    put_target(alloc, schema, kept, &class.target, field, &mut inside)?;
+    let types = class.types.copy()?;
+    let conditions = Conditions::new(alloc);
+    steps.push(behind(Some(types), conditions, inside))
+}
+
+/// Puts the step of a field that leads to this target.
+#[cycle(steps)]
+fn put_target<'a>(
+    alloc: Global,
+    schema: &'a Schema,
+    kept: &mut Kept<'a>,
+    target: &Target<'a>,
+    field: &Field<'_>,
+    steps: &mut NormalSteps,
+) -> Result<(), NoMemory>
+    requires { IsRight schema.now kept.old }
+    ensures right { OnOk result (IsRight schema.now kept.new) }
+    ensures put { OnOk result (steps.new ≡ normal_append steps.old
+        (spec.target_step schema.now (field_view field.now) (λ us. spec.steps_of schema.now us field.now.selections.now) (target_view target.now))) }
+{
+    if !schema.is_composite(target.base) {
+        return put_leaf(field, steps);
+    }
+    let below = schema.possible(target.base);
+    let child = make_steps(alloc, schema, kept, below, field.selections)?;
+    put_object_step(alloc, schema, kept, field, target, child, steps)
+}
+
+/// Puts the steps of an inline fragment.
+#[cycle(steps)]
+fn put_inline<'a>(
+    alloc: Global,
+    schema: &'a Schema,
+    kept: &mut Kept<'a>,
+    types: &Ids,
+    on: &Option<Name>,
+    directives: &Directives,
+    selections: &Nodes,
+    steps: &mut NormalSteps,
+) -> Result<(), NoMemory>
+    requires { IsRight schema.now kept.old }
+    ensures right { OnOk result (IsRight schema.now kept.new) }
+    ensures put { OnOk result (steps.new ≡ normal_append steps.old (spec.inline_steps schema.now types.now on.now (tests.conditions_of directives.now)
+        (λ us. spec.steps_of schema.now us selections.now))) }
+{
+    let conditions = conditions_of(alloc, directives)?;
+    match on {
+        Some(on) => put_on(
+            alloc, schema, kept, types, on, conditions, selections, steps,
+        ),
+        None => put_inside(alloc, schema, kept, types, conditions, selections, steps),
+    }
+}
+
+/// Puts the steps of an inline fragment on a type.
+#[cycle(steps)]
+fn put_on<'a>(
+    alloc: Global,
+    schema: &'a Schema,
+    kept: &mut Kept<'a>,
+    types: &Ids,
+    on: &Name,
+    conditions: Conditions,
+    selections: &Nodes,
+    steps: &mut NormalSteps,
+) -> Result<(), NoMemory>
+    requires { IsRight schema.now kept.old }
+    ensures right { OnOk result (IsRight schema.now kept.new) }
+    ensures put { OnOk result (steps.new ≡ normal_append steps.old (spec.inline_steps schema.now types.now (Some on.now) conditions (λ us. spec.steps_of schema.now us selections.now))) }
+{
+    if !schema.is_composite(on.as_str()) {
+        return Ok(());
+    }
+    let ids = schema.possible(on.as_str());
+    if are_within(types, ids) {
+        return put_inside(alloc, schema, kept, types, conditions, selections, steps);
+    }
+    if is_one(types) {
+        return Ok(());
+    }
+    let inside = make_steps(alloc, schema, kept, ids, selections)?;
+    let guard = ids.copy()?;
+    steps.push(behind(Some(guard), conditions, inside))
+}
+
+/// Puts the steps of nodes behind conditions.
+#[cycle(steps)]
+fn put_inside<'a>(
+    alloc: Global,
+    schema: &'a Schema,
+    kept: &mut Kept<'a>,
+    types: &Ids,
+    conditions: Conditions,
+    selections: &Nodes,
+    steps: &mut NormalSteps,
+) -> Result<(), NoMemory>
+    requires { IsRight schema.now kept.old }
+    ensures right { OnOk result (IsRight schema.now kept.new) }
+    ensures put { OnOk result (steps.new ≡ normal_append steps.old (spec.behind None conditions (spec.steps_of schema.now types.now selections.now))) }
+{
+    if conditions.is_empty() {
+        return put_nodes(alloc, schema, kept, types, selections, steps);
+    }
+    let inside = make_steps(alloc, schema, kept, types, selections)?;
+    steps.push(behind(None, conditions, inside))
+}
