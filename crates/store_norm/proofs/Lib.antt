@@ -1,0 +1,10 @@
+pub mod CacheSteps
+pub mod EachReport
+pub mod FieldSteps
+pub mod FormedSteps
+pub mod HandleKeys
+pub mod NamedReports
+pub mod Plains
+pub mod Reports
+pub mod TypeNameKeys
+pub mod WalkSteps

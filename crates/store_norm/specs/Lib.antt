@@ -1,0 +1,5 @@
+pub mod CacheFalls
+pub mod CacheView
+pub mod Caching
+pub mod MadeView
+pub mod Walk

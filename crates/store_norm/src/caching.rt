@@ -1,0 +1,108 @@
+//! Making the groups that plans ask of objects, once for each type.
+ghost use Rattle.std.specs.Prelude.{◌≡◌, map, IfOk};
+ghost use Rattle.plan_groups.specs.FieldView.{plan_at};
+ghost use Rattle.store_norm.specs.CacheView.{AreRight, IsPlaceOf, IsRight, IsTypeAt};
+ghost use Rattle.store_norm.specs.Caching.{caches};
+
+use crate::cache::{GroupCache, TypeGroups};
+use gql_plain::NoMemory;
+use plan_groups::{GroupAt, Groups, PlanAt};
+use std::alloc::Global;
+use std::collections::BTreeMap;
+
+impl<'p> GroupCache<'p> {
+    /// What these plans ask; nothing is made yet.
+    fn new(alloc: Global, plans: &[PlanAt<'p>], levels: usize) -> Result<GroupCache<'p>, NoMemory>
+        ensures { IfOk result (λ cache. cache ≡ record { parts = map plan_at plans.now; levels = levels }) }
+    {
+        let mut parts = Vec::with_capacity(alloc, plans.len())?;
+        'plans: for plan in plans {
+            parts.push(*plan)?;
+        }
+        Ok(GroupCache {
+            parts,
+            levels,
+            places: BTreeMap::new(alloc),
+            types: Vec::new(alloc),
+        })
+    }
+}
+
+/// For each group what lies below it; nothing is made yet.
+pub(crate) fn caches_below<'p>(
+    alloc: Global,
+    groups: &[GroupAt<'p>],
+    levels: usize,
+) -> Result<Vec<GroupCache<'p>>, NoMemory>
+    ensures { IfOk result (λ below. below.items ≡ caches levels groups.now) }
+{
+    let mut below = Vec::with_capacity(alloc, groups.len())?;
+    'groups: for group in groups {
+        below.push(GroupCache::new(alloc, group.parts(), levels)?)?;
+    }
+    Ok(below)
+}
+
+/// The place of the groups that plans ask of an object of a type, which are made where they are not
+/// there yet. With n types there, it takes about log n steps.
+pub(crate) fn place_of<'p>(
+    alloc: Global,
+    plans: &[PlanAt<'p>],
+    levels: usize,
+    places: &mut BTreeMap<&'p str, usize>,
+    types: &mut Vec<TypeGroups<'p>>,
+    name: &'p str,
+) -> Result<usize, NoMemory>
+    requires { AreRight (map plan_at plans.now) levels types.old.items }
+    ensures right { AreRight (map plan_at plans.now) levels types.new.items }
+    ensures place { IfOk result (λ at. IsTypeAt types.new.items at name.now) }
+{
+    if let Some(place) = known_place(places, types, name) {
+        return Ok(place);
+    }
+    let made = groups_of_type(alloc, plans, levels, name)?;
+    let place = types.len();
+    drop(places.insert(name, place)?);
+    types.push(made)?;
+    Ok(place)
+}
+
+/// The place of the groups of a type, where they are there; takes no memory.
+fn known_place(
+    places: &BTreeMap<&str, usize>,
+    types: &[TypeGroups<'_>],
+    name: &str,
+) -> Option<usize>
+    ensures { IsPlaceOf types.now name.now result }
+{
+    let place = *places.get(name)?;
+    if place >= types.len() {
+        return None;
+    }
+    if types[place].name == name {
+        return Some(place);
+    }
+    None
+}
+
+/// The groups that plans ask of an object of a type; nothing is made below.
+fn groups_of_type<'p>(
+    alloc: Global,
+    plans: &[PlanAt<'p>],
+    levels: usize,
+    name: &'p str,
+) -> Result<TypeGroups<'p>, NoMemory>
+    ensures right { IfOk result (λ made. IsRight (map plan_at plans.now) levels made) }
+    ensures named { IfOk result (λ made. made.name.now ≡ name.now) }
+{
+    let Some(levels) = levels.checked_sub(1) else {
+        return Err(NoMemory);
+    };
+    let groups = Groups::of(alloc, name, plans)?;
+    let below = caches_below(alloc, groups.as_slice(), levels)?;
+    Ok(TypeGroups {
+        name,
+        groups,
+        below,
+    })
+}

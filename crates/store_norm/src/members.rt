@@ -1,0 +1,13 @@
+//! The members of JSON objects.
+ghost use Rattle.std.specs.Prelude.{◌≡◌, option_map};
+ghost use Rattle.serde_json.specs.Find.{get_member};
+ghost use Rattle.serde_json.specs.View.{view, members_view};
+
+use serde_json::{Map, Value};
+
+/// The value of a key; takes no memory.
+pub(crate) fn member<'r>(members: &'r Map<String, Value>, key: &str) -> Option<&'r Value>
+    ensures { option_map (λ v. view v.now) result ≡ get_member key.now (members_view members.now.entries) }
+{
+    members.get(key)
+}
