@@ -1,5 +1,4 @@
 pub mod CommandLists
 pub mod Lines
 pub mod OnlyMembers
-pub mod Plains
 pub mod Reading

@@ -11,6 +11,7 @@ use Rattle.plan_build.specs.NodesMeaning.{Set, ask_of_node, collect_nodes, colle
 use Rattle.plan_ir.specs.Expansion.{expansion, name_or, operation_from, spreads_in, whole_operation}
 use Rattle.plan_ir.specs.Nodes.{Nodes, end, field, inline, nodes_append}
 use Rattle.plan_ir.specs.Substitution.{operation_scope}
+use Rattle.plan_text.proofs.Collects.{nodes_append-end, sels_append-end}
 use Rattle.plan_text.specs.Collecting.{Around, applies, is_left_out, with_additions}
 use Rattle.plan_text.specs.Printed.{printed_selections}
 use Rattle.relay_model.specs.Collection.{Part, ask_of, collect, collect_in, collect_with, part_of}
@@ -125,17 +126,6 @@ kept : (w : Around) → Keeps (AllCome w) (AllCome w) (collect (setting w)) (col
 kept w =
     items_keep (collect (setting w)) (collect_nodes w.project.defs) Always (Comes w) (Comes w)
     (λ T types fs here always. always_holds (collect (setting w)) T fs) (λ T types fs gs here always h. parts_items w T fs gs h)
-
-nodes_append-end : (s : Nodes) → nodes_append s end ≡ s
-nodes_append-end end = refl
-nodes_append-end (field r n xs ds c of s p rest) = ap (field r n xs ds c of s p) (nodes_append-end rest)
-nodes_append-end (inline o ds s p rest) = ap (inline o ds s p) (nodes_append-end rest)
-
-sels_append-end : (s : Sels) → sels_append s sels.end ≡ s
-sels_append-end sels.end = refl
-sels_append-end (sels.field a n xs ds s rest) = ap (sels.field a n xs ds s) (sels_append-end rest)
-sels_append-end (sels.spread n ds rest) = ap (sels.spread n ds) (sels_append-end rest)
-sels_append-end (sels.inline o ds s rest) = ap (sels.inline o ds s) (sels_append-end rest)
 
 operation_comes : (w : Around) (o : OperationAt) → Comes w (part_of (setting w) o) (record { environment = w.own; nodes = (whole_operation w.project o).expanded.selections })
 operation_comes w o =

@@ -8,7 +8,7 @@ use Rattle.gql_ast.specs.Sels.{Sels, sels_append}
 use Rattle.gql_ast.specs.declared.directive.Directive.{Directive}
 use Rattle.gql_plain.specs.declared.ids.Conn.{Conn}
 use Rattle.plan_build.proofs.BareNodes.{AreBare, all_bare}
-use Rattle.plan_build.proofs.Substituted.{arguments-substituted, left-substituted, not_printed}
+use Rattle.plan_build.proofs.Substituted.{arguments-substituted, left-substituted}
 use Rattle.plan_build.specs.NodesMeaning.{Set, ask_of_node, collect_nodes_in}
 use Rattle.plan_ir.specs.Additions.{additions, type_or}
 use Rattle.plan_ir.specs.Expansion as expansions
@@ -16,6 +16,7 @@ use Rattle.plan_ir.specs.Expansion.{enter_with, expansion, expansion_with, is_co
 use Rattle.plan_ir.specs.Nodes.{Nodes, end, field, inline, nodes_append}
 use Rattle.plan_ir.specs.Substitution.{Arguments, Scope, scope_at_spread, substitute_in}
 use Rattle.plan_text.proofs.AddedFields.{all_added}
+use Rattle.plan_text.proofs.Collects.{not_printed}
 use Rattle.plan_text.proofs.Evaluating.{Means, means_inside}
 use Rattle.plan_text.specs.Collecting.{Around, applies, environment_inside, fragment_selections, is_left_out, with_additions}
 use Rattle.plan_text.specs.Printed.{alias_of, printed_arguments, printed_directives, printed_selections}

@@ -1,10 +1,10 @@
 -- Arguments and directives whose local variables gave way: they have the values of those that are written, and leave out the same selections.
 use Rattle.std.proofs.Common.{◌≡◌, Bool, true, false, cond, not, ◌&&◌, ◌||◌, List, [], ◌∷◌, map, codes, bytes_eq, refl, sym, ap, ◌∙◌}
-use Rattle.std.proofs.lemmas.Slice.Eq.{bytes_eq-Decides}
 use Rattle.std.specs.List.{filter}
 use Rattle.gql_ast.specs.declared.directive.Directive.{Directive}
 use Rattle.plan_ir.specs.Expansion.{directives_such, is_condition, is_printed}
 use Rattle.plan_ir.specs.Substitution.{Arguments, Scope, substitute_in}
+use Rattle.plan_text.proofs.Collects.{no_condition}
 use Rattle.plan_text.proofs.Evaluating.{Means, value-substituted}
 use Rattle.plan_text.specs.Collecting.{is_left_out, leaves_out}
 use Rattle.schema_tables.specs.Types.{Text}
@@ -13,24 +13,6 @@ use Rattle.schema_types.specs.Environments.{Values, arguments_in_environment, is
 -- a directive by its name and the values of its arguments
 abbrev leaves_by : Text → Values → Bool
 leaves_by n xs = (bytes_eq n (codes "skip") && is_true (value_in xs (codes "if"))) || (bytes_eq n (codes "include") && not (is_true (value_in xs (codes "if"))))
-
-no_condition : (a b c : Bool) → (a || b) ≡ false → ((a && c) || (b && not c)) ≡ false
-no_condition true b c e = cc
-no_condition false true c e = cc
-no_condition false false c e = refl
-
--- what is not printed is no condition
-pub not_printed : (n : Text) → is_printed n ≡ false → is_condition n ≡ false
-not_printed n e = at (bytes_eq n (codes "skip")) refl (bytes_eq n (codes "include")) refl
-  where
-    at : (a : Bool) → bytes_eq n (codes "skip") ≡ a → (b : Bool) → bytes_eq n (codes "include") ≡ b → (a || b) ≡ false
-    at true f b g =
-        let hidden : is_printed (codes "skip") ≡ false = ap is_printed (sym ((bytes_eq-Decides n (codes "skip")).0 f)) ∙ e in
-        cc
-    at false f true g =
-        let hidden : is_printed (codes "include") ≡ false = ap is_printed (sym ((bytes_eq-Decides n (codes "include")).0 g)) ∙ e in
-        cc
-    at false f false g = refl
 
 module _ (own env : Values) (scope : Scope) (means : Means own scope env) where
   pub arguments-substituted : (xs : Arguments) → arguments_in_environment own (substitute_in scope xs) ≡ arguments_in_environment env xs

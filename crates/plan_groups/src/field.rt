@@ -8,11 +8,10 @@ ghost use Rattle.store_model.specs.Reaches.{types_of};
 ghost use Rattle.store_model.specs.Says.{first_of};
 ghost use Rattle.plan_groups.specs.FieldView.{ask_at, asked_at, form_at, plan_at};
 
-use crate::arguments::evaluate_arguments;
 use gql_ast::Arguments;
 use gql_plain::{Conn, Ids, Name, NoMemory, Pairs, Words};
 use plan_ir::{NormalPlan, NormalSteps};
-use schema_values::Env;
+use schema_values::{Env, evaluate_arguments};
 use std::alloc::Global;
 use store_record::field_key;
 

@@ -5,7 +5,6 @@
 //! operation's variables, a `GroupAt` the fields of one response key, and `Groups` their list.
 #![tactic(auto)]
 
-mod arguments;
 pub mod field;
 mod gathered;
 pub mod group;

@@ -28,13 +28,13 @@ use Rattle.schema_types.specs.Sites.{FragmentAt, arguments_nodes, below, conditi
 abbrev leaves_by : Text → Values → Bool
 leaves_by n xs = (bytes_eq n (codes "skip") && is_true (value_in xs (codes "if"))) || (bytes_eq n (codes "include") && not (is_true (value_in xs (codes "if"))))
 
-no_condition : (a b c : Bool) → (a || b) ≡ false → ((a && c) || (b && not c)) ≡ false
+pub no_condition : (a b c : Bool) → (a || b) ≡ false → ((a && c) || (b && not c)) ≡ false
 no_condition true b c e = cc
 no_condition false true c e = cc
 no_condition false false c e = refl
 
 -- what is not printed is no condition
-not_printed : (n : Text) → is_printed n ≡ false → is_condition n ≡ false
+pub not_printed : (n : Text) → is_printed n ≡ false → is_condition n ≡ false
 not_printed n e = at (bytes_eq n (codes "skip")) refl (bytes_eq n (codes "include")) refl
   where
     at : (a : Bool) → bytes_eq n (codes "skip") ≡ a → (b : Bool) → bytes_eq n (codes "include") ≡ b → (a || b) ≡ false
@@ -86,14 +86,14 @@ zip-map r s f (x ∷ xs) [] h = absurd h
 zip-map r s f (x ∷ xs) (y ∷ ys) h = (f x y h.0, zip-map r s f xs ys h.1)
 
 -- what one condition leaves out, and what is behind it
-zip-kept : {A B : Type 0} (r : A → B → Type 0) (b c : Bool) → c ≡ b → (xs : List A) (ys : List B) (zs : List A) (ws : List B) → AllZip r xs ys → AllZip r zs ws
+pub zip-kept : {A B : Type 0} (r : A → B → Type 0) (b c : Bool) → c ≡ b → (xs : List A) (ys : List B) (zs : List A) (ws : List B) → AllZip r xs ys → AllZip r zs ws
     → AllZip r (cond b [] xs ++ zs) (cond c [] ys ++ ws)
 zip-kept r true true e xs ys zs ws h k = k
 zip-kept r true false e xs ys zs ws h k = absurd cc
 zip-kept r false true e xs ys zs ws h k = absurd cc
 zip-kept r false false e xs ys zs ws h k = zip-append r xs ys zs ws h k
 
-zip-where : {A B : Type 0} (r : A → B → Type 0) (b : Bool) (xs : List A) (ys : List B) → AllZip r xs ys → AllZip r (cond b xs []) (cond b ys [])
+pub zip-where : {A B : Type 0} (r : A → B → Type 0) (b : Bool) (xs : List A) (ys : List B) → AllZip r xs ys → AllZip r (cond b xs []) (cond b ys [])
 zip-where r true xs ys h = h
 zip-where r false xs ys h = tt
 
@@ -371,12 +371,12 @@ collect_the_same w (suc n) fs gs h = λ T.
     })
     (groups_at w T fs) (groups_at w T gs) (grouped-same w (collect_parts w T fs) (collect_parts w T gs) (parts_items w T fs gs h) [] [] tt)
 
-nodes_append-end : (s : Nodes) → nodes_append s end ≡ s
+pub nodes_append-end : (s : Nodes) → nodes_append s end ≡ s
 nodes_append-end end = refl
 nodes_append-end (field r n xs ds c of s p rest) = ap (field r n xs ds c of s p) (nodes_append-end rest)
 nodes_append-end (inline o ds s p rest) = ap (inline o ds s p) (nodes_append-end rest)
 
-sels_append-end : (s : Sels) → sels_append s sels.end ≡ s
+pub sels_append-end : (s : Sels) → sels_append s sels.end ≡ s
 sels_append-end sels.end = refl
 sels_append-end (sels.field a n xs ds s rest) = ap (sels.field a n xs ds s) (sels_append-end rest)
 sels_append-end (sels.spread n ds rest) = ap (sels.spread n ds) (sels_append-end rest)

@@ -20,6 +20,18 @@ pub fn evaluate(alloc: Global, value: &ValueTree, env: &Env) -> Result<Plain, No
     evaluate_under(alloc, value, &env.values)
 }
 
+/// What arguments are in an environment, in byte order of their names; of several of one name the
+/// last counts.
+pub fn evaluate_arguments(
+    alloc: Global,
+    arguments: &Arguments,
+    env: &Env,
+) -> Result<Pairs, NoMemory>
+    ensures { IfOk result (λ values. values ≡ environments.arguments_in_environment env.now.values arguments.now) }
+{
+    object_under(alloc, arguments, &env.values)
+}
+
 /// What a value is under values of variables.
 #[cycle(evaluate)]
 #[tactic(auto, using(crate::proofs::Evaluating::levels))]

@@ -11,5 +11,5 @@ mod suited;
 
 pub use env::{Env, VarFault};
 pub use environment::variables;
-pub use evaluated::evaluate;
+pub use evaluated::{evaluate, evaluate_arguments};
 pub use suited::fits;

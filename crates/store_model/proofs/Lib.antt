@@ -22,6 +22,7 @@ pub mod LookedKeys
 pub mod Merged
 pub mod MergeRows
 pub mod PayloadRows
+pub mod Plains
 pub mod SameItems
 pub mod SameReach
 pub mod SameRead

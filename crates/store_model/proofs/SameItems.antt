@@ -30,11 +30,11 @@ zip_append r [] (y ∷ ys) more others a b = absurd a
 zip_append r (x ∷ xs) [] more others a b = absurd a
 zip_append r (x ∷ xs) (y ∷ ys) more others a b = (a.0, zip_append r xs ys more others a.1 b)
 
-zip_either : {X Y : Type 0} (r : X → Y → Type 0) (b : Bool) (xs more : List X) (ys others : List Y) → AllZip r xs ys → AllZip r more others → AllZip r (cond b xs more) (cond b ys others)
+pub zip_either : {X Y : Type 0} (r : X → Y → Type 0) (b : Bool) (xs more : List X) (ys others : List Y) → AllZip r xs ys → AllZip r more others → AllZip r (cond b xs more) (cond b ys others)
 zip_either r true xs more ys others here later = here
 zip_either r false xs more ys others here later = later
 
-zip_cond : {X Y : Type 0} (r : X → Y → Type 0) (b c : Bool) → b ≡ c → (xs more : List X) (ys others : List Y) → AllZip r xs ys → AllZip r more others → AllZip r (cond b xs more) (cond c ys others)
+pub zip_cond : {X Y : Type 0} (r : X → Y → Type 0) (b c : Bool) → b ≡ c → (xs more : List X) (ys others : List Y) → AllZip r xs ys → AllZip r more others → AllZip r (cond b xs more) (cond c ys others)
 zip_cond r b c e xs more ys others here later = subst (λ d. AllZip r (cond b xs more) (cond d ys others)) e (zip_either r b xs more ys others here later)
 
 each_so : {X : Type 0} (P Q : X → Type 0) (xs : List X) → ((x : X) → P x → Q x) → AllByRecursion P xs → AllByRecursion Q xs

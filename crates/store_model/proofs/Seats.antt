@@ -63,10 +63,10 @@ steps_total = record { antisymm = turned; trans = onward; congr = alike }
     alike (Index i) (Index j) (Key c) e = refl
     alike (Index i) (Index j) (Index k) e = nat_cmp_total.congr i j k e
 
-paths_total : IsTotalOrder path_cmp
+pub paths_total : IsTotalOrder path_cmp
 paths_total = lists_total steps_total
 
-puts_total : IsTotalOrder put_cmp
+pub puts_total : IsTotalOrder put_cmp
 puts_total = record {
   antisymm = λ x y. paths_total.antisymm x.path y.path;
   trans = λ x y z. paths_total.trans x.path y.path z.path;
@@ -130,7 +130,7 @@ module _ {A : Type 0} (cmp : A → A → Ordering) (o : IsTotalOrder cmp) where
 -- ---- members that pass a test
 
 module _ {A : Type 0} (test : A → Bool) where
-  among_where : (x : A) (xs : List A) → Among x (where_so test xs) → Among x xs × (test x ≡ true)
+  pub among_where : (x : A) (xs : List A) → Among x (where_so test xs) → Among x xs × (test x ≡ true)
   among_where x [] h = absurd h
   among_where x (y ∷ ys) h = at (test y) refl h (among_where x ys)
     where
@@ -139,7 +139,7 @@ module _ {A : Type 0} (test : A → Bool) where
       at true e (inr there) rest = (inr (rest there).0, (rest there).1)
       at false e there rest = (inr (rest there).0, (rest there).1)
 
-  where_among : (x : A) (xs : List A) → Among x xs → test x ≡ true → Among x (where_so test xs)
+  pub where_among : (x : A) (xs : List A) → Among x xs → test x ≡ true → Among x (where_so test xs)
   where_among x [] h e = absurd h
   where_among x (y ∷ ys) h e = at (test y) refl h (λ there. where_among x ys there e)
     where

@@ -4,7 +4,6 @@ pub mod FieldSteps
 pub mod FormedSteps
 pub mod HandleKeys
 pub mod NamedReports
-pub mod Plains
 pub mod Reports
 pub mod TypeNameKeys
 pub mod WalkSteps

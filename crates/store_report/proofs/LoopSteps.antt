@@ -1,9 +1,10 @@
 -- One more fact of a loop over facts in order.
 use Rattle.std.proofs.Common.{◌≡◌, ℕ, ◌+◌, ◌<◌, Bool, true, false, cond, List, ◌∷◌, length, map, drop, get_or, Option, Some, None, refl, sym, ap, ◌∙◌}
 use Rattle.std.proofs.lemmas.List.{drop_more}
+use Rattle.store_model.proofs.Seats.{puts_total}
 use Rattle.store_model.specs.Says.{Put}
 use Rattle.store_model.specs.Verdicts.{least, put_cmp, where_so}
-use Rattle.store_report.proofs.Orders.{puts_total, some_assoc}
+use Rattle.store_report.proofs.Orders.{some_assoc}
 use Rattle.store_report.specs.Gathering.{lesser_some}
 use Rattle.store_report.specs.SaidFacts.{put_of, clashes, clash_from}
 use Rattle.store_report.specs.declared.said.SaidFact.{SaidFact}

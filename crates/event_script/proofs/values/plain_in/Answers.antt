@@ -1,5 +1,5 @@
 use Rattle.serde_json.specs.View.{view}
-use Rattle.event_script.proofs.Plains.{plain_known}
+use Rattle.store_model.proofs.Plains.{plain_known}
 use Rattle.event_script.proofs.values.plain_in.Goals as goal
 
 pub returns-in-Ok : goal.returns-in-Ok

@@ -2,7 +2,7 @@
 use Rattle.std.proofs.Common.{ap}
 use Rattle.serde_json.specs.View.{view}
 use Rattle.store_model.specs.Says.{leaf_of}
-use Rattle.store_norm.proofs.Plains.{plain_known}
+use Rattle.store_model.proofs.Plains.{plain_known}
 use Rattle.store_norm.proofs.leaves.leaf.Goals as goal
 
 pub returns-in-Ok-clause-field : goal.returns-in-Ok-clause-field
