@@ -61,7 +61,7 @@ pub(crate) fn is_shown(name: &str, is_spread: bool) -> bool
 }
 
 /// Those that are printed, with local variables replaced. A spread prints its conditions alone.
-pub(crate) fn print_directives(
+pub fn print_directives(
     alloc: Global,
     scope: &Scope<'_, '_>,
     directives: &Directives,

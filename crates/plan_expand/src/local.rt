@@ -8,8 +8,8 @@ use gql_ast::ValueTree;
 
 /// A local variable: its default, where it has one.
 #[derive(Drop)]
-pub(crate) struct Local {
-    pub(crate) default: Option<ValueTree>,
+pub struct Local {
+    pub default: Option<ValueTree>,
     /// That of the default, or of `null` where there is none.
     pub(crate) size: Size,
     ghost counted: { size.count ≡ (default_size (option_map value_of default)).count },

@@ -23,7 +23,7 @@ use std::collections::BTreeMap;
 
 /// The local variables of a fragment by their names. Of several of one name the first counts.
 #[derive(Drop)]
-pub(crate) struct Locals<'a> {
+pub struct Locals<'a> {
     by_name: BTreeMap<&'a str, Local>,
 }
 
@@ -101,7 +101,7 @@ impl<'a> Locals<'a> {
     }
 
     /// The local variables that a fragment's directives define.
-    pub(crate) fn of(alloc: Global, directives: &[DirectiveAt<'a>]) -> Result<Locals<'a>, NoMemory>
+    pub fn of(alloc: Global, directives: &[DirectiveAt<'a>]) -> Result<Locals<'a>, NoMemory>
         ensures { IfOk result (λ table. Keeps table (spec.locals_of (map directive_of directives.now))) }
     {
         let mut locals = Locals::new(alloc);
@@ -112,7 +112,7 @@ impl<'a> Locals<'a> {
     }
 
     /// The local variable of a name; takes no memory.
-    pub(crate) fn find(&self, name: &str) -> Option<&Local>
+    pub fn find(&self, name: &str) -> Option<&Local>
         ensures { option_map (λ l. l.now) result ≡ find_local self.now name.now }
     {
         self.by_name.get(name)

@@ -16,13 +16,13 @@ use std::collections::BTreeMap;
 
 /// The values that a spread gives, by the names of the local variables.
 #[derive(Drop)]
-pub(crate) struct Gifts<'a> {
+pub struct Gifts<'a> {
     by_name: BTreeMap<&'a str, ValueTree>,
 }
 
 /// What stands in the place of variables.
 #[derive(Drop)]
-pub(crate) enum Scope<'e, 'a> {
+pub enum Scope<'e, 'a> {
     /// In an operation no variable is a local one.
     Operation,
     /// In a fragment that is expanded by itself: a local variable `x` stands as `:x`.
@@ -71,14 +71,14 @@ impl<'a> Gifts<'a> {
     }
 
     /// The value that is given to the local variable of a name; takes no memory.
-    fn find(&self, name: &str) -> Option<&ValueTree>
+    pub fn find(&self, name: &str) -> Option<&ValueTree>
         ensures { option_map (λ v. value_of v.now) result ≡ find_gift self.now name.now }
     {
         self.by_name.get(name)
     }
 
     /// The value that is given to the local variable of a name, else its default, else null.
-    fn value_or(&self, name: &str, default: &Option<ValueTree>) -> Result<ValueTree, NoMemory>
+    pub fn value_or(&self, name: &str, default: &Option<ValueTree>) -> Result<ValueTree, NoMemory>
         ensures { IfOk result (λ v. value_of v ≡ spec.value_or (find_gift self.now name.now) (option_map value_of default.now)) }
     {
         match self.find(name) {
@@ -131,7 +131,7 @@ impl<'a> Gifts<'a> {
 }
 
 /// What a spread gives.
-fn gifts_at<'a>(
+pub fn gifts_at<'a>(
     alloc: Global,
     scope: &Scope<'_, '_>,
     directives: &'a Directives,
@@ -146,7 +146,7 @@ fn gifts_at<'a>(
 }
 
 /// The scope of a fragment that is spread with these directives, under the scope around it.
-pub(crate) fn scope_at_spread<'e, 'a>(
+pub fn scope_at_spread<'e, 'a>(
     alloc: Global,
     scope: &Scope<'_, '_>,
     locals: &'e Locals<'a>,
@@ -179,7 +179,7 @@ fn value_in(alloc: Global, scope: &Scope<'_, '_>, name: &Name) -> Result<ValueTr
 /// The value with its local variables replaced. What is put in is not looked at again.
 #[cycle(substitute)]
 #[tactic(auto, using(crate::proofs::Substituting::levels))]
-pub(crate) fn substitute(
+pub fn substitute(
     alloc: Global,
     scope: &Scope<'_, '_>,
     value: &ValueTree,
@@ -216,7 +216,7 @@ fn substitute_items(
 
 /// The arguments with the local variables in their values replaced.
 #[cycle(substitute)]
-pub(crate) fn substitute_in(
+pub fn substitute_in(
     alloc: Global,
     scope: &Scope<'_, '_>,
     arguments: &Arguments,

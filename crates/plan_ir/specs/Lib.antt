@@ -16,3 +16,4 @@ pub mod Expansion
 pub mod Sizes
 pub mod OperationText
 pub mod NormalMeaning
+pub mod ReaderMeaning

@@ -11,3 +11,4 @@ pub mod Machine
 pub mod Script
 pub mod Collection
 pub mod Responses
+pub mod Readings
