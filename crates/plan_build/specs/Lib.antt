@@ -2,8 +2,6 @@ pub mod NodesMeaning
 pub mod Suited
 pub mod Plans
 pub mod Laws
-pub mod ReaderSteps
-pub mod ReaderLaws
 pub mod Conditions
 pub mod Classes
 pub mod Steps

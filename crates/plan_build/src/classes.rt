@@ -17,11 +17,11 @@ use std::alloc::Global;
 
 /// What a field leads to.
 #[derive(Clone, Copy)]
-pub(crate) struct Target<'a> {
+pub struct Target<'a> {
     /// The named type of the field.
-    pub(crate) base: &'a str,
+    pub base: &'a str,
     /// Whether the field is a list.
-    pub(crate) many: bool,
+    pub many: bool,
 }
 
 /// A class to which types are still put.
@@ -33,13 +33,13 @@ pub(crate) struct Group<'a> {
 
 /// The object types on which a field leads to one target.
 #[derive(Drop)]
-pub(crate) struct Class<'a> {
-    pub(crate) target: Target<'a>,
-    pub(crate) types: Ids,
+pub struct Class<'a> {
+    pub target: Target<'a>,
+    pub types: Ids,
 }
 
 /// Whether the type is an interface or a union.
-pub(crate) fn is_abstract(schema: &Schema, of: &str) -> bool
+pub fn is_abstract(schema: &Schema, of: &str) -> bool
     ensures { result ≡ additions.is_abstract schema.now of.now }
 {
     matches!(
@@ -119,7 +119,7 @@ fn all_lead_to(schema: &Schema, types: &[Name], name: &str, target: &Target<'_>)
 }
 
 /// What a field leads to, where that is the same on all these types; takes no memory.
-pub(crate) fn one_target<'a>(schema: &'a Schema, types: &Ids, name: &str) -> Option<Target<'a>>
+pub fn one_target<'a>(schema: &'a Schema, types: &Ids, name: &str) -> Option<Target<'a>>
     requires { bytes_eq name.now (codes "__typename") ≡ false }
     ensures { option_map target_view result ≡ spec.one_target schema.now name.now types.now }
 {
@@ -210,7 +210,7 @@ fn class_of<'a>(group: Group<'a>) -> Result<Class<'a>, NoMemory>
 }
 
 /// The classes of a field on these object types, in order of first type.
-pub(crate) fn classes_of<'a>(
+pub fn classes_of<'a>(
     alloc: Global,
     schema: &'a Schema,
     types: &Ids,

@@ -54,7 +54,7 @@ fn put_condition(conditions: &mut Conditions, directive: &Directive) -> Result<(
 }
 
 /// The conditions that directives put, in written order.
-pub(crate) fn conditions_of(alloc: Global, directives: &Directives) -> Result<Conditions, NoMemory>
+pub fn conditions_of(alloc: Global, directives: &Directives) -> Result<Conditions, NoMemory>
     ensures { IfOk result (λ conditions. conditions ≡ spec.conditions_of directives.now) }
 {
     let mut conditions = Conditions::new(alloc);

@@ -12,7 +12,7 @@ use std::collections::BTreeMap;
 
 /// Of types those of the types they may be that have an id; once for each type that was asked for.
 #[derive(Drop)]
-pub(crate) struct Kept<'a> {
+pub struct Kept<'a> {
     by_type: BTreeMap<&'a str, Ids>,
 }
 
@@ -41,7 +41,7 @@ fn identified(alloc: Global, schema: &Schema, of: &str) -> Result<Ids, NoMemory>
 
 impl<'a> Kept<'a> {
     /// Nothing is kept; takes no memory.
-    pub(crate) fn new(alloc: Global) -> Kept<'a>
+    pub fn new(alloc: Global) -> Kept<'a>
         ensures { (defs : types.Defs) → IsRight defs result }
     {
         Kept {
@@ -67,7 +67,7 @@ impl<'a> Kept<'a> {
     }
 
     /// Those of the types that a type may be that have an id: one more owner of what is kept.
-    pub(crate) fn identified(
+    pub fn identified(
         &mut self,
         alloc: Global,
         schema: &Schema,

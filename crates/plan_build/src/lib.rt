@@ -1,11 +1,11 @@
 //! Plans by which responses are normalized (this project's own).
 #![tactic(auto)]
 
-mod classes;
-mod conditions;
-mod kept;
+pub mod classes;
+pub mod conditions;
+pub mod kept;
 pub mod laws;
 pub mod normal;
-mod steps;
+pub mod steps;
 
 pub use normal::normal_plan;

@@ -11,7 +11,7 @@ use schema_types::Schema;
 use std::alloc::Global;
 
 /// The list of one type.
-fn one_type(alloc: Global, name: &Name) -> Result<Ids, NoMemory>
+pub fn one_type(alloc: Global, name: &Name) -> Result<Ids, NoMemory>
     ensures { IfOk result (λ ids. ids ≡ name.now ∷ []) }
 {
     let mut names = Vec::new(alloc);

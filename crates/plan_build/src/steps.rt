@@ -29,7 +29,7 @@ pub(crate) struct Field<'a> {
 }
 
 /// The same connection, or none where there is none.
-fn copy_of_conn(conn: &Option<Conn>) -> Result<Option<Conn>, NoMemory>
+pub fn copy_of_conn(conn: &Option<Conn>) -> Result<Option<Conn>, NoMemory>
     ensures { IfOk result (λ copy. copy ≡ conn.now) }
 {
     match conn {
@@ -39,7 +39,7 @@ fn copy_of_conn(conn: &Option<Conn>) -> Result<Option<Conn>, NoMemory>
 }
 
 /// Whether each type is one of these.
-fn are_within(types: &Ids, ids: &Ids) -> bool
+pub fn are_within(types: &Ids, ids: &Ids) -> bool
     ensures { result ≡ spec.are_within ids.now types.now }
 {
     'types: for name in types.as_slice() {
@@ -51,7 +51,7 @@ fn are_within(types: &Ids, ids: &Ids) -> bool
 }
 
 /// Whether it is one type.
-fn is_one(types: &Ids) -> bool
+pub fn is_one(types: &Ids) -> bool
     ensures { result ≡ spec.is_one types.now }
 {
     matches!(types.as_slice(), [_])
