@@ -1,16 +1,15 @@
 -- Reading along the syntax trees of documents, by the masked form of collection: what an operation shows at an id, and what a fragment does.
-use Rattle.std.specs.Prelude.{ℕ, zero, suc, ◌+◌, false, cond, List, [], ◌∷◌, ◌++◌, codes, Option, Some, None, bytes_eq, max}
+use Rattle.std.specs.Prelude.{ℕ, zero, suc, ◌+◌, false, List, [], ◌∷◌, ◌++◌, codes, Option, Some, None, max}
 use Rattle.gql_ast.specs.Sels as sels
 use Rattle.gql_ast.specs.Sels.{Sels}
 use Rattle.gql_ast.specs.declared.place.FilePlace.{FilePlace}
 use Rattle.plan_ir.specs.Expansion.{Project, name_or, spreads_in}
 use Rattle.relay_model.specs.Collection.{Part, Setting, collect, part_of}
-use Rattle.relay_model.specs.Keys.{root_type}
 use Rattle.schema_tables.specs.Types.{Text, possible, root}
 use Rattle.schema_types.specs.Environments.{Values, with_pair}
 use Rattle.schema_types.specs.NameRules.{fragment_named}
 use Rattle.schema_types.specs.Sites.{FragmentAt, OperationAt}
-use Rattle.store_model.specs.Walks.{Found, Slots, read_at}
+use Rattle.store_model.specs.Walks.{Found, Slots, read_at, type_of_record}
 
 -- a place for what is added; by the masked form nothing is
 abbrev pub no_place : FilePlace
@@ -19,10 +18,6 @@ no_place = record { file = 0; line = 0; column = 0 }
 -- by the masked form
 abbrev pub masked_setting : Project → Values → Setting
 masked_setting p own = record { project = p; place = no_place; own = own; whole = false }
-
--- a record's type by its type name: the record of the root has the root type of the operation
-abbrev pub type_of_record : (operation_type : Text) → Text → Text
-type_of_record T name = cond (bytes_eq name root_type) T name
 
 -- ---- how many records a read stands at one below another, the first one not counted: at most as many as sets stand in one another
 

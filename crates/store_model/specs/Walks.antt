@@ -1,5 +1,5 @@
 -- Reading: the data that a walk along records gives, and what the walk meets.
-use Rattle.std.specs.Prelude.{ℕ, zero, suc, Bool, true, false, ◌||◌, List, [], ◌∷◌, ◌++◌, length, codes, Option, Some, None, unwrap_or}
+use Rattle.std.specs.Prelude.{ℕ, zero, suc, Bool, true, false, ◌||◌, List, [], ◌∷◌, ◌++◌, length, cond, bytes_eq, codes, Option, Some, None, unwrap_or}
 use Rattle.std.specs.Cmp.Lexicographic.{slice_cmp}
 use Rattle.std.specs.FinMap as map
 use Rattle.std.specs.Ordering.{nat_cmp}
@@ -42,6 +42,10 @@ abbrev pub field_of : Option Slot → Fields
 field_of None key = None
 field_of (Some Deleted) key = None
 field_of (Some (Alive r)) key = field_at key r
+
+-- a record's type by its type name: the record of the root, which all operations share, has the root type of the operation
+abbrev pub type_of_record : (operation_type : Text) → Text → Text
+type_of_record T name = cond (bytes_eq name (codes "__Root")) T name
 
 -- ---- what a walk meets
 
