@@ -1,14 +1,3 @@
-pub mod Keys
-pub mod Schema
-pub mod Records
-pub mod Payload
-pub mod Read
-pub mod Events
-pub mod Order
-pub mod Refusals
-pub mod Printed
-pub mod Machine
-pub mod Script
 pub mod Collection
 pub mod Responses
 pub mod Readings

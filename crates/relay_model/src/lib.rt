@@ -1,3 +1,4 @@
-//! The machine that the program is proved to be: what it says of a project, a script and the
-//! records between them. It has no call that the program makes; its definitions stand in `specs/`.
+//! What documents mean: collection along their syntax trees, what a response says to an operation,
+//! and what reads show (GraphQL, October 2021, section 6.3.2; masks are after Relay). It has no call
+//! that the program makes; its definitions stand in `specs/`.
 #![tactic(auto)]

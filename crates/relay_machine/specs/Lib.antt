@@ -1,0 +1,11 @@
+pub mod Keys
+pub mod Schema
+pub mod Records
+pub mod Payload
+pub mod Read
+pub mod Events
+pub mod Order
+pub mod Refusals
+pub mod Printed
+pub mod Machine
+pub mod Script
