@@ -7,9 +7,9 @@ use Rattle.gql_ast.specs.declared.document.Document.{Document}
 use Rattle.gql_ast.specs.declared.place.Placed.{Placed}
 use Rattle.relay_io.specs.Streams.{append, prepend}
 use Rattle.relay_io.proofs.Streaming.{append-none}
-use Rattle.relay_machine.specs.Keys.{Text}
-use Rattle.relay_machine.specs.Machine.{Project}
-use Rattle.relay_machine.specs.Printed.{project_fault}
+use Rattle.relay_plain.specs.Keys.{Text}
+use Rattle.relay_plain.specs.Machine.{Project}
+use Rattle.relay_plain.specs.Printed.{project_fault}
 use Rattle.relay_run.specs.Answers.{unknown, refused, accepted, due, AnsweringBy, Ran, EndsLine, IsWhole}
 use Rattle.relay_run.specs.FormProjects as projects
 use Rattle.relay_run.specs.Output.{max_script, output_text, has_refusal, artifacts_text}

@@ -1,13 +1,13 @@
 -- Handles as texts, and the records that confirmed entries give.
 use Rattle.std.proofs.Common.{◌==◌, ◌≡◌, List, [], ◌∷◌, ◌++◌, length, Bool, true, false, ◌||◌, cond, codes, Some, is_some, String as Str, Global, suc, refl, sym, ap, ◌∙◌}
 use Rattle.std.specs.Prelude.{ℕ}
-use Rattle.relay_machine.specs.Keys.{Text}
-use Rattle.relay_machine.specs.Machine.{Project, State, accept, refuse, confirm, fold_entries, base, under, is_live, max_handles, retain_with, step_retain}
-use Rattle.relay_machine.specs.Payload.{Said}
-use Rattle.relay_machine.specs.Printed.{event_line}
-use Rattle.relay_machine.specs.Refusals.{not_yet}
-use Rattle.relay_machine.specs.Records as model
-use Rattle.relay_machine.specs.Records.{Records, no_records, put_all}
+use Rattle.relay_plain.specs.Keys.{Text}
+use Rattle.relay_plain.specs.Machine.{Project, State, accept, refuse, confirm, fold_entries, base, under, is_live, max_handles, retain_with, step_retain}
+use Rattle.relay_plain.specs.Payload.{Said}
+use Rattle.relay_plain.specs.Printed.{event_line}
+use Rattle.relay_plain.specs.Refusals.{not_yet}
+use Rattle.relay_plain.specs.Records as model
+use Rattle.relay_plain.specs.Records.{Records, no_records, put_all}
 use Rattle.gql_ast.specs.Sels.{Sels}
 use Rattle.relay_run.specs.Shown.{by_name}
 

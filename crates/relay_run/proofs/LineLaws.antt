@@ -6,8 +6,8 @@ use Rattle.std.specs.Str.{IsUtf8, is_utf8}
 use Rattle.serde_json.specs.Read.{read}
 use Rattle.serde_json.proofs.Views.{members_len-members_view}
 use Rattle.gql_plain.specs.Limits.{max_line}
-use Rattle.relay_machine.specs.Events as model
-use Rattle.relay_machine.specs.Keys.{Text}
+use Rattle.relay_plain.specs.Events as model
+use Rattle.relay_plain.specs.Keys.{Text}
 use Rattle.relay_run.specs.Lines.{line_shown}
 use Rattle.relay_run.specs.declared.interim.event.Line.{Line}
 use Rattle.gql_plain.specs.declared.memory.NoMemory.{NoMemory}

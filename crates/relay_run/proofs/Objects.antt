@@ -4,8 +4,8 @@ use Rattle.std.specs.List.{list_any}
 use Rattle.std.specs.BTreeMap.{BTreeMap}
 use Rattle.gql_plain.proofs.Booleans.{and_false}
 use denote.Ref.{Bor}
-use Rattle.relay_machine.specs.Keys.{Text, typename}
-use Rattle.relay_machine.specs.Payload.{object_ids, all_differ}
+use Rattle.relay_plain.specs.Keys.{Text, typename}
+use Rattle.relay_plain.specs.Payload.{object_ids, all_differ}
 use Rattle.relay_run.proofs.Saying.{drop_cons_at}
 use Rattle.relay_run.specs.Said.{has_text}
 use Rattle.relay_run.specs.Stored.{facts_shown}

@@ -5,8 +5,8 @@ use Rattle.gql_ast.specs.declared.place.Placed.{Placed}
 use Rattle.plan_project.specs.Verdicts as plan
 use Rattle.plan_project.specs.declared.compiling.CompileFault.TheVariants.{Refused}
 use Rattle.plan_project.specs.declared.fault.ProjectFault.{ProjectFault}
-use Rattle.relay_machine.specs.Keys.{Text}
-use Rattle.relay_machine.specs.Machine as machine
+use Rattle.relay_plain.specs.Keys.{Text}
+use Rattle.relay_plain.specs.Machine as machine
 use Rattle.relay_run.specs.Answers.{IsTheProjectOf, IsTheFaultOf}
 use Rattle.relay_run.specs.Files.{Files, Contents, too_long, readable, name_of, IsFault, IsFaultIn, IsFirstAbsent, IsProject}
 use Rattle.relay_run.specs.FormProjects as projects

@@ -4,8 +4,8 @@ use Rattle.std.specs.Io.KnownBytes.{IsAtEnd}
 use Rattle.std.proofs.lemmas.Bool.{cases_eq}
 use Rattle.std.proofs.lemmas.List.{append-nil, take_all}
 use Rattle.relay_io.specs.Streams.{append, prepend}
-use Rattle.relay_machine.specs.Keys.{Text}
-use Rattle.relay_machine.specs.Printed.{project_fault}
+use Rattle.relay_plain.specs.Keys.{Text}
+use Rattle.relay_plain.specs.Printed.{project_fault}
 use Rattle.relay_run.specs.Answers.{Course, unknown, refused, accepted, IsCourse, IsTheProjectOf, IsTheFaultOf, Answering, AnsweringBy, IsCall, Ran, Took, output_of, has_refusal_in, due, refuses, left_over, IsReadWhole, IsReadBy, IsEndedFor, IsScriptFor, IsUntouched}
 use Rattle.relay_run.specs.Files.{Files, Contents, absent, contents_of, IsProject, IsFault, IsFirstAbsent}
 use Rattle.relay_run.specs.FormProjects as projects

@@ -4,8 +4,8 @@ use Rattle.std.specs.List.{list_any}
 use Rattle.std.specs.Map.{lookup}
 use Rattle.gql_ast.specs.Sels.{Sels}
 use Rattle.gql_ast.specs.declared.document.Operation.{Operation}
-use Rattle.relay_machine.specs.Keys.{Text}
-use Rattle.relay_machine.specs.Machine.{under}
+use Rattle.relay_plain.specs.Keys.{Text}
+use Rattle.relay_plain.specs.Machine.{under}
 use Rattle.relay_run.proofs.Storing.{bytes_eq-sym}
 use Rattle.relay_run.specs.Plain.{is_plain_query, named_query, with_query}
 use Rattle.relay_run.specs.Shown.{by_name}

@@ -14,8 +14,8 @@ use Rattle.gql_ast.specs.declared.member.FieldTree.{FieldTree}
 use Rattle.gql_ast.specs.declared.member.InputTree.{InputTree}
 use Rattle.gql_ast.specs.declared.selection.Selection.{Selection}
 use Rattle.gql_ast.specs.declared.selection.Selection.TheVariants as S
-use Rattle.relay_machine.specs.Keys.{Text}
-use Rattle.relay_machine.specs.Payload.{all_differ}
+use Rattle.relay_plain.specs.Keys.{Text}
+use Rattle.relay_plain.specs.Payload.{all_differ}
 use Rattle.relay_run.proofs.Objects.{none_of, none_of-nothing, or-false, differs_where}
 use Rattle.relay_run.proofs.Saying.{drop_cons_at}
 use Rattle.relay_run.specs.Plain.{is_plain_field, is_object_type, is_leaf_type, field_names, are_plain_fields}

@@ -15,10 +15,10 @@ use Rattle.gql_plain.specs.Shown.{tree_of}
 use Rattle.gql_plain.specs.Tree.{Tree, null, truth, text, list, trees_of}
 use Rattle.gql_plain.specs.declared.memory.NoMemory.{NoMemory}
 use Rattle.gql_plain.specs.declared.plain.Plain.{Plain}
-use Rattle.relay_machine.specs.Keys.{Text}
-use Rattle.relay_machine.specs.Order.{with_text, in_order}
-use Rattle.relay_machine.specs.Printed.{line, number, read_line}
-use Rattle.relay_machine.specs.Read.{Answer, Fields}
+use Rattle.relay_plain.specs.Keys.{Text}
+use Rattle.relay_plain.specs.Order.{with_text, in_order}
+use Rattle.relay_plain.specs.Printed.{line, number, read_line}
+use Rattle.relay_plain.specs.Read.{Answer, Fields}
 use Rattle.relay_run.specs.Reading.{members_shown}
 use Rattle.relay_run.specs.Stored.{texts_of}
 

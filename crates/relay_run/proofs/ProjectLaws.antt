@@ -7,7 +7,7 @@ use Rattle.gql_ast.specs.declared.place.Placed.{Placed}
 use Rattle.plan_project.specs.Projects.{AreDocuments, IsAccepted}
 use Rattle.plan_project.specs.Verdicts as plan
 use Rattle.plan_project.specs.declared.compiling.CompileFault.TheVariants.{Refused}
-use Rattle.relay_machine.specs.Keys.{Text}
+use Rattle.relay_plain.specs.Keys.{Text}
 use Rattle.relay_run.specs.Files.{BreaksRule}
 use Rattle.relay_run.specs.Plain.{Plain, taken, not_taken, plain}
 use Rattle.relay_run.specs.Projects.{trees_of}

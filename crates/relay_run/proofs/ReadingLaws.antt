@@ -7,10 +7,10 @@ use Rattle.gql_ast.specs.SelectionView.{sel_before, sel_of, sels_of}
 use Rattle.gql_ast.specs.declared.selection.Selection.{Selection}
 use Rattle.gql_ast.specs.declared.selection.Selection.TheVariants as S
 use Rattle.gql_plain.specs.Tree.{Tree, null, truth, whole, text, list, object, members_of}
-use Rattle.relay_machine.specs.Keys.{Text}
-use Rattle.relay_machine.specs.Read.{Trace, no_trace, visit, join, Answer, Fields, put_members, object_of, object_of_type, fields_at}
-use Rattle.relay_machine.specs.Records.{Records, Stored, leaf, link}
-use Rattle.relay_machine.specs.Schema.{Schema}
+use Rattle.relay_plain.specs.Keys.{Text}
+use Rattle.relay_plain.specs.Read.{Trace, no_trace, visit, join, Answer, Fields, put_members, object_of, object_of_type, fields_at}
+use Rattle.relay_plain.specs.Records.{Records, Stored, leaf, link}
+use Rattle.relay_plain.specs.Schema.{Schema}
 use Rattle.relay_run.proofs.Saying.{drop_cons_at}
 use Rattle.relay_run.specs.Reading.{Progress, read_on, under, field_answer, is_typed}
 

@@ -5,10 +5,10 @@ use Rattle.std.specs.Prelude.{⊤}
 use Rattle.gql_plain.specs.Tree.{text}
 use Rattle.gql_ast.specs.Sels.{Sels}
 use Rattle.serde_json.specs.Data as J
-use Rattle.relay_machine.specs.Keys.{Text, typename}
-use Rattle.relay_machine.specs.Payload.{Said, silent, fact, both, fields_said, object_said, added_said}
-use Rattle.relay_machine.specs.Records as model
-use Rattle.relay_machine.specs.Schema.{Schema}
+use Rattle.relay_plain.specs.Keys.{Text, typename}
+use Rattle.relay_plain.specs.Payload.{Said, silent, fact, both, fields_said, object_said, added_said}
+use Rattle.relay_plain.specs.Records as model
+use Rattle.relay_plain.specs.Schema.{Schema}
 use Rattle.relay_run.specs.Said.{flag}
 
 pub drop_cons_at : {A : Type 0} (xs : List A) (i : ℕ) (x : A) → i < length xs → x ≡ get_or xs i x → drop i xs ≡ x ∷ drop (i + 1) xs

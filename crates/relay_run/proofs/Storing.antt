@@ -1,8 +1,8 @@
 -- Putting facts into records, over look-ups.
 use Rattle.std.proofs.Common.{◌≡◌, List, [], ◌∷◌, ◌++◌, Bool, true, false, ◌&&◌, cond, bytes_eq, Option, Some, None, option_map, option_and_then, refl, sym, ap, ◌∙◌}
 use Rattle.std.proofs.lemmas.Slice.Eq.{bytes_eq-Decides}
-use Rattle.relay_machine.specs.Keys.{Text}
-use Rattle.relay_machine.specs.Records.{Records, put, put_all}
+use Rattle.relay_plain.specs.Keys.{Text}
+use Rattle.relay_plain.specs.Records.{Records, put, put_all}
 use Rattle.relay_run.specs.Stored.{fact_shown, facts_shown}
 use Rattle.relay_run.specs.declared.interim.records.Fact.{Fact}
 

@@ -5,17 +5,17 @@ use Rattle.std.proofs.lemmas.List.{append-nil, take-append-drop}
 use Rattle.gql_plain.specs.Tree.{Tree, null, truth, text, list, object, trees_of, members_of}
 use Rattle.gql_plain.specs.ToJson.{compact}
 use Rattle.gql_plain.specs.Limits.{max_line}
-use Rattle.relay_machine.specs.Events.{Event, retain, payload, read, Line, too_long, not_json as no_json, other, event, line_of}
-use Rattle.relay_machine.specs.Keys.{Text}
+use Rattle.relay_plain.specs.Events.{Event, retain, payload, read, Line, too_long, not_json as no_json, other, event, line_of}
+use Rattle.relay_plain.specs.Keys.{Text}
 use Rattle.gql_ast.specs.Sels.{Sels}
 use Rattle.serde_json.specs.Data as J
-use Rattle.relay_machine.specs.Machine.{Project, State, Step, step, step_line, step_event, confirm, output_from, refused_from, accept, refuse, is_live, max_handles, base, under, retain_with, payload_with, read_with}
-use Rattle.relay_machine.specs.Payload.{Said, says}
-use Rattle.relay_machine.specs.Read.{Answer, read_root}
-use Rattle.relay_machine.specs.Order.{in_order}
-use Rattle.relay_machine.specs.Printed.{line, number, event_line, read_line, refusal, project_fault}
-use Rattle.relay_machine.specs.Refusals.{Refusal, code_of, name_of, keys_of, not_json, not_yet, unknown_operation, unknown_handle}
-use Rattle.relay_machine.specs.Script.{lines_of, cut}
+use Rattle.relay_plain.specs.Machine.{Project, State, Step, step, step_line, step_event, confirm, output_from, refused_from, accept, refuse, is_live, max_handles, base, under, retain_with, payload_with, read_with}
+use Rattle.relay_plain.specs.Payload.{Said, says}
+use Rattle.relay_plain.specs.Read.{Answer, read_root}
+use Rattle.relay_plain.specs.Order.{in_order}
+use Rattle.relay_plain.specs.Printed.{line, number, event_line, read_line, refusal, project_fault}
+use Rattle.relay_plain.specs.Refusals.{Refusal, code_of, name_of, keys_of, not_json, not_yet, unknown_operation, unknown_handle}
+use Rattle.relay_plain.specs.Script.{lines_of, cut}
 use Rattle.relay_run.specs.Answers.{EndsLine}
 
 line_ends : (members : List (Text × Tree)) → EndsLine (line members)

@@ -2,8 +2,8 @@
 use Rattle.std.specs.Prelude.{◌≡◌, ◌⊎◌, ◌↔◌, ℕ, ◌+◌, ◌≤◌, [], ◌∷◌, ◌++◌, length, take, Bool, false, Option, Some, None, Result, Ok, Err, Vec, ⊤, IsTrue, IsFalse}
 use Rattle.std.specs.Io.KnownBytes.{IsAtEnd}
 use Rattle.relay_io.specs.Streams.{append, prepend}
-use Rattle.relay_machine.specs.Keys.{Text}
-use Rattle.relay_machine.specs.Printed.{project_fault}
+use Rattle.relay_plain.specs.Keys.{Text}
+use Rattle.relay_plain.specs.Printed.{project_fault}
 use Rattle.relay_run.specs.Files.{Files, contents_of, IsProject, IsFault, IsFirstAbsent}
 use Rattle.relay_run.specs.FormProjects as projects
 use Rattle.relay_run.specs.FormProjects.{Project}

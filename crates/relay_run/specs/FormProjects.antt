@@ -3,8 +3,8 @@ use Rattle.std.specs.Prelude.{List}
 use Rattle.gql_ast.specs.declared.document.Document.{Document}
 use Rattle.gql_ast.specs.declared.place.Placed.{Placed}
 use Rattle.plan_project.specs.Projects.{IsAccepted}
-use Rattle.relay_machine.specs.Keys.{Text}
-use Rattle.relay_machine.specs.Machine as machine
+use Rattle.relay_plain.specs.Keys.{Text}
+use Rattle.relay_plain.specs.Machine as machine
 use Rattle.relay_run.specs.Projects.{IsPlainProject}
 use Rattle.relay_run.specs.Words.{Form, run, compile}
 use Rattle.schema_tables.specs.Types.{Defs}

@@ -1,6 +1,6 @@
 -- The lines and the events of the code, as the machine sees them.
 use Rattle.std.specs.Prelude.{Some}
-use Rattle.relay_machine.specs.Events as model
+use Rattle.relay_plain.specs.Events as model
 use Rattle.serde_json.specs.View.{view}
 use Rattle.relay_run.specs.declared.interim.event.Event.{Event}
 use Rattle.relay_run.specs.declared.interim.event.Event.TheVariants.{Retain, Payload, Read}

@@ -13,9 +13,9 @@ use Rattle.gql_ast.specs.declared.document.Kind.TheVariants.{Query}
 use Rattle.gql_ast.specs.declared.document.Operation.{Operation}
 use Rattle.gql_ast.specs.declared.member.FieldTree.{FieldTree}
 use Rattle.gql_ast.specs.declared.member.InputTree.{InputTree}
-use Rattle.relay_machine.specs.Keys.{Text}
-use Rattle.relay_machine.specs.Payload.{is_set, all_differ}
-use Rattle.relay_machine.specs.Schema.{type_of, query_type}
+use Rattle.relay_plain.specs.Keys.{Text}
+use Rattle.relay_plain.specs.Payload.{is_set, all_differ}
+use Rattle.relay_plain.specs.Schema.{type_of, query_type}
 use Rattle.schema_tables.specs.Fits.{is_required}
 use Rattle.schema_rules.specs.Rules.{is_object}
 use Rattle.schema_tables.specs.Types.{Defs, base_of, field_on, is_leaf, same_kind, is_empty}

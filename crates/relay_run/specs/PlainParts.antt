@@ -8,9 +8,9 @@ use Rattle.gql_ast.specs.TypeView.{ty_of}
 use Rattle.gql_ast.specs.Value.{Val}
 use Rattle.gql_ast.specs.declared.document.Document.{Document}
 use Rattle.gql_ast.specs.declared.directive.Directive.{Directive}
-use Rattle.relay_machine.specs.Keys.{Text}
-use Rattle.relay_machine.specs.Payload.{is_set, all_differ}
-use Rattle.relay_machine.specs.Schema.{type_of}
+use Rattle.relay_plain.specs.Keys.{Text}
+use Rattle.relay_plain.specs.Payload.{is_set, all_differ}
+use Rattle.relay_plain.specs.Schema.{type_of}
 use Rattle.relay_run.specs.declared.interim.plain.PlainFault.{PlainFault}
 use Rattle.relay_run.specs.declared.interim.plain.PlainFault.TheVariants.{NotTaken, NoMemory}
 use Rattle.relay_run.specs.Plain.{plain, is_object_type, is_leaf_type, not_taken, is_plain_field, field_names, fields_in, are_plain_fields}

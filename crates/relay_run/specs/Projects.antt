@@ -3,8 +3,8 @@ use Rattle.std.specs.Prelude.{◌≡◌, ℕ, List, map}
 use Rattle.gql_ast.specs.declared.document.Document.{Document}
 use Rattle.gql_ast.specs.declared.place.Placed.{Placed}
 use Rattle.plan_project.specs.Projects.{IsAccepted}
-use Rattle.relay_machine.specs.Keys.{Text}
-use Rattle.relay_machine.specs.Machine.{Project}
+use Rattle.relay_plain.specs.Keys.{Text}
+use Rattle.relay_plain.specs.Machine.{Project}
 use Rattle.relay_run.specs.Plain.{taken, not_taken, plain}
 use Rattle.schema_tables.specs.Types.{Defs}
 

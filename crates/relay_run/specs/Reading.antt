@@ -6,11 +6,11 @@ use Rattle.gql_ast.specs.Sels.{Sels}
 use Rattle.gql_plain.specs.Shown.{tree_of}
 use Rattle.gql_plain.specs.Tree.{null, truth, whole, text, list, object}
 use Rattle.gql_plain.specs.declared.plain.Plain.{Plain}
-use Rattle.relay_machine.specs.Keys.{Text}
-use Rattle.relay_machine.specs.Payload.{is_set}
-use Rattle.relay_machine.specs.Read as model
-use Rattle.relay_machine.specs.Records.{Records, Stored, leaf, link}
-use Rattle.relay_machine.specs.Schema.{Schema, type_of}
+use Rattle.relay_plain.specs.Keys.{Text}
+use Rattle.relay_plain.specs.Payload.{is_set}
+use Rattle.relay_plain.specs.Read as model
+use Rattle.relay_plain.specs.Records.{Records, Stored, leaf, link}
+use Rattle.relay_plain.specs.Schema.{Schema, type_of}
 use Rattle.relay_run.specs.declared.interim.reading.Reading.{Reading}
 use Rattle.relay_run.specs.declared.interim.trace.Trace.{Trace}
 

@@ -1,5 +1,5 @@
 -- Why a line is refused, as the machine sees it.
-use Rattle.relay_machine.specs.Refusals as model
+use Rattle.relay_plain.specs.Refusals as model
 use Rattle.relay_run.specs.declared.refusal.Refusal.{Refusal}
 use Rattle.relay_run.specs.declared.refusal.Refusal.TheVariants.{NotJson, UnknownOperation, UnknownHandle, NotYet}
 

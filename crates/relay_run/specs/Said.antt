@@ -7,9 +7,9 @@ use denote.Ref.{Bor}
 use Rattle.serde_json.specs.Data as J
 use Rattle.serde_json.specs.Find.{get_member}
 use Rattle.gql_ast.specs.Sels.{Sels}
-use Rattle.relay_machine.specs.Keys.{Text}
-use Rattle.relay_machine.specs.Payload as model
-use Rattle.relay_machine.specs.Schema.{Schema, type_of}
+use Rattle.relay_plain.specs.Keys.{Text}
+use Rattle.relay_plain.specs.Payload as model
+use Rattle.relay_plain.specs.Schema.{Schema, type_of}
 use Rattle.relay_run.specs.Stored.{facts_shown}
 use Rattle.relay_run.specs.declared.interim.object_id.ObjectId.{ObjectId}
 use Rattle.relay_run.specs.declared.interim.records.Fact.{Fact}

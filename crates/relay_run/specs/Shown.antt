@@ -2,8 +2,8 @@
 use Rattle.std.specs.Prelude.{List, map, string_bytes, String}
 use Rattle.std.specs.declared.alloc.Global.{Global}
 use Rattle.gql_ast.specs.Sels.{Sels}
-use Rattle.relay_machine.specs.Keys.{Text}
-use Rattle.relay_machine.specs.Machine as machine
+use Rattle.relay_plain.specs.Keys.{Text}
+use Rattle.relay_plain.specs.Machine as machine
 use Rattle.relay_run.specs.declared.interim.project.Project.{Project}
 
 -- the names as texts, each with its selections, in order

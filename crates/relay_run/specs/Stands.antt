@@ -1,9 +1,9 @@
 -- When an engine stands for a state of the machine.
 use Rattle.std.specs.Prelude.{◌≡◌, ℕ, Option, option_map, option_and_then}
 use Rattle.std.specs.BTreeMap.{get_by_text}
-use Rattle.relay_machine.specs.Keys.{Text}
-use Rattle.relay_machine.specs.Records.{Stored, leaf, link}
-use Rattle.relay_machine.specs.Machine.{Project, State, base, step}
+use Rattle.relay_plain.specs.Keys.{Text}
+use Rattle.relay_plain.specs.Records.{Stored, leaf, link}
+use Rattle.relay_plain.specs.Machine.{Project, State, base, step}
 use Rattle.gql_plain.specs.Shown.{tree_of}
 use Rattle.relay_run.specs.Shown.{by_name, project_shown}
 use Rattle.relay_run.specs.declared.interim.engine.Engine.{Engine}

@@ -1,6 +1,6 @@
 -- When an engine has taken a step of the machine.
 use Rattle.std.specs.Prelude.{◌≡◌}
-use Rattle.relay_machine.specs.Machine.{Project, State, Step}
+use Rattle.relay_plain.specs.Machine.{Project, State, Step}
 use Rattle.relay_run.specs.Stands.{StandsFor}
 use Rattle.relay_run.specs.declared.interim.engine.Answer.{Answer}
 use Rattle.relay_run.specs.declared.interim.engine.Engine.{Engine}

@@ -2,8 +2,8 @@
 use Rattle.std.specs.Prelude.{List, map, String, string_bytes, option_map, option_and_then, Option}
 use Rattle.std.specs.BTreeMap.{BTreeMap, get_by_text}
 use Rattle.std.specs.declared.alloc.Global.{Global}
-use Rattle.relay_machine.specs.Keys.{Text}
-use Rattle.relay_machine.specs.Records as model
+use Rattle.relay_plain.specs.Keys.{Text}
+use Rattle.relay_plain.specs.Records as model
 use Rattle.relay_run.specs.Stands.{field_shown}
 use Rattle.relay_run.specs.declared.interim.engine.Field.{Field}
 use Rattle.relay_run.specs.declared.interim.records.Fact.{Fact}

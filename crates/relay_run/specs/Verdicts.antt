@@ -1,8 +1,8 @@
 -- What is found of the texts of a project that a script is run against: it is accepted, or has one fault, and nothing else beside that.
 use Rattle.std.specs.Prelude.{◌≡◌, ℕ, List, [], ◌∷◌, codes}
 use Rattle.plan_project.specs.Verdicts.{Files, texts_of}
-use Rattle.relay_machine.specs.Keys.{Text}
-use Rattle.relay_machine.specs.Machine.{Project}
+use Rattle.relay_plain.specs.Keys.{Text}
+use Rattle.relay_plain.specs.Machine.{Project}
 use Rattle.relay_run.specs.Files.{IsRunFault}
 use Rattle.relay_run.specs.Projects.{IsPlainProject}
 use Rattle.relay_run.specs.Rules.{rule_text}

@@ -4,8 +4,8 @@ ghost use Rattle.gql_plain.specs.Order.{IsAfter};
 ghost use Rattle.gql_plain.specs.Shown.{tree_of};
 ghost use Rattle.gql_plain.specs.Tree.{truth, text, list, trees_of};
 ghost use Rattle.std.specs.Map.{keys_of};
-ghost use Rattle.relay_machine.specs.Printed as model;
-ghost use Rattle.relay_machine.specs.Refusals as refusals;
+ghost use Rattle.relay_plain.specs.Printed as model;
+ghost use Rattle.relay_plain.specs.Refusals as refusals;
 ghost use Rattle.relay_run.specs.RefusalShown.{refusal_shown};
 
 use crate::refusal::Refusal;

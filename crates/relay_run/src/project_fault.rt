@@ -2,7 +2,7 @@
 ghost use Rattle.std.specs.Prelude.{◌≡◌, ◌⊎◌, ◌≤◌, ◌+◌, ◌++◌, [], ℕ, List, length};
 ghost use Rattle.relay_io.specs.Causes.{Rose};
 ghost use Rattle.relay_io.specs.Streams.{append};
-ghost use Rattle.relay_machine.specs.Printed.{project_fault};
+ghost use Rattle.relay_plain.specs.Printed.{project_fault};
 ghost use Rattle.relay_run.specs.Answers.{EndsLine};
 
 use crate::printed::fault_line;

@@ -1,6 +1,6 @@
 //! Why a line is refused.
 ghost use Rattle.std.specs.Prelude.{◌≡◌};
-ghost use Rattle.relay_machine.specs.Refusals as model;
+ghost use Rattle.relay_plain.specs.Refusals as model;
 ghost use Rattle.relay_run.specs.RefusalShown.{refusal_shown};
 
 /// Why a line is refused.

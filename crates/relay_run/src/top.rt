@@ -2,7 +2,7 @@
 ghost use Rattle.std.specs.Prelude.{◌≡◌, ◌⊎◌, ◌↔◌, ℕ, ◌+◌, ◌≤◌, ◌∷◌, List, length, map, take, Bool, true, Option, None, Some, IsTrue};
 ghost use Rattle.relay_io.specs.Causes.{Rose};
 ghost use Rattle.relay_io.specs.Streams.{append, prepend};
-ghost use Rattle.relay_machine.specs.Printed.{project_fault};
+ghost use Rattle.relay_plain.specs.Printed.{project_fault};
 ghost use Rattle.relay_run.specs.Answers.{Course, IsCourse, IsTheProjectOf, IsTheFaultOf, IsCall, Took, Ran, Answering, EndsLine, accepted, due, refuses, left_over, IsReadWhole, IsScriptFor};
 ghost use Rattle.relay_run.specs.Files.{Files, contents_of, IsProject, IsFault, IsFirstAbsent};
 ghost use Rattle.relay_run.specs.FormProjects as projects;

@@ -1,11 +1,11 @@
 //! The engine: it answers one line of the script after another.
 ghost use Rattle.std.specs.Prelude.{◌≡◌, ◌<◌, ◌^◌, ◌||◌, ◌==◌, true, false, length, is_some, IfOk};
 ghost use Rattle.serde_json.specs.View.{view};
-ghost use Rattle.relay_machine.specs.Events as events;
-ghost use Rattle.relay_machine.specs.Machine as machine;
-ghost use Rattle.relay_machine.specs.Machine.{State, beginning};
-ghost use Rattle.relay_machine.specs.Payload.{Said};
-ghost use Rattle.relay_machine.specs.Printed as printed;
+ghost use Rattle.relay_plain.specs.Events as events;
+ghost use Rattle.relay_plain.specs.Machine as machine;
+ghost use Rattle.relay_plain.specs.Machine.{State, beginning};
+ghost use Rattle.relay_plain.specs.Payload.{Said};
+ghost use Rattle.relay_plain.specs.Printed as printed;
 ghost use Rattle.relay_run.specs.Lines.{event_shown};
 ghost use Rattle.relay_run.specs.RefusalShown.{refusal_shown};
 ghost use Rattle.relay_run.specs.Shown.{by_name, project_shown};

@@ -4,7 +4,7 @@ ghost use Rattle.serde_json.specs.Events.{members_len};
 ghost use Rattle.serde_json.specs.Find.{as_object};
 ghost use Rattle.serde_json.specs.Read.{read};
 ghost use Rattle.serde_json.specs.View.{view, members_view};
-ghost use Rattle.relay_machine.specs.Events as model;
+ghost use Rattle.relay_plain.specs.Events as model;
 ghost use Rattle.relay_run.specs.Lines.{event_shown, line_shown};
 
 use crate::interim::members::{member_at, text_at};

@@ -1,7 +1,7 @@
 //! The types that a schema gives to fields and to the root (GraphQL, October 2021, sections 3.3 and
 //! 3.6).
 ghost use Rattle.std.specs.Prelude.{◌≡◌};
-ghost use Rattle.relay_machine.specs.Schema as model;
+ghost use Rattle.relay_plain.specs.Schema as model;
 
 use gql_ast::Kind;
 use schema_tables::type_forms::base_of;

@@ -2,7 +2,7 @@
 ghost use Rattle.std.specs.Prelude.{◌≡◌, option_map};
 ghost use Rattle.serde_json.specs.Find.{get_member};
 ghost use Rattle.serde_json.specs.View.{view, members_view};
-ghost use Rattle.relay_machine.specs.Events.{text_at};
+ghost use Rattle.relay_plain.specs.Events.{text_at};
 
 use serde_json::{Map, Value};
 

@@ -2,8 +2,8 @@
 ghost use Rattle.std.specs.Prelude.{◌≡◌, ◌++◌, cond, string_bytes, IfOk, option_map};
 ghost use Rattle.serde_json.specs.Data as J;
 ghost use Rattle.serde_json.specs.View.{view, members_view};
-ghost use Rattle.relay_machine.specs.Keys as keys;
-ghost use Rattle.relay_machine.specs.Payload as model;
+ghost use Rattle.relay_plain.specs.Keys as keys;
+ghost use Rattle.relay_plain.specs.Payload as model;
 ghost use Rattle.relay_run.specs.Said.{object_id_shown};
 
 use crate::interim::members::member_at;

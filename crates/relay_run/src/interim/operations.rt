@@ -1,6 +1,6 @@
 //! Operations under names: those of a project, and those of live handles.
 ghost use Rattle.std.specs.Prelude.{◌≡◌, ◌∷◌, ◌++◌, [], option_copied, None, IfOk, OnOk};
-ghost use Rattle.relay_machine.specs.Machine.{under};
+ghost use Rattle.relay_plain.specs.Machine.{under};
 ghost use Rattle.relay_run.specs.Shown.{by_name};
 
 use gql_ast::Selections;

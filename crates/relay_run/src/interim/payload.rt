@@ -2,10 +2,10 @@
 ghost use Rattle.std.specs.Prelude.{◌≡◌, ℕ, List, ◌&&◌, ◌||◌, not, bytes_eq, OnOk, IfOk, option_map};
 ghost use Rattle.gql_ast.specs.SelectionView.{sel_of};
 ghost use Rattle.serde_json.specs.View.{view, members_view};
-ghost use Rattle.relay_machine.specs.Keys as keys;
-ghost use Rattle.relay_machine.specs.Payload as model;
-ghost use Rattle.relay_machine.specs.Records.{leaf, link};
-ghost use Rattle.relay_machine.specs.Schema as types;
+ghost use Rattle.relay_plain.specs.Keys as keys;
+ghost use Rattle.relay_plain.specs.Payload as model;
+ghost use Rattle.relay_plain.specs.Records.{leaf, link};
+ghost use Rattle.relay_plain.specs.Schema as types;
 ghost use Rattle.gql_plain.specs.Tree.{text};
 ghost use Rattle.relay_run.specs.Said.{said_shown, field_said, flag, has_text, AreFacts};
 ghost use Rattle.relay_run.specs.Stored.{facts_shown};

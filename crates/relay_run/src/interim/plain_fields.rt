@@ -4,7 +4,7 @@ ghost use Rattle.std.specs.Prelude.{◌≡◌, ◌&&◌, ◌||◌, not, ◌-◌,
 ghost use Rattle.std.specs.List.{list_any};
 ghost use Rattle.gql_ast.specs.SelectionView.{sel_of};
 ghost use Rattle.gql_ast.specs.TypeView.{ty_of};
-ghost use Rattle.relay_machine.specs.Payload.{all_differ};
+ghost use Rattle.relay_plain.specs.Payload.{all_differ};
 ghost use Rattle.relay_run.specs.Plain as plain;
 ghost use Rattle.relay_run.specs.PlainParts as parts;
 ghost use Rattle.relay_run.specs.Said.{has_text};

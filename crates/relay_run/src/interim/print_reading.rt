@@ -2,9 +2,9 @@
 ghost use Rattle.std.specs.Prelude.{◌≡◌, ◌<◌, ◌^◌, map, string_bytes, option_map, unwrap_or, IfOk};
 ghost use Rattle.gql_plain.specs.Shown.{tree_of};
 ghost use Rattle.gql_plain.specs.Tree.{null, text};
-ghost use Rattle.relay_machine.specs.Order.{in_order};
-ghost use Rattle.relay_machine.specs.Printed as model;
-ghost use Rattle.relay_machine.specs.Read.{Answer};
+ghost use Rattle.relay_plain.specs.Order.{in_order};
+ghost use Rattle.relay_plain.specs.Printed as model;
+ghost use Rattle.relay_plain.specs.Read.{Answer};
 ghost use Rattle.relay_run.specs.Reading.{IsReading};
 
 use crate::interim::reading::Reading;

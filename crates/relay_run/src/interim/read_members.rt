@@ -4,7 +4,7 @@ ghost use Rattle.std.specs.Cmp.Lexicographic.{slice_cmp};
 ghost use Rattle.std.specs.FinMap as map;
 ghost use Rattle.std.specs.Ordering.{nat_cmp};
 ghost use Rattle.gql_plain.specs.Shown.{tree_of};
-ghost use Rattle.relay_machine.specs.Read.{member_of, put_members};
+ghost use Rattle.relay_plain.specs.Read.{member_of, put_members};
 ghost use Rattle.relay_run.specs.Reading.{members_shown};
 
 use gql_plain::{NoMemory, Pairs, Plain, Words};

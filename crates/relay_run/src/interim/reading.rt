@@ -1,7 +1,7 @@
 //! Reading the records along the selections of an operation (this project's own).
 ghost use Rattle.std.specs.Prelude.{◌≡◌, OnOk, IfOk, option_map};
 ghost use Rattle.gql_ast.specs.SelectionView.{sel_of};
-ghost use Rattle.relay_machine.specs.Read as model;
+ghost use Rattle.relay_plain.specs.Read as model;
 ghost use Rattle.relay_run.specs.Reading.{IsAnswer, IsReading, is_typed, field_answer, progress, read_on, under};
 ghost use Rattle.relay_run.specs.Stands.{field_shown};
 ghost use Rattle.relay_run.specs.Stored.{stored_in};

@@ -1,7 +1,7 @@
 //! Records, and putting facts into them.
 ghost use Rattle.std.specs.Prelude.{◌≡◌, ℕ, List, cond, bytes_eq, option_map, option_and_then, OnOk};
 ghost use Rattle.std.specs.BTreeMap.{get_by_text};
-ghost use Rattle.relay_machine.specs.Records.{put, put_all};
+ghost use Rattle.relay_plain.specs.Records.{put, put_all};
 ghost use Rattle.relay_run.specs.Stands.{field_shown};
 ghost use Rattle.relay_run.specs.Stored.{stored_in, fact_shown, facts_shown};
 

@@ -1,7 +1,7 @@
 //! What was said of a payload so far.
 ghost use Rattle.std.specs.Prelude.{◌≡◌, OnOk, option_map};
 ghost use Rattle.serde_json.specs.View.{view};
-ghost use Rattle.relay_machine.specs.Payload as model;
+ghost use Rattle.relay_plain.specs.Payload as model;
 ghost use Rattle.relay_run.specs.Said.{said_shown, flag};
 ghost use Rattle.relay_run.specs.Stands.{field_shown};
 

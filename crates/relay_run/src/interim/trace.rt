@@ -1,6 +1,6 @@
 //! What a read meets beside its data.
 ghost use Rattle.std.specs.Prelude.{◌≡◌, OnOk};
-ghost use Rattle.relay_machine.specs.Read as model;
+ghost use Rattle.relay_plain.specs.Read as model;
 ghost use Rattle.relay_run.specs.Reading.{trace_shown};
 
 use gql_plain::{NoMemory, Words};

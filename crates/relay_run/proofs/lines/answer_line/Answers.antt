@@ -1,6 +1,6 @@
 use Rattle.std.proofs.Common.{◌≡◌, ◌≤◌, ◌+◌, ℕ, List, length, take, Option, subst, ap, ◌∙◌}
 use Rattle.relay_io.specs.Streams.{append}
-use Rattle.relay_machine.specs.Keys.{Text}
+use Rattle.relay_plain.specs.Keys.{Text}
 use Rattle.relay_run.specs.Stands.{Answers}
 use Rattle.relay_run.specs.declared.lines.Stop.TheVariants.{WriteFault, NoMemory}
 use Rattle.relay_run.proofs.lines.answer_line.Goals as goal

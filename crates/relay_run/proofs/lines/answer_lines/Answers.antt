@@ -3,8 +3,8 @@ use Rattle.std.proofs.lemmas.Bool.{true≢false, eqb-true}
 use Rattle.relay_io.specs.Streams.{append}
 use Rattle.relay_io.proofs.Streaming.{append-none}
 use Rattle.gql_plain.specs.Limits.{max_line}
-use Rattle.relay_machine.specs.Machine.{beginning, step, refused_from}
-use Rattle.relay_machine.specs.Script.{lines_of, cut}
+use Rattle.relay_plain.specs.Machine.{beginning, step, refused_from}
+use Rattle.relay_plain.specs.Script.{lines_of, cut}
 use Rattle.relay_run.specs.Shown.{project_shown}
 use Rattle.relay_run.proofs.Pieces.{added_more}
 use Rattle.relay_run.proofs.Written.{written_next, refused_next, part_then, no_lines, written_all, refused_all, step_ends, both_end}

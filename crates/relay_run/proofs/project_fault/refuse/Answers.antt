@@ -1,8 +1,8 @@
 use Rattle.std.proofs.Common.{◌≡◌, ◌⊎◌, ◌≤◌, ◌+◌, ◌++◌, ℕ, [], length, take, drop, Option, refl, ap, inl, inr, ◌∙◌, arith, length-take}
 use Rattle.std.proofs.lemmas.List.{append-nil, take-append-drop}
 use Rattle.relay_io.specs.Streams.{append}
-use Rattle.relay_machine.specs.Keys.{Text}
-use Rattle.relay_machine.specs.Printed.{project_fault}
+use Rattle.relay_plain.specs.Keys.{Text}
+use Rattle.relay_plain.specs.Printed.{project_fault}
 use Rattle.relay_run.specs.Answers.{EndsLine}
 use Rattle.relay_run.specs.declared.status.Status.TheVariants.{ProjectRefused, WriteFault}
 use Rattle.relay_run.proofs.Written.{project_fault_ends}

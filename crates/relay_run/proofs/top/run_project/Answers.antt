@@ -1,6 +1,6 @@
 use Rattle.std.proofs.Common.{◌≡◌, ◌⊎◌, ◌↔◌, ◌≤◌, ◌+◌, ◌++◌, [], length, true, IsTrue, refl, subst, inl, inr, ◌∙◌, arith}
 use Rattle.relay_io.specs.Streams.{append}
-use Rattle.relay_machine.specs.Keys.{Text}
+use Rattle.relay_plain.specs.Keys.{Text}
 use Rattle.relay_run.specs.Answers.{EndsLine, GivesNoScript}
 use Rattle.relay_run.specs.Output.{max_script, output_text, has_refusal}
 use Rattle.relay_run.specs.Statuses.{IsDone}

@@ -2,7 +2,7 @@ use Rattle.std.proofs.Common.{◌≡◌, [], ◌∷◌, ◌++◌, None, string_b
 use Rattle.std.specs.Map.{lookup}
 use Rattle.std.specs.String.{string_eq}
 use Rattle.indexmap.proofs.CallerLemmas.{insert_entry-new}
-use Rattle.relay_machine.specs.Machine.{under}
+use Rattle.relay_plain.specs.Machine.{under}
 use Rattle.relay_run.proofs.PlainDocuments.{lookup-by_name, by_name-append}
 use Rattle.relay_run.proofs.interim.operations.add.Goals as goal
 use Rattle.relay_run.specs.Shown.{by_name}

@@ -1,9 +1,9 @@
 use Rattle.std.proofs.Common.{◌≡◌, OnOk, ap, subst, ◌∙◌}
 use Rattle.serde_json.specs.Data as J
 use Rattle.serde_json.specs.View.{members_view}
-use Rattle.relay_machine.specs.Keys.{client_id}
-use Rattle.relay_machine.specs.Payload.{Said, both, object_id, fields_said, added_said}
-use Rattle.relay_machine.specs.Schema.{Schema}
+use Rattle.relay_plain.specs.Keys.{client_id}
+use Rattle.relay_plain.specs.Payload.{Said, both, object_id, fields_said, added_said}
+use Rattle.relay_plain.specs.Schema.{Schema}
 use Rattle.relay_run.proofs.Saying.{object_said-told}
 use Rattle.relay_run.proofs.interim.payload.+walk.Goals as goal
 use Rattle.relay_run.specs.Said.{said_shown}

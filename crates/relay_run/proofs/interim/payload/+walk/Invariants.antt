@@ -3,7 +3,7 @@ use Rattle.std.proofs.Common.{◌≡◌, ◌+◌, ◌*◌, drop}
 use Rattle.gql_ast.specs.Sels.{depth}
 use Rattle.gql_ast.specs.SelectionView.{sel_of, sels_of}
 use Rattle.serde_json.specs.View.{members_view}
-use Rattle.relay_machine.specs.Payload.{both, fields_said}
+use Rattle.relay_plain.specs.Payload.{both, fields_said}
 use Rattle.relay_run.proofs.interim.payload.+walk.Given as goal
 use Rattle.relay_run.specs.Said.{said_shown}
 

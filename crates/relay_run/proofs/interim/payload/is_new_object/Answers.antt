@@ -1,6 +1,6 @@
 use Rattle.std.proofs.Common.{◌≡◌, ◌&&◌, ◌||◌, List, ℕ, true, bytes_eq, is_some, ap, sym, subst, ◌∙◌}
 use Rattle.std.proofs.lemmas.Map.Text.{btree_map_updates_str}
-use Rattle.relay_machine.specs.Keys.{typename}
+use Rattle.relay_plain.specs.Keys.{typename}
 use Rattle.relay_run.proofs.Objects.{is_some-noted}
 use Rattle.relay_run.proofs.interim.payload.is_new_object.Goals as goal
 use Rattle.relay_run.specs.Said.{has_text}

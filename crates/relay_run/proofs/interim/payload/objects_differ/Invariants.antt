@@ -1,5 +1,5 @@
 use Rattle.std.proofs.Common.{◌≡◌, drop}
-use Rattle.relay_machine.specs.Payload.{object_ids, all_differ}
+use Rattle.relay_plain.specs.Payload.{object_ids, all_differ}
 use Rattle.relay_run.proofs.Objects.{rest_differs}
 use Rattle.relay_run.proofs.interim.payload.objects_differ.Given as goal
 use Rattle.relay_run.specs.Said.{has_text}

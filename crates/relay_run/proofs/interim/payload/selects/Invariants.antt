@@ -1,6 +1,6 @@
 use Rattle.std.proofs.Common.{◌≡◌, drop}
 use Rattle.gql_ast.specs.SelectionView.{sels_of}
-use Rattle.relay_machine.specs.Payload.{selects}
+use Rattle.relay_plain.specs.Payload.{selects}
 use Rattle.relay_run.proofs.interim.payload.selects.Given as goal
 
 abbrev pub invariant-selections : goal.invariant-selections

@@ -1,8 +1,8 @@
 use Rattle.std.proofs.Common.{◌≡◌, OnOk, ap, subst, ◌∙◌}
 use Rattle.gql_plain.specs.Tree.{text}
-use Rattle.relay_machine.specs.Keys.{typename}
-use Rattle.relay_machine.specs.Payload.{Said, both, fact}
-use Rattle.relay_machine.specs.Records.{leaf, link}
+use Rattle.relay_plain.specs.Keys.{typename}
+use Rattle.relay_plain.specs.Payload.{Said, both, fact}
+use Rattle.relay_plain.specs.Records.{leaf, link}
 use Rattle.relay_run.proofs.Saying.{told_in_turn}
 use Rattle.relay_run.proofs.interim.payload.tell_link.Goals as goal
 use Rattle.relay_run.specs.Said.{said_shown, flag}

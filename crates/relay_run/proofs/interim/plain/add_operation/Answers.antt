@@ -1,5 +1,5 @@
 use Rattle.std.proofs.Common.{rules, ◌≡◌, true, None, is_some, refl, sym, ◌∙◌, arith}
-use Rattle.relay_machine.specs.Machine.{under}
+use Rattle.relay_plain.specs.Machine.{under}
 use Rattle.relay_run.proofs.PlainDocuments.{twice_named, once_named}
 use Rattle.relay_run.proofs.interim.plain.add_operation.Goals as goal
 use Rattle.relay_run.specs.Plain.{is_plain_query}

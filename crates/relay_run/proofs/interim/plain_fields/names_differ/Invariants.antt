@@ -1,6 +1,6 @@
 use Rattle.std.proofs.Common.{◌≡◌, drop}
 use Rattle.gql_ast.specs.SelectionView.{sels_of}
-use Rattle.relay_machine.specs.Payload.{all_differ}
+use Rattle.relay_plain.specs.Payload.{all_differ}
 use Rattle.relay_run.proofs.PlainFields.{names_rest}
 use Rattle.relay_run.proofs.interim.plain_fields.names_differ.Given as goal
 use Rattle.relay_run.specs.Plain.{field_names}

@@ -1,8 +1,8 @@
 use Rattle.std.proofs.Common.{map, unwrap_or, ap, ◌∙◌}
 use Rattle.gql_plain.specs.Shown.{tree_of}
 use Rattle.gql_plain.specs.Tree.{null, text}
-use Rattle.relay_machine.specs.Order.{in_order}
-use Rattle.relay_machine.specs.Read.{Trace}
+use Rattle.relay_plain.specs.Order.{in_order}
+use Rattle.relay_plain.specs.Read.{Trace}
 use Rattle.relay_run.proofs.PrintingLaws.{read_line_of_each}
 use Rattle.relay_run.proofs.interim.print_reading.reading_line.Goals as goal
 use Rattle.relay_run.specs.Reading.{IsReading}

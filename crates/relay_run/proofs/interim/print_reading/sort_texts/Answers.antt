@@ -1,5 +1,5 @@
 use Rattle.std.proofs.Common.{ap, sym, ◌∙◌}
-use Rattle.relay_machine.specs.Order.{with_text}
+use Rattle.relay_plain.specs.Order.{with_text}
 use Rattle.relay_run.specs.Stored.{texts_of}
 use Rattle.relay_run.proofs.PrintingLaws.{texts_of-insert_entry, with_all, with_all-nothing, with_all-step}
 use Rattle.relay_run.proofs.interim.print_reading.sort_texts.Goals as goal

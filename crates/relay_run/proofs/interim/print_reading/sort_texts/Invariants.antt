@@ -1,5 +1,5 @@
 use Rattle.std.proofs.Common.{◌≡◌, vec_len}
-use Rattle.relay_machine.specs.Order.{in_order}
+use Rattle.relay_plain.specs.Order.{in_order}
 use Rattle.relay_run.specs.Stored.{texts_of}
 use Rattle.relay_run.proofs.PrintingLaws.{with_all}
 use Rattle.relay_run.proofs.interim.print_reading.sort_texts.Given as goal

@@ -1,10 +1,10 @@
 use Rattle.std.proofs.Common.{◌≡◌, OnOk, IfOk, Some, true, option_map, ap, sym, subst, ◌∙◌, arith}
 use Rattle.gql_ast.specs.SelectionView.{sel_of}
 use Rattle.gql_plain.specs.Tree.{object, members_of}
-use Rattle.relay_machine.specs.Keys.{Text, typename}
-use Rattle.relay_machine.specs.Read.{Answer, Fields, Trace, fields_at, object_at, stand_at}
-use Rattle.relay_machine.specs.Records.{Records}
-use Rattle.relay_machine.specs.Schema.{Schema}
+use Rattle.relay_plain.specs.Keys.{Text, typename}
+use Rattle.relay_plain.specs.Read.{Answer, Fields, Trace, fields_at, object_at, stand_at}
+use Rattle.relay_plain.specs.Records.{Records}
+use Rattle.relay_plain.specs.Schema.{Schema}
 use Rattle.relay_run.proofs.ReadingLaws.{and_then-nothing, fields_at-step, object_read}
 use Rattle.relay_run.proofs.interim.reading.+read.Goals as goal
 use Rattle.relay_run.specs.Reading.{IsAnswer, members_shown, trace_shown, is_typed, field_answer, progress, read_on, under}

@@ -2,7 +2,7 @@
 use Rattle.std.proofs.Common.{◌≡◌, ◌+◌, ◌*◌, drop}
 use Rattle.gql_ast.specs.Sels.{depth}
 use Rattle.gql_ast.specs.SelectionView.{sel_of, sels_of}
-use Rattle.relay_machine.specs.Read.{fields_at}
+use Rattle.relay_plain.specs.Read.{fields_at}
 use Rattle.relay_run.proofs.interim.reading.+read.Given as goal
 use Rattle.relay_run.specs.Reading.{progress, read_on}
 use Rattle.relay_run.specs.Stored.{stored_in}

@@ -1,5 +1,5 @@
 use Rattle.std.proofs.Common.{◌∙◌, ap, sym}
-use Rattle.relay_machine.specs.Records.{put}
+use Rattle.relay_plain.specs.Records.{put}
 use Rattle.relay_run.proofs.Storing.{put_all-push}
 use Rattle.relay_run.proofs.interim.records.put_facts.Goals as goal
 use Rattle.relay_run.specs.Stored.{stored_in, fact_shown}

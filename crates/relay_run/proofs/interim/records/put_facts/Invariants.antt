@@ -1,5 +1,5 @@
 use Rattle.std.proofs.Common.{◌≡◌, ℕ, List}
-use Rattle.relay_machine.specs.Records.{put_all}
+use Rattle.relay_plain.specs.Records.{put_all}
 use Rattle.relay_run.proofs.interim.records.put_facts.Given as goal
 use Rattle.relay_run.specs.Stored.{stored_in, facts_shown}
 

@@ -1,8 +1,8 @@
 use Rattle.std.proofs.Common.{◌≡◌, Some, option_map, ap, sym, subst, ◌∙◌}
-use Rattle.relay_machine.specs.Machine.{under, read_with}
-use Rattle.relay_machine.specs.Printed.{read_line}
-use Rattle.relay_machine.specs.Read.{read_root}
-use Rattle.relay_machine.specs.Records.{Records}
+use Rattle.relay_plain.specs.Machine.{under, read_with}
+use Rattle.relay_plain.specs.Printed.{read_line}
+use Rattle.relay_plain.specs.Read.{read_root}
+use Rattle.relay_plain.specs.Records.{Records}
 use Rattle.relay_run.proofs.interim.engine.Engine.read.Goals as goal
 use Rattle.relay_run.specs.Shown.{by_name}
 use Rattle.relay_run.specs.Steps.{IsStep}

@@ -1,5 +1,5 @@
 use Rattle.std.proofs.Common.{◌≡◌, ◌∷◌, ◌++◌, [], ◌||◌, ◌==◌, Some, false, length, is_some, option_map, ap, sym, subst, ◌∙◌, arith}
-use Rattle.relay_machine.specs.Machine.{under, max_handles}
+use Rattle.relay_plain.specs.Machine.{under, max_handles}
 use Rattle.relay_run.proofs.EngineLaws.{step-started, taken-so}
 use Rattle.relay_run.proofs.interim.engine.Engine.retain.Goals as goal
 use Rattle.relay_run.specs.Shown.{by_name}

@@ -2,7 +2,7 @@
 use Rattle.std.specs.Prelude.{List, [], ◌∷◌}
 use Rattle.std.specs.Cmp.Lexicographic.{slice_cmp}
 use Rattle.std.specs.Ordering.{nat_cmp, match_ordering}
-use Rattle.relay_machine.specs.Keys.{Text}
+use Rattle.relay_plain.specs.Keys.{Text}
 
 -- a text among others that stand in byte order
 abbrev pub with_text : Text → List Text → List Text

@@ -1,7 +1,7 @@
 -- Why a line is refused: each refusal has a code, a name, and further keys (this project's own).
 use Rattle.std.specs.Prelude.{ℕ, List, [], ◌∷◌, codes}
 use Rattle.gql_plain.specs.Tree.{Tree, text}
-use Rattle.relay_machine.specs.Keys.{Text}
+use Rattle.relay_plain.specs.Keys.{Text}
 
 pub data Refusal : Type 0 where
   -- the line is no JSON

@@ -6,9 +6,9 @@ use Rattle.serde_json.specs.Find.{get_member}
 use Rattle.gql_plain.specs.Tree.{null, text}
 use Rattle.gql_plain.specs.FromJson.{is_whole, plain_tree}
 use Rattle.gql_ast.specs.Sels.{Sels, end, field, spread, inline}
-use Rattle.relay_machine.specs.Keys.{Text, root, root_type, typename, is_generated, client_id}
-use Rattle.relay_machine.specs.Schema.{Schema, type_of, has_id, query_type}
-use Rattle.relay_machine.specs.Records.{Stored, leaf, link, Fact}
+use Rattle.relay_plain.specs.Keys.{Text, root, root_type, typename, is_generated, client_id}
+use Rattle.relay_plain.specs.Schema.{Schema, type_of, has_id, query_type}
+use Rattle.relay_plain.specs.Records.{Stored, leaf, link, Fact}
 
 -- whether it is of the plain form, and its facts
 pub record Said : Type 0 where

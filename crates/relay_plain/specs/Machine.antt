@@ -4,14 +4,14 @@ use Rattle.std.specs.Prelude.{ℕ, ◌+◌, List, [], ◌∷◌, ◌++◌, lengt
 use Rattle.std.specs.Map.{lookup}
 use Rattle.serde_json.specs.Data as J
 use Rattle.gql_ast.specs.Sels.{Sels}
-use Rattle.relay_machine.specs.Keys.{Text}
-use Rattle.relay_machine.specs.Schema.{Schema}
-use Rattle.relay_machine.specs.Records.{Fact, Records, no_records, put_all}
-use Rattle.relay_machine.specs.Payload.{Said, says}
-use Rattle.relay_machine.specs.Read.{read_root}
-use Rattle.relay_machine.specs.Events.{Event, retain, payload, read, Line, too_long, not_json as no_json, other, event, line_of}
-use Rattle.relay_machine.specs.Refusals.{Refusal, not_json, unknown_operation, unknown_handle, not_yet}
-use Rattle.relay_machine.specs.Printed.{event_line, read_line, refusal}
+use Rattle.relay_plain.specs.Keys.{Text}
+use Rattle.relay_plain.specs.Schema.{Schema}
+use Rattle.relay_plain.specs.Records.{Fact, Records, no_records, put_all}
+use Rattle.relay_plain.specs.Payload.{Said, says}
+use Rattle.relay_plain.specs.Read.{read_root}
+use Rattle.relay_plain.specs.Events.{Event, retain, payload, read, Line, too_long, not_json as no_json, other, event, line_of}
+use Rattle.relay_plain.specs.Refusals.{Refusal, not_json, unknown_operation, unknown_handle, not_yet}
+use Rattle.relay_plain.specs.Printed.{event_line, read_line, refusal}
 
 -- an accepted project: its schema, and its operations by their names, which differ
 pub record Project : Type 0 where

@@ -2,11 +2,11 @@
 use Rattle.std.specs.Prelude.{ℕ, pos, List, [], ◌∷◌, ◌++◌, map, codes, unwrap_or}
 use Rattle.gql_plain.specs.Tree.{Tree, null, truth, whole, text, list, object, trees_of, members_of}
 use Rattle.gql_plain.specs.ToJson.{compact}
-use Rattle.relay_machine.specs.Keys.{Text}
-use Rattle.relay_machine.specs.Read.{Answer}
-use Rattle.relay_machine.specs.Refusals.{Refusal, code_of, name_of, keys_of}
+use Rattle.relay_plain.specs.Keys.{Text}
+use Rattle.relay_plain.specs.Read.{Answer}
+use Rattle.relay_plain.specs.Refusals.{Refusal, code_of, name_of, keys_of}
 -- the distinct texts of a list, in byte order
-use Rattle.relay_machine.specs.Order.{in_order}
+use Rattle.relay_plain.specs.Order.{in_order}
 
 -- a line with these members, whose keys stand in byte order
 abbrev pub line : List (Text × Tree) → Text

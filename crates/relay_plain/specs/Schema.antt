@@ -6,7 +6,7 @@ use Rattle.gql_ast.specs.declared.document.Kind.TheVariants.{Query}
 use Rattle.gql_ast.specs.declared.member.FieldTree.{FieldTree}
 use Rattle.schema_tables.specs.Types as types
 use Rattle.schema_tables.specs.Types.{Defs, base_of, field_on, root}
-use Rattle.relay_machine.specs.Keys.{Text}
+use Rattle.relay_plain.specs.Keys.{Text}
 
 abbrev pub Schema : Type 0
 Schema = Defs

@@ -1,7 +1,7 @@
 -- Records, and putting facts.
 use Rattle.std.specs.Prelude.{List, [], ◌∷◌, ◌&&◌, cond, bytes_eq, Option, Some, None}
 use Rattle.gql_plain.specs.Tree.{Tree}
-use Rattle.relay_machine.specs.Keys.{Text}
+use Rattle.relay_plain.specs.Keys.{Text}
 
 -- a field of a record: a value of the server, or the id of a record
 pub data Stored : Type 0 where

@@ -10,14 +10,14 @@ use Rattle.gql_ast.specs.declared.member.FieldTree.{FieldTree}
 use Rattle.gql_ast.specs.declared.schema.SchemaDef.TheVariants as S
 use Rattle.gql_ast.specs.declared.type_tree.TypeTree.{TypeTree}
 use Rattle.gql_ast.specs.declared.type_tree.TypeTree.TheVariants as T
-use Rattle.relay_machine.specs.Keys.{root, client_id}
-use Rattle.relay_machine.specs.Schema.{Schema}
-use Rattle.relay_machine.specs.Records.{leaf, link, no_records, put_all}
-use Rattle.relay_machine.specs.Payload.{says}
-use Rattle.relay_machine.specs.Read.{read_root}
-use Rattle.relay_machine.specs.Events.{retain, payload, read, not_json as no_json, other}
-use Rattle.relay_machine.specs.Machine.{Project, State, Step, beginning, accept, step_event, step_line}
-use Rattle.relay_machine.specs.Script.{lines_of}
+use Rattle.relay_plain.specs.Keys.{root, client_id}
+use Rattle.relay_plain.specs.Schema.{Schema}
+use Rattle.relay_plain.specs.Records.{leaf, link, no_records, put_all}
+use Rattle.relay_plain.specs.Payload.{says}
+use Rattle.relay_plain.specs.Read.{read_root}
+use Rattle.relay_plain.specs.Events.{retain, payload, read, not_json as no_json, other}
+use Rattle.relay_plain.specs.Machine.{Project, State, Step, beginning, accept, step_event, step_line}
+use Rattle.relay_plain.specs.Script.{lines_of}
 
 abbrev field_of : List ℕ → TypeTree → FieldTree
 field_of name of = record { name = name; arguments = []; of = of; directives = [] }

@@ -5,10 +5,10 @@ use Rattle.std.specs.FinMap as map
 use Rattle.std.specs.Ordering.{nat_cmp}
 use Rattle.gql_plain.specs.Tree.{Tree, null, truth, whole, text, list, object, members_of}
 use Rattle.gql_ast.specs.Sels.{Sels, end, field, spread, inline}
-use Rattle.relay_machine.specs.Keys.{Text, root, root_type, typename}
-use Rattle.relay_machine.specs.Schema.{Schema, type_of, query_type}
-use Rattle.relay_machine.specs.Records.{Stored, leaf, link, Records}
-use Rattle.relay_machine.specs.Payload.{is_set}
+use Rattle.relay_plain.specs.Keys.{Text, root, root_type, typename}
+use Rattle.relay_plain.specs.Schema.{Schema, type_of, query_type}
+use Rattle.relay_plain.specs.Records.{Stored, leaf, link, Records}
+use Rattle.relay_plain.specs.Payload.{is_set}
 
 -- what a read met beside its data: whether something was missing, and the ids where it stood, in order
 pub record Trace : Type 0 where

@@ -1,6 +1,6 @@
 -- The lines of a script.
 use Rattle.std.specs.Prelude.{◌+◌, List, [], ◌∷◌, ◌++◌, map, take, Bool, ◌==◌, cond}
-use Rattle.relay_machine.specs.Keys.{Text}
+use Rattle.relay_plain.specs.Keys.{Text}
 use Rattle.gql_plain.specs.Limits.{max_line}
 
 -- a last part that no LF ends is a line where the script has ended and the part is not empty

@@ -6,7 +6,7 @@ use Rattle.serde_json.specs.Data as J
 use Rattle.serde_json.specs.Events.{members_len}
 use Rattle.serde_json.specs.Find.{get_member, as_str, as_object}
 use Rattle.serde_json.specs.Read.{read as read_text}
-use Rattle.relay_machine.specs.Keys.{Text}
+use Rattle.relay_plain.specs.Keys.{Text}
 
 pub data Event : Type 0 where
   retain : (handle operation : Text) → Event

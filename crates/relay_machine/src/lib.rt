@@ -1,3 +1,0 @@
-//! The machine that the program is proved to be: what it says of a project, a script and the
-//! records between them. It has no call that the program makes; its definitions stand in `specs/`.
-#![tactic(auto)]
