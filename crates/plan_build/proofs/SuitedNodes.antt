@@ -31,7 +31,7 @@ inside_on defs t o = on (list_all (λ T. has_text (possible defs o) T) (possible
     on false e T h = h
 
 -- what holds of each fragment holds of the one that is found
-fragment_holds : (P : FragmentAt → Type 0) (fs : List FragmentAt) (n : Text) (f : FragmentAt) → AllByRecursion P fs → fragment_named fs n ≡ Some f → P f
+pub fragment_holds : (P : FragmentAt → Type 0) (fs : List FragmentAt) (n : Text) (f : FragmentAt) → AllByRecursion P fs → fragment_named fs n ≡ Some f → P f
 fragment_holds P [] n f h e = absurd cc
 fragment_holds P (g ∷ gs) n f h e = on (λ k. fragment_holds P gs n f h.1 k) (bytes_eq g.name.name n) e
   where

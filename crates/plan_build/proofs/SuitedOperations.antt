@@ -4,18 +4,20 @@ use Rattle.std.specs.List.{AllByRecursion}
 use Rattle.gql_ast.specs.declared.document.Definition.{Definition}
 use Rattle.gql_ast.specs.declared.document.Definition.TheVariants as D
 use Rattle.gql_ast.specs.declared.document.Document.{Document}
+use Rattle.gql_ast.specs.declared.place.Placed.{Placed}
 use Rattle.gql_graph.specs.Rules.{each, first_broken}
 use Rattle.plan_build.proofs.CovarianceLists.{all_each, all_hold, all_joined, all_parts, none_each, right}
 use Rattle.plan_build.proofs.CovarianceRoots.{root_is_object}
 use Rattle.plan_build.proofs.CovarianceRules.{SchemaMeets, sound_meets}
 use Rattle.plan_build.proofs.SuitedNodes.{expanded}
 use Rattle.plan_build.proofs.SuitedRules.{Meets, SiteMeets, all_meet}
-use Rattle.plan_build.specs.Laws.{OperationsAreSuited, definitions, rules}
+use Rattle.plan_build.specs.Laws.{MeetsRules, OperationsAreSuited, definitions, rules}
 use Rattle.plan_build.specs.Suited.{Suited}
 use Rattle.plan_ir.specs.Expansion.{Project, expansion, is_named, name_or, operation_from, operation_named, project_of, spreads_in}
 use Rattle.plan_ir.specs.Substitution.{operation_scope}
 use Rattle.relay_dirs.specs.Connections.{connections_wrong, type_wrong_at}
 use Rattle.relay_dirs.specs.RelayRules.{relay_rules}
+use Rattle.schema_rules.specs.Checked.{IsSound}
 use Rattle.schema_rules.specs.Rules.{is_object}
 use Rattle.schema_rules.specs.declared.fault.Rule.{Rule}
 use Rattle.schema_tables.specs.Types.{Text, Defs, root}
@@ -155,16 +157,28 @@ documents_meet defs ds e =
     let arguments = all_parts (λ (r : Rule × List ℕ). r.1 ≡ []) (argument_rules defs ds) (relay_rules defs ds) fields.1 in
     record { roots = names.0.1.1.1.1.1.0; defined = fields.0.0; sets = fields.0.1.0; arguments = arguments.0.0; connections = arguments.1.1.1.1.1.1.0 }
 
+-- the set of each definition
+sets_meet : (defs : Defs) (ps : List (Placed Document)) → MeetsRules defs ps → AllByRecursion (DefinitionMeets defs) (definitions defs ps)
+sets_meet defs ps meet =
+    let ds : List DefinitionAt = definitions defs ps in
+    let documents = documents_meet defs ds meet in
+    definitions_meet defs ds (none_each (λ d. each (undefined_at defs) (sites_of d)) ds documents.defined) (none_each (λ d. each (set_wrong_at defs) (sites_of d)) ds documents.sets)
+    (none_each (λ d. each arguments_of_call_wrong (calls_of defs d)) ds documents.arguments) (none_each (λ d. each (type_wrong_at defs) (sites_of d)) ds documents.connections)
+
+-- the set of each fragment
+pub fragments_of_documents : (defs : Defs) (ps : List (Placed Document)) → IsSound defs → MeetsRules defs ps
+    → AllByRecursion (λ (f : FragmentAt). Meets defs f.on.name f.selections) (fragments (definitions defs ps))
+fragments_of_documents defs ps sound meet =
+    fragments_meet defs (sound_meets defs sound) (definitions defs ps) (all_have_sites defs 0 (trees_of ps)) (sets_meet defs ps meet)
+
 pub operations_are_suited : OperationsAreSuited
 operations_are_suited defs ps place name o sound meet found =
     let ds : List DefinitionAt = definitions defs ps in
     let schema = sound_meets defs sound in
     let documents = documents_meet defs ds meet in
-    let have = all_have_sites defs 0 (trees_of ps) in
-    let all = definitions_meet defs ds (none_each (λ d. each (undefined_at defs) (sites_of d)) ds documents.defined) (none_each (λ d. each (set_wrong_at defs) (sites_of d)) ds documents.sets)
-    (none_each (λ d. each arguments_of_call_wrong (calls_of defs d)) ds documents.arguments) (none_each (λ d. each (type_wrong_at defs) (sites_of d)) ds documents.connections) in
-    let here = operation_holds (OperationMeets defs) (operations ds) name o (operations_meet defs schema ds have all) found in
+    let sets = operations_meet defs schema ds (all_have_sites defs 0 (trees_of ps)) (sets_meet defs ps meet) in
+    let here = operation_holds (OperationMeets defs) (operations ds) name o sets found in
     let rooted = operation_holds (λ (x : OperationAt). without_root defs x x.name ≡ []) (operations ds) name o
     (none_each (λ (x : OperationAt). without_root defs x x.name) (operations ds) documents.roots) found in
-    let r = at_root (project_of defs place ds) schema (fragments_meet defs schema ds have all) o here.0 (root defs o.kind) refl (root_there defs o o.name here.1 rooted.0) in
+    let r = at_root (project_of defs place ds) schema (fragments_of_documents defs ps sound meet) o here.0 (root defs o.kind) refl (root_there defs o o.name here.1 rooted.0) in
     record { root = r.0; selections = r.1 }
