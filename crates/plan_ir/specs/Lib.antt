@@ -16,4 +16,5 @@ pub mod Expansion
 pub mod Sizes
 pub mod OperationText
 pub mod NormalMeaning
+pub mod NormalReach
 pub mod ReaderMeaning
