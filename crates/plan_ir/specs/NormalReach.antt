@@ -8,12 +8,12 @@ use Rattle.schema_types.specs.Environments.{Values}
 use Rattle.store_model.specs.Reaches.{reach_at}
 use Rattle.store_model.specs.Walks.{Slots}
 
--- how many records a walk by these steps goes on from one below another, the first one not counted; from a leaf that is stored as a link it
--- goes on to that link's record
+-- how many records a walk by these steps stands at one below another, the first one not counted; where a leaf is stored as a link, the walk
+-- stands at that link's record, and ends there
 abbrev pub records_below : Normal → ℕ
 records_below n.done = 0
-records_below (n.typename r rest) = max 1 (records_below rest)
-records_below (n.leaf r name xs rest) = max 1 (records_below rest)
+records_below (n.typename r rest) = records_below rest
+records_below (n.leaf r name xs rest) = records_below rest
 records_below (n.object r name xs m ts is o c child rest) = max (records_below child + 1) (records_below rest)
 records_below (n.guarded g child rest) = max (records_below child) (records_below rest)
 
