@@ -55,7 +55,7 @@ ArePlans defs types fs gs = (T : Text) → has_text types T ≡ true → Related
 -- ---- the types of a form
 
 module _ (defs : Defs) (T : Text) where
-  differ_form : (n : Text) → Differ (types_of (form_on defs T n))
+  pub differ_form : (n : Text) → Differ (types_of (form_on defs T n))
   differ_form n = on (bytes_eq n (codes "__typename")) (is_composite defs (base_of (type_on defs T n))) (is_list_type (type_on defs T n)) where
     on : (b c l : Bool) → Differ (types_of (cond b typename (cond c (cond l (many (below_type defs (base_of (type_on defs T n)))) (one (below_type defs (base_of (type_on defs T n))))) leaf)))
     on true c l = tt
@@ -73,7 +73,7 @@ module _ (defs : Defs) (T : Text) where
     on false true false k = k
     on false false l k = absurd (true≢false (sym k))
 
-only_one : (T U : Text) → has_text (T ∷ []) U ≡ true → U ≡ T
+pub only_one : (T U : Text) → has_text (T ∷ []) U ≡ true → U ≡ T
 only_one T U h = on (bytes_eq T U) refl h where
   on : (b : Bool) → bytes_eq T U ≡ b → (b || false) ≡ true → U ≡ T
   on true e k = sym (same_text T U e)
@@ -98,7 +98,7 @@ parts_plans defs form U h (m ∷ ms) same =
     λ i. (ap (λ (f : Form). plan_below defs f m.part) same.0 ∙ plan_is defs form U m.part h) i ∷ parts_plans defs form U h ms same.1 i
 
 module _ (defs : Defs) (T : Text) (ps : List Part) (merge : Merge defs ps) where
-  abbrev Fit : Text → Asked Part → Type 0
+  abbrev pub Fit : Text → Asked Part → Type 0
   Fit r m = GatheredFrom defs T ps m × (m.ask.response ≡ r)
 
   pub record MemberOf (r : Text) (p : Part) : Type 0 where
@@ -111,14 +111,14 @@ module _ (defs : Defs) (T : Text) (ps : List Part) (merge : Merge defs ps) where
   member_of r (m ∷ ms) all p (inl e) = record { field = m; fit = all.0; is = e }
   member_of r (m ∷ ms) all p (inr h) = member_of r ms all.1 p h
 
-  merge_below : (r : Text) (ms : List (Asked Part)) → AllByRecursion (Fit r) ms → Merge defs (map (λ (m : Asked Part). m.part) ms)
+  pub merge_below : (r : Text) (ms : List (Asked Part)) → AllByRecursion (Fit r) ms → Merge defs (map (λ (m : Asked Part). m.part) ms)
   merge_below r ms all p q h k s u there back =
       let a = member_of r ms all p h in
       let b = member_of r ms all q k in
       names_below defs T ps merge a.field b.field a.fit.0 b.fit.0 (a.fit.1 ∙ sym b.fit.1) s u
       (subst (λ (w : Part). Among s (paths (fields defs w))) (sym a.is) there) (subst (λ (w : Part). Among u (paths (fields defs w))) (sym b.is) back)
 
-  holds_below : (x m : Asked Part) (U : Text) → Fit x.ask.response m → GatheredFrom defs T ps x → has_text (types_of x.ask.form) U ≡ true → Holds defs U m.part
+  pub holds_below : (x m : Asked Part) (U : Text) → Fit x.ask.response m → GatheredFrom defs T ps x → has_text (types_of x.ask.form) U ≡ true → Holds defs U m.part
   holds_below x m U fit gx h =
       let g = fit.0.gathered in
       let form : x.ask.form ≡ form_on defs T m.ask.name = sym (one_form defs T ps merge m x fit.0 gx fit.1) ∙ g.form in
@@ -182,14 +182,14 @@ plans_keep defs sound T types fs gs own h =
 abbrev root_part : Values → Expanded → Part
 root_part own e = record { set = record { environment = own; nodes = e.selections }; around = e.root; type = e.root }
 
-merge_root : (defs : Defs) (own : Values) (e : Expanded) → field_differences defs e ≡ [] → Merge defs (root_part own e ∷ [])
+pub merge_root : (defs : Defs) (own : Values) (e : Expanded) → field_differences defs e ≡ [] → Merge defs (root_part own e ∷ [])
 merge_root defs own e none p q (inl f) (inl g) s u h k =
     one_name_each (fields_in defs e) (collected_alike (fields_in defs e) none) s u
     (subst (λ (w : Part). Among s (paths (fields defs w))) (sym f) h) (subst (λ (w : Part). Among u (paths (fields defs w))) (sym g) k)
 merge_root defs own e none p q (inl f) (inr g) s u h k = absurd g
 merge_root defs own e none p q (inr f) g s u h k = absurd f
 
-root_has : (defs : Defs) → IsSound defs → (t : Text) → is_object defs t ≡ true → has_text (possible defs t) t ≡ true
+pub root_has : (defs : Defs) → IsSound defs → (t : Text) → is_object defs t ≡ true → has_text (possible defs t) t ≡ true
 root_has defs sound t e = ap (λ (ts : List Text). has_text ts t) (object_alone defs (sound_meets defs sound) t e) ∙ ap (λ (b : Bool). b || false) (same_self t)
 
 root_plans : (defs : Defs) (own : Values) (e : Expanded) → IsSound defs → IsSuited defs e → field_differences defs e ≡ []

@@ -94,7 +94,7 @@ parent_meets defs T around alone = on (is_object defs around) refl where
   on true e = ap (bytes_eq T) (sym (alone e)) ∙ same_self T
   on false e = refl
 
-inside_alone : (defs : Defs) → AreSound defs → (around : Text) (o : Option Text) (T : Text) → (is_object defs around ≡ true → T ≡ around) → applies defs o T ≡ true
+pub inside_alone : (defs : Defs) → AreSound defs → (around : Text) (o : Option Text) (T : Text) → (is_object defs around ≡ true → T ≡ around) → applies defs o T ≡ true
     → is_object defs (on_or around o) ≡ true → T ≡ on_or around o
 inside_alone defs sound around None T alone e = alone
 inside_alone defs sound around (Some o) T alone e = λ h. sound.alone o T h e

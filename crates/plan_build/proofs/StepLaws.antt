@@ -53,7 +53,7 @@ behind_items : (env : Values) (T : Text) (cs : List Condition) (s : Normal) → 
 behind_items env T [] s = refl
 behind_items env T (c ∷ cs) s = append-nil _
 
-either : {X : Type 0} (b : Bool) (xs : List X) → cond (not b) xs [] ≡ cond b [] xs
+pub either : {X : Type 0} (b : Bool) (xs : List X) → cond (not b) xs [] ≡ cond b [] xs
 either true xs = refl
 either false xs = refl
 
@@ -142,7 +142,7 @@ field_items defs T env ts r n xs c of s differ here suits = on (bytes_eq n (code
 
 -- ---- inline fragments
 
-all_has : (p : Text → Bool) (ts : List Text) (T : Text) → list_all p ts ≡ true → has_text ts T ≡ true → p T ≡ true
+pub all_has : (p : Text → Bool) (ts : List Text) (T : Text) → list_all p ts ≡ true → has_text ts T ≡ true → p T ≡ true
 all_has p [] T all has = absurd (true≢false (sym has))
 all_has p (X ∷ ts) T all has = on (λ a h. all_has p ts T a h) (bytes_eq X T) refl has (p X) refl all where
   on : (list_all p ts ≡ true → has_text ts T ≡ true → p T ≡ true) → (b : Bool) → bytes_eq X T ≡ b → (b || has_text ts T) ≡ true → (c : Bool) → p X ≡ c → (c && list_all p ts) ≡ true → p T ≡ true
@@ -150,7 +150,7 @@ all_has p (X ∷ ts) T all has = on (λ a h. all_has p ts T a h) (bytes_eq X T) 
   on later true e h true q a = ap p (sym (same_text X T e)) ∙ q
   on later false e h true q a = later a h
 
-one_has : (p : Text → Bool) (ts : List Text) (T : Text) → is_one ts ≡ true → has_text ts T ≡ true → list_all p ts ≡ false → p T ≡ false
+pub one_has : (p : Text → Bool) (ts : List Text) (T : Text) → is_one ts ≡ true → has_text ts T ≡ true → list_all p ts ≡ false → p T ≡ false
 one_has p [] T one has all = absurd (true≢false (sym one))
 one_has p (X ∷ Y ∷ ts) T one has all = absurd (true≢false (sym one))
 one_has p (X ∷ []) T one has all = on (bytes_eq X T) refl has (p X) refl all where
@@ -166,7 +166,7 @@ inside_has defs t o T here there = on (list_all (λ X. has_text (possible defs o
   on true = here
   on false = there
 
-nothing_left : {X : Type 0} (b : Bool) → cond {A = List X} b [] [] ≡ []
+pub nothing_left : {X : Type 0} (b : Bool) → cond {A = List X} b [] [] ≡ []
 nothing_left true = refl
 nothing_left false = refl
 

@@ -162,7 +162,7 @@ module _ (own env : Values) (scope : Scope) (means : Means own scope env) where
   pub arguments-printed : (xs : Arguments) → arguments_in_environment own (printed_arguments (substitute_in scope xs)) ≡ arguments_in_environment env xs
   arguments-printed xs = pairs-by_name own (map printed_pair (substitute_in scope xs)) ∙ given-printed xs
 
-  value_of_name-substituted : (xs : Arguments) (n : Text) → value_of_name (substitute_in scope xs) n ≡ option_map (substitute scope) (value_of_name xs n)
+  pub value_of_name-substituted : (xs : Arguments) (n : Text) → value_of_name (substitute_in scope xs) n ≡ option_map (substitute scope) (value_of_name xs n)
   value_of_name-substituted [] n = refl
   value_of_name-substituted (x ∷ xs) n = at (value_of_name-substituted xs n) (bytes_eq x.0 n)
     where
@@ -178,7 +178,7 @@ module _ (own env : Values) (scope : Scope) (means : Means own scope env) where
 
 -- ---- a pair that is put is found
 
-found-with_pair : (n : Text) (x : Tree) (ps : Values) (m : Text) → member_at (with_pair n x ps) m ≡ cond (bytes_eq n m) (Some x) (member_at ps m)
+pub found-with_pair : (n : Text) (x : Tree) (ps : Values) (m : Text) → member_at (with_pair n x ps) m ≡ cond (bytes_eq n m) (Some x) (member_at ps m)
 found-with_pair n x [] m = refl
 found-with_pair n x (p ∷ ps) m = at (found-with_pair n x ps m) (order n p.0) refl
   where
