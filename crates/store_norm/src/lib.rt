@@ -7,9 +7,11 @@ mod leaves;
 mod made;
 mod members;
 mod pages;
+pub mod plans;
 pub mod response;
 mod types;
 mod walk;
 
+pub use plans::is_formed;
 pub use response::facts;
 pub use store_report::NormFault;
