@@ -1,0 +1,7 @@
+pub mod Changes
+pub mod Equal
+pub mod Kept
+pub mod Noted
+pub mod Sums
+pub mod Weights
+pub mod Walks

@@ -1,0 +1,10 @@
+//! What an entry makes of a record map, and the ids whose slot it changes.
+#![tactic(auto)]
+
+mod command;
+mod draft;
+pub mod entry;
+mod row;
+mod slot;
+
+pub use entry::{Changed, apply};
