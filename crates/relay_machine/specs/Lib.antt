@@ -1,0 +1,4 @@
+pub mod Machine
+pub mod Printed
+pub mod Refusals
+pub mod Script
