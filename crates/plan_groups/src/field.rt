@@ -81,7 +81,7 @@ fn first_text(texts: &Ids) -> Option<&str>
 }
 
 /// The form of a field of objects; takes no memory.
-pub(crate) fn form_of_objects<'p>(
+pub fn form_of_objects<'p>(
     many: bool,
     types: &'p Ids,
     identified: &'p Ids,
@@ -101,7 +101,7 @@ pub(crate) fn form_of_objects<'p>(
 }
 
 /// The connection, where there is one; takes no memory.
-pub(crate) fn connection_in(connection: &Option<Conn>) -> Option<&Conn>
+pub fn connection_in(connection: &Option<Conn>) -> Option<&Conn>
     ensures { option_copied result ≡ connection.now }
 {
     match connection {
@@ -112,9 +112,9 @@ pub(crate) fn connection_in(connection: &Option<Conn>) -> Option<&Conn>
 
 /// The name of a field, and its arguments.
 #[derive(Clone, Copy)]
-pub(crate) struct Call<'p> {
-    pub(crate) name: &'p Name,
-    pub(crate) arguments: &'p Arguments,
+pub struct Call<'p> {
+    pub name: &'p Name,
+    pub arguments: &'p Arguments,
 }
 
 /// A field.

@@ -11,12 +11,7 @@ use schema_values::{Env, evaluate};
 use std::alloc::Global;
 
 /// Whether the steps behind a guard are taken for an object of that type.
-pub(crate) fn guard_passes(
-    alloc: Global,
-    env: &Env,
-    object: &str,
-    guard: &Guard,
-) -> Result<bool, NoMemory>
+pub fn guard_passes(alloc: Global, env: &Env, object: &str, guard: &Guard) -> Result<bool, NoMemory>
     ensures { IfOk result (λ passes. passes ≡ meaning.guard_passes env.now.values object.now guard.now) }
 {
     if !type_passes(&guard.types, object) {

@@ -9,10 +9,11 @@ pub mod field;
 mod gathered;
 pub mod group;
 pub mod groups;
-mod guards;
+pub mod guards;
 pub mod pages;
 
-pub use field::{BelowAt, FormAt, PlanAt};
+pub use field::{BelowAt, Call, FormAt, PlanAt, connection_in, form_of_objects};
 pub use group::GroupAt;
 pub use groups::Groups;
+pub use guards::guard_passes;
 pub use pages::put_pages;
