@@ -1,0 +1,10 @@
+-- What is put and what is left are the whole.
+use Rattle.std.proofs.Common.{◌≡◌, ◌++◌, map, drop}
+use Rattle.gql_graph.specs.Rules.{each}
+use Rattle.doc_sites.specs.SitesView.{argument_of}
+use Rattle.relay_dirs.specs.Locals.{local_at}
+use Rattle.relay_dirs.specs.View.{local_view}
+use Rattle.plan_read.proofs.variables.put_arguments.Given as goal
+
+abbrev pub invariant-arguments : goal.invariant-arguments
+invariant-arguments l = map local_view l.locals ++ each local_at (map argument_of (drop l.argument-index l.arguments)) ≡ map local_view l.initial.locals ++ each local_at (map argument_of l.arguments)

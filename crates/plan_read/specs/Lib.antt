@@ -1,0 +1,10 @@
+pub mod Steps
+pub mod Plans
+pub mod Laws
+pub mod Reading
+pub mod ReadyView
+pub mod OperationsView
+pub mod FieldView
+pub mod WalkView
+pub mod Preparing
+pub mod Premises

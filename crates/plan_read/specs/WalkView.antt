@@ -1,0 +1,28 @@
+-- The steps that come of what a walk of the code looks at.
+use Rattle.std.specs.Prelude.{ℕ, List}
+use Rattle.gql_ast.specs.Sels.{Sels}
+use Rattle.gql_ast.specs.declared.directive.Directive.{Directive}
+use Rattle.plan_expand.specs.ScopeView.{scope_of}
+use Rattle.plan_ir.specs.Reader.{Reader}
+use Rattle.plan_read.specs.Reading.{entered_ready, reading, ready_scope}
+use Rattle.plan_read.specs.ReadyView.{find_in, ready_of}
+use Rattle.plan_read.specs.declared.fields.Field.{Field}
+use Rattle.plan_read.specs.declared.fragments.ReadyFragment.{ReadyFragment}
+use Rattle.plan_read.specs.declared.steps.Inside.{Inside}
+use Rattle.plan_read.specs.declared.steps.Inside.TheVariants as I
+use Rattle.plan_read.specs.declared.steps.Walk.{Walk}
+use Rattle.schema_tables.specs.Types.{Text}
+
+abbrev pub steps_in : Walk → (types : List Text) → Sels → Reader
+steps_in w ts s = reading w.spreads w.schema.now (find_in w.fragments.now) (scope_of w.scope.now) ts s
+
+abbrev pub below_field : Walk → Field → (types : List Text) → Reader
+below_field w f ts = steps_in w ts f.selections.now
+
+-- the selections of a fragment that is spread with these directives; so many spreads may still be entered in it, one in another
+abbrev pub fragment_in : Walk → List Directive → ReadyFragment → (spreads : ℕ) → (types : List Text) → Reader
+fragment_in w ds f k ts = reading k w.schema.now (find_in w.fragments.now) (ready_scope (scope_of w.scope.now) ds (ready_of f)) ts f.selections.now
+
+abbrev pub inside_in : Walk → Inside → (types : List Text) → Reader
+inside_in w (I.Selections s) ts = steps_in w ts s.now
+inside_in w (I.Fragment n ds f k) ts = entered_ready (scope_of w.scope.now) n.now ds.now (ready_of f.now) (fragment_in w ds.now f.now k ts)

@@ -1,0 +1,115 @@
+//! The fragments of a project, ready to be spread.
+ghost use Rattle.std.specs.Prelude.{◌≡◌, None, map, option_map, IfOk, OnOk};
+ghost use Rattle.std.specs.Option.{option_or};
+ghost use Rattle.gql_graph.specs.Texts.{Text};
+ghost use Rattle.doc_sites.specs.SitesView.{definition_of, fragment_of};
+ghost use Rattle.plan_read.specs.Reading.{HasFragments, ready_fragment};
+ghost use Rattle.plan_read.specs.ReadyView.{find_in, ready_in, ready_named, ready_of};
+ghost use Rattle.schema_types.specs.NameRules as rules;
+
+use crate::masks::is_inline;
+use crate::variables::locals_of;
+use doc_sites::{DefinitionAt, FragmentAt};
+use gql_ast::{Selections, VariableDefs};
+use gql_plain::NoMemory;
+use plan_expand::locals::Locals;
+use std::alloc::Global;
+use std::collections::BTreeMap;
+
+/// A fragment, with its local variables.
+#[derive(Drop)]
+pub(crate) struct ReadyFragment<'a> {
+    pub(crate) on: &'a str,
+    pub(crate) selections: &'a Selections,
+    /// Its local variables by their names.
+    pub(crate) locals: Locals<'a>,
+    /// The same in written order.
+    pub(crate) variables: VariableDefs,
+    /// Whether it is `@inline`: its plan stands in each pointer to it.
+    pub(crate) is_inline: bool,
+}
+
+/// The fragments of a project by their names. Of several of one name the first counts.
+#[derive(Drop)]
+pub(crate) struct Fragments<'a> {
+    by_name: BTreeMap<&'a str, ReadyFragment<'a>>,
+}
+
+/// A fragment, ready to be spread.
+fn ready_fragment<'a>(
+    alloc: Global,
+    fragment: &FragmentAt<'a>,
+) -> Result<ReadyFragment<'a>, NoMemory>
+    ensures { IfOk result (λ r. ready_of r ≡ ready_fragment (fragment_of fragment.now)) }
+{
+    let locals = Locals::of(alloc, &fragment.directives)?;
+    let variables = locals_of(alloc, &fragment.directives)?;
+    Ok(ReadyFragment {
+        on: fragment.on.name,
+        selections: fragment.selections,
+        locals,
+        variables,
+        is_inline: is_inline(&fragment.directives),
+    })
+}
+
+impl<'a> Fragments<'a> {
+    /// No fragment; takes no memory.
+    fn new(alloc: Global) -> Fragments<'a>
+        ensures { (n : Text) → find_in result n ≡ None }
+    {
+        Fragments {
+            by_name: BTreeMap::new(alloc),
+        }
+    }
+
+    /// The fragment of a name; takes no memory.
+    pub(crate) fn find(&self, name: &str) -> Option<&ReadyFragment<'a>>
+        ensures { option_map (λ f. ready_of f.now) result ≡ find_in self.now name.now }
+    {
+        self.by_name.get(name)
+    }
+
+    /// Puts a fragment, unless there is one of its name.
+    fn put(&mut self, name: &'a str, fragment: ReadyFragment<'a>) -> Result<(), NoMemory>
+        ensures { OnOk result ((n : Text) → find_in self.new n ≡ option_or (find_in self.old n) (ready_named name.now (ready_of fragment.entry) n)) }
+    {
+        if self.by_name.contains_key(name) {
+            return Ok(());
+        }
+        drop(self.by_name.insert(name, fragment)?);
+        Ok(())
+    }
+
+    /// Puts a definition, where it is a fragment.
+    fn put_definition(
+        &mut self,
+        alloc: Global,
+        definition: &DefinitionAt<'a>,
+    ) -> Result<(), NoMemory>
+        ensures { OnOk result ((n : Text) → find_in self.new n ≡ option_or (find_in self.old n) (ready_in (definition_of definition.now) n)) }
+    {
+        match definition {
+            DefinitionAt::Operation(_) => Ok(()),
+            DefinitionAt::Fragment(fragment) => {
+                let ready = ready_fragment(alloc, fragment)?;
+                self.put(fragment.name.name, ready)?;
+                Ok(())
+            }
+        }
+    }
+
+    /// The fragments among definitions.
+    pub(crate) fn of(
+        alloc: Global,
+        definitions: &[DefinitionAt<'a>],
+    ) -> Result<Fragments<'a>, NoMemory>
+        ensures { IfOk result (λ fragments. HasFragments (find_in fragments) (rules.fragments (map definition_of definitions.now))) }
+    {
+        let mut fragments = Fragments::new(alloc);
+        'definitions: for definition in definitions {
+            fragments.put_definition(alloc, definition)?;
+        }
+        Ok(fragments)
+    }
+}

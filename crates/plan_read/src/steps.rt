@@ -1,0 +1,475 @@
+//! The steps that come of selections, where the records are of known types.
+ghost use Rattle.std.specs.Prelude.{◌≡◌, [], ◌∷◌, None, Some, map, option_copied, IfOk, OnOk};
+ghost use Rattle.gql_ast.specs.SelectionView.{sel_of};
+ghost use Rattle.gql_ast.specs.Sels as sels;
+ghost use Rattle.plan_build.specs.ClassView.{class_view, target_view};
+ghost use Rattle.plan_build.specs.Conditions as tests;
+ghost use Rattle.plan_build.specs.KeptView.{IsRight};
+ghost use Rattle.plan_expand.specs.ScopeView.{scope_of};
+ghost use Rattle.plan_ir.specs.Expansion.{printed_conditions};
+ghost use Rattle.plan_ir.specs.Reader.{reader_append};
+ghost use Rattle.plan_ir.specs.ReaderView.{step_of};
+ghost use Rattle.plan_read.specs.FieldView.{field_view};
+ghost use Rattle.plan_read.specs.ReadyView.{ready_of};
+ghost use Rattle.plan_read.specs.Reading as reading;
+ghost use Rattle.plan_read.specs.Steps as spec;
+ghost use Rattle.plan_read.specs.WalkView.{below_field, fragment_in, inside_in, steps_in};
+
+use crate::fields::{Field, behind, conditions_in, put_leaf, put_object, put_typename, text_of};
+use crate::fragments::{Fragments, ReadyFragment};
+use crate::masks::is_open;
+use crate::pointers::pointer_arguments;
+use gql_ast::{Directives, Selection, Selections};
+use gql_plain::{Ids, Name, NoMemory};
+use plan_build::classes::{Class, Target, classes_of, one_target};
+use plan_build::kept::Kept;
+use plan_build::steps::{are_within, is_one};
+use plan_expand::scope::{Scope, scope_at_spread};
+use plan_ir::{Conditions, ReaderPlan, ReaderStep, ReaderSteps};
+use schema_types::Schema;
+use std::alloc::Global;
+
+/// What a walk over selections looks at.
+#[derive(Clone, Copy)]
+pub(crate) struct Walk<'w, 'a> {
+    pub(crate) schema: &'a Schema,
+    pub(crate) fragments: &'w Fragments<'a>,
+    pub(crate) scope: &'w Scope<'w, 'a>,
+    /// How many spreads may still be entered, one in another.
+    pub(crate) spreads: usize,
+}
+
+/// What stands inside an inline fragment, or at a spread.
+#[derive(Clone, Copy)]
+pub(crate) enum Inside<'f, 'a> {
+    Selections(&'a Selections),
+    Fragment {
+        name: &'f Name,
+        directives: &'a Directives,
+        fragment: &'f ReadyFragment<'a>,
+        /// How many spreads may still be entered in it, one in another.
+        spreads: usize,
+    },
+}
+
+/// Puts the steps of selections.
+#[cycle(steps)]
+pub(crate) fn put_set<'a>(
+    alloc: Global,
+    walk: Walk<'_, 'a>,
+    kept: &mut Kept<'a>,
+    types: &Ids,
+    selections: &'a Selections,
+    steps: &mut ReaderSteps,
+) -> Result<(), NoMemory>
+    requires { IsRight walk.schema.now kept.old }
+    ensures right { OnOk result (IsRight walk.entry.schema.now kept.new) }
+    ensures put { OnOk result (steps.new ≡ reader_append steps.old (steps_in walk.entry types.now selections.now)) }
+{
+    'selections: for selection in selections.as_slice() {
+        put_selection(alloc, walk, kept, types, selection, steps)?;
+    }
+    Ok(())
+}
+
+/// Puts the steps of a selection.
+#[cycle(steps)]
+fn put_selection<'a>(
+    alloc: Global,
+    walk: Walk<'_, 'a>,
+    kept: &mut Kept<'a>,
+    types: &Ids,
+    selection: &'a Selection,
+    steps: &mut ReaderSteps,
+) -> Result<(), NoMemory>
+    requires { IsRight walk.schema.now kept.old }
+    ensures right { OnOk result (IsRight walk.entry.schema.now kept.new) }
+    ensures put { OnOk result (steps.new ≡ reader_append steps.old (steps_in walk.entry types.now (sel_of selection.now))) }
+{
+    match selection {
+        Selection::Field {
+            alias,
+            name,
+            arguments,
+            directives,
+            selections,
+        } => {
+            let field = Field {
+                alias,
+                name,
+                arguments,
+                directives,
+                selections,
+            };
+            put_field(alloc, walk, kept, types, field, steps)
+        }
+        Selection::Spread { name, directives } => {
+            put_spread(alloc, walk, kept, types, name, directives, steps)
+        }
+        Selection::Inline {
+            on,
+            directives,
+            selections,
+        } => {
+            let on = text_of(on);
+            let inside = Inside::Selections(selections);
+            put_inline(alloc, walk, kept, types, on, directives, inside, steps)
+        }
+    }
+}
+
+/// Puts the steps of a field, behind its conditions.
+#[cycle(steps)]
+fn put_field<'a>(
+    alloc: Global,
+    walk: Walk<'_, 'a>,
+    kept: &mut Kept<'a>,
+    types: &Ids,
+    field: Field<'a>,
+    steps: &mut ReaderSteps,
+) -> Result<(), NoMemory>
+    requires { IsRight walk.schema.now kept.old }
+    ensures right { OnOk result (IsRight walk.entry.schema.now kept.new) }
+    ensures put { OnOk result (steps.new ≡ reader_append steps.old
+        (spec.behind None (tests.conditions_of (printed_conditions (scope_of walk.entry.scope.now) field.entry.directives.now))
+        (spec.field_steps walk.entry.schema.now types.now (field_view (scope_of walk.entry.scope.now) field.entry) (below_field walk.entry field.entry)))) }
+{
+    let conditions = conditions_in(alloc, walk.scope, field.directives)?;
+    if conditions.is_empty() {
+        return put_field_steps(alloc, walk, kept, types, field, steps);
+    }
+    let mut inside = ReaderSteps::new(alloc);
+    put_field_steps(alloc, walk, kept, types, field, &mut inside)?;
+    steps.push(behind(None, conditions, inside))
+}
+
+/// Puts the steps of a field: one for each class of the object types.
+#[cycle(steps)]
+fn put_field_steps<'a>(
+    alloc: Global,
+    walk: Walk<'_, 'a>,
+    kept: &mut Kept<'a>,
+    types: &Ids,
+    field: Field<'a>,
+    steps: &mut ReaderSteps,
+) -> Result<(), NoMemory>
+    requires { IsRight walk.schema.now kept.old }
+    ensures right { OnOk result (IsRight walk.entry.schema.now kept.new) }
+    ensures put { OnOk result (steps.new ≡ reader_append steps.old
+        (spec.field_steps walk.entry.schema.now types.now (field_view (scope_of walk.entry.scope.now) field.entry) (below_field walk.entry field.entry))) }
+{
+    if field.name.as_str() == "__typename" {
+        return put_typename(&field, steps);
+    }
+    if let Some(target) = one_target(walk.schema, types, field.name.as_str()) {
+        return put_target(alloc, walk, kept, &target, field, steps);
+    }
+    let classes = classes_of(alloc, walk.schema, types, field.name.as_str())?;
+    put_classes(alloc, walk, kept, &classes, field, steps)
+}
+
+/// Puts a step for each class; one class alone wants no guard.
+#[cycle(steps)]
+fn put_classes<'a>(
+    alloc: Global,
+    walk: Walk<'_, 'a>,
+    kept: &mut Kept<'a>,
+    classes: &[Class<'a>],
+    field: Field<'a>,
+    steps: &mut ReaderSteps,
+) -> Result<(), NoMemory>
+    requires { IsRight walk.schema.now kept.old }
+    ensures right { OnOk result (IsRight walk.entry.schema.now kept.new) }
+    ensures put { OnOk result (steps.new ≡ reader_append steps.old (spec.class_steps
+        (spec.target_step walk.entry.schema.now (field_view (scope_of walk.entry.scope.now) field.entry) (below_field walk.entry field.entry)) (map class_view classes.now))) }
+{
+    if classes.len() == 1 {
+        return put_target(alloc, walk, kept, &classes[0].target, field, steps);
+    }
+    'classes: for class in classes {
+        put_class(alloc, walk, kept, class, field, steps)?;
+    }
+    Ok(())
+}
+
+/// Puts the step of a class behind the guard of its types.
+#[cycle(steps)]
+fn put_class<'a>(
+    alloc: Global,
+    walk: Walk<'_, 'a>,
+    kept: &mut Kept<'a>,
+    class: &Class<'a>,
+    field: Field<'a>,
+    steps: &mut ReaderSteps,
+) -> Result<(), NoMemory>
+    requires { IsRight walk.schema.now kept.old }
+    ensures right { OnOk result (IsRight walk.entry.schema.now kept.new) }
+    ensures put { OnOk result (steps.new ≡ reader_append steps.old (spec.guarded_classes
+        (spec.target_step walk.entry.schema.now (field_view (scope_of walk.entry.scope.now) field.entry) (below_field walk.entry field.entry)) (class_view class.now ∷ []))) }
+{
+    let mut inside = ReaderSteps::new(alloc);
+    put_target(alloc, walk, kept, &class.target, field, &mut inside)?;
+    let types = class.types.copy()?;
+    let conditions = Conditions::new(alloc);
+    steps.push(behind(Some(types), conditions, inside))
+}
+
+/// Puts the step of a field that leads to this target.
+#[cycle(steps)]
+fn put_target<'a>(
+    alloc: Global,
+    walk: Walk<'_, 'a>,
+    kept: &mut Kept<'a>,
+    target: &Target<'a>,
+    field: Field<'a>,
+    steps: &mut ReaderSteps,
+) -> Result<(), NoMemory>
+    requires { IsRight walk.schema.now kept.old }
+    ensures right { OnOk result (IsRight walk.entry.schema.now kept.new) }
+    ensures put { OnOk result (steps.new ≡ reader_append steps.old
+        (spec.target_step walk.entry.schema.now (field_view (scope_of walk.entry.scope.now) field.entry) (below_field walk.entry field.entry) (target_view target.now))) }
+{
+    let schema = walk.schema;
+    if !schema.is_composite(target.base) {
+        return put_leaf(alloc, walk.scope, &field, steps);
+    }
+    let below = schema.possible(target.base);
+    let mut child = ReaderSteps::new(alloc);
+    put_set(alloc, walk, kept, below, field.selections, &mut child)?;
+    put_object(
+        alloc, schema, kept, walk.scope, &field, target, child, steps,
+    )
+}
+
+/// Puts the steps of a spread, where it may be entered.
+#[cycle(steps)]
+fn put_spread<'a>(
+    alloc: Global,
+    walk: Walk<'_, 'a>,
+    kept: &mut Kept<'a>,
+    types: &Ids,
+    name: &Name,
+    directives: &'a Directives,
+    steps: &mut ReaderSteps,
+) -> Result<(), NoMemory>
+    requires { IsRight walk.schema.now kept.old }
+    ensures right { OnOk result (IsRight walk.entry.schema.now kept.new) }
+    ensures put { OnOk result (steps.new ≡ reader_append steps.old (steps_in walk.entry types.now (sels.spread name.now directives.now sels.end))) }
+{
+    if walk.spreads == 0 {
+        return Ok(());
+    }
+    match walk.fragments.find(name.as_str()) {
+        Some(fragment) => {
+            let inside = Inside::Fragment {
+                name,
+                directives,
+                fragment,
+                spreads: walk.spreads - 1,
+            };
+            let on = Some(fragment.on);
+            put_inline(alloc, walk, kept, types, on, directives, inside, steps)
+        }
+        None => Ok(()),
+    }
+}
+
+/// Puts the steps of what stands behind a type and conditions.
+#[cycle(steps)]
+fn put_inline<'a>(
+    alloc: Global,
+    walk: Walk<'_, 'a>,
+    kept: &mut Kept<'a>,
+    types: &Ids,
+    on: Option<&str>,
+    directives: &Directives,
+    inside: Inside<'_, 'a>,
+    steps: &mut ReaderSteps,
+) -> Result<(), NoMemory>
+    requires { IsRight walk.schema.now kept.old }
+    ensures right { OnOk result (IsRight walk.entry.schema.now kept.new) }
+    ensures put { OnOk result (steps.new ≡ reader_append steps.old (spec.inline_steps walk.entry.schema.now types.now (option_copied on.entry)
+        (tests.conditions_of (printed_conditions (scope_of walk.entry.scope.now) directives.now)) (inside_in walk.entry inside.entry))) }
+{
+    let conditions = conditions_in(alloc, walk.scope, directives)?;
+    match on {
+        Some(on) => put_on(alloc, walk, kept, types, on, conditions, inside, steps),
+        None => put_behind(alloc, walk, kept, types, conditions, inside, steps),
+    }
+}
+
+/// Puts the steps of what stands behind a type.
+#[cycle(steps)]
+fn put_on<'a>(
+    alloc: Global,
+    walk: Walk<'_, 'a>,
+    kept: &mut Kept<'a>,
+    types: &Ids,
+    on: &str,
+    conditions: Conditions,
+    inside: Inside<'_, 'a>,
+    steps: &mut ReaderSteps,
+) -> Result<(), NoMemory>
+    requires { IsRight walk.schema.now kept.old }
+    ensures right { OnOk result (IsRight walk.entry.schema.now kept.new) }
+    ensures put { OnOk result (steps.new ≡ reader_append steps.old (spec.inline_steps walk.entry.schema.now types.now (Some on.now) conditions (inside_in walk.entry inside.entry))) }
+{
+    let schema = walk.schema;
+    if !schema.is_composite(on) {
+        return Ok(());
+    }
+    let ids = schema.possible(on);
+    if are_within(types, ids) {
+        return put_behind(alloc, walk, kept, types, conditions, inside, steps);
+    }
+    if is_one(types) {
+        return Ok(());
+    }
+    let mut child = ReaderSteps::new(alloc);
+    put_inside(alloc, walk, kept, ids, inside, &mut child)?;
+    let guard = ids.copy()?;
+    steps.push(behind(Some(guard), conditions, child))
+}
+
+/// Puts the steps of what stands behind conditions alone.
+#[cycle(steps)]
+fn put_behind<'a>(
+    alloc: Global,
+    walk: Walk<'_, 'a>,
+    kept: &mut Kept<'a>,
+    types: &Ids,
+    conditions: Conditions,
+    inside: Inside<'_, 'a>,
+    steps: &mut ReaderSteps,
+) -> Result<(), NoMemory>
+    requires { IsRight walk.schema.now kept.old }
+    ensures right { OnOk result (IsRight walk.entry.schema.now kept.new) }
+    ensures put { OnOk result (steps.new ≡ reader_append steps.old (spec.behind None conditions (inside_in walk.entry inside.entry types.now))) }
+{
+    if conditions.is_empty() {
+        return put_inside(alloc, walk, kept, types, inside, steps);
+    }
+    let mut child = ReaderSteps::new(alloc);
+    put_inside(alloc, walk, kept, types, inside, &mut child)?;
+    steps.push(behind(None, conditions, child))
+}
+
+/// Puts the steps of what stands inside.
+#[cycle(steps)]
+fn put_inside<'a>(
+    alloc: Global,
+    walk: Walk<'_, 'a>,
+    kept: &mut Kept<'a>,
+    types: &Ids,
+    inside: Inside<'_, 'a>,
+    steps: &mut ReaderSteps,
+) -> Result<(), NoMemory>
+    requires { IsRight walk.schema.now kept.old }
+    ensures right { OnOk result (IsRight walk.entry.schema.now kept.new) }
+    ensures put { OnOk result (steps.new ≡ reader_append steps.old (inside_in walk.entry inside.entry types.now)) }
+{
+    match inside {
+        Inside::Selections(selections) => put_set(alloc, walk, kept, types, selections, steps),
+        Inside::Fragment {
+            name,
+            directives,
+            fragment,
+            spreads,
+        } => put_entered(
+            alloc, walk, kept, types, name, directives, fragment, spreads, steps,
+        ),
+    }
+}
+
+/// Puts the steps of a fragment whose spread is not masked, else a pointer to it.
+#[cycle(steps)]
+fn put_entered<'a>(
+    alloc: Global,
+    walk: Walk<'_, 'a>,
+    kept: &mut Kept<'a>,
+    types: &Ids,
+    name: &Name,
+    directives: &'a Directives,
+    fragment: &ReadyFragment<'a>,
+    spreads: usize,
+    steps: &mut ReaderSteps,
+) -> Result<(), NoMemory>
+    requires { IsRight walk.schema.now kept.old }
+    ensures right { OnOk result (IsRight walk.entry.schema.now kept.new) }
+    ensures put { OnOk result (steps.new ≡ reader_append steps.old (reading.entered_ready (scope_of walk.entry.scope.now) name.now directives.now (ready_of fragment.now)
+        (fragment_in walk.entry directives.now fragment.now spreads types.now))) }
+{
+    if is_open(directives) {
+        return put_fragment(
+            alloc, walk, kept, types, directives, fragment, spreads, steps,
+        );
+    }
+    let pointer = make_pointer(
+        alloc, walk, kept, types, name, directives, fragment, spreads,
+    )?;
+    steps.push(pointer)
+}
+
+/// The pointer to a fragment, with its plan where it is `@inline`.
+#[cycle(steps)]
+fn make_pointer<'a>(
+    alloc: Global,
+    walk: Walk<'_, 'a>,
+    kept: &mut Kept<'a>,
+    types: &Ids,
+    name: &Name,
+    directives: &'a Directives,
+    fragment: &ReadyFragment<'a>,
+    spreads: usize,
+) -> Result<ReaderStep, NoMemory>
+    requires { IsRight walk.schema.now kept.old }
+    ensures right { OnOk result (IsRight walk.entry.schema.now kept.new) }
+    ensures made { IfOk result (λ step. step_of step ≡ spec.pointer_step name.now
+        (spec.pointer_arguments (scope_of walk.entry.scope.now) directives.now (ready_of fragment.now).variables) fragment.now.is_inline
+        (fragment_in walk.entry directives.now fragment.now spreads types.now)) }
+{
+    let arguments = pointer_arguments(alloc, walk.scope, directives, &fragment.variables)?;
+    let name = name.copy()?;
+    if !fragment.is_inline {
+        return Ok(ReaderStep::Pointer {
+            fragment: name,
+            arguments,
+            inline: None,
+        });
+    }
+    let mut body = ReaderSteps::new(alloc);
+    put_fragment(
+        alloc, walk, kept, types, directives, fragment, spreads, &mut body,
+    )?;
+    Ok(ReaderStep::Pointer {
+        fragment: name,
+        arguments,
+        inline: Some(ReaderPlan { steps: body }),
+    })
+}
+
+/// Puts the steps of the selections of a fragment that is spread with these directives.
+#[cycle(steps)]
+fn put_fragment<'a>(
+    alloc: Global,
+    walk: Walk<'_, 'a>,
+    kept: &mut Kept<'a>,
+    types: &Ids,
+    directives: &'a Directives,
+    fragment: &ReadyFragment<'a>,
+    spreads: usize,
+    steps: &mut ReaderSteps,
+) -> Result<(), NoMemory>
+    requires { IsRight walk.schema.now kept.old }
+    ensures right { OnOk result (IsRight walk.entry.schema.now kept.new) }
+    ensures put { OnOk result (steps.new ≡ reader_append steps.old (fragment_in walk.entry directives.now fragment.now spreads types.now)) }
+{
+    let scope = scope_at_spread(alloc, walk.scope, &fragment.locals, directives)?;
+    let inner = Walk {
+        schema: walk.schema,
+        fragments: walk.fragments,
+        scope: &scope,
+        spreads,
+    };
+    put_set(alloc, inner, kept, types, fragment.selections, steps)
+}

@@ -1,0 +1,28 @@
+//! The object type that the record of an operation has.
+ghost use Rattle.std.specs.Prelude.{◌≡◌, [], ◌∷◌, option_copied, IfOk};
+ghost use Rattle.plan_ir.specs.Expansion.{name_or};
+ghost use Rattle.schema_tables.specs.Types as types;
+
+use gql_ast::Kind;
+use gql_plain::{Ids, Name, NoMemory, Words};
+use plan_build::normal::one_type;
+use schema_types::Schema;
+use std::alloc::Global;
+
+/// The name of a root type; none is the empty name.
+fn name_of_root(alloc: Global, root: Option<&Name>) -> Result<Name, NoMemory>
+    ensures { IfOk result (λ name. name ≡ name_or (option_copied root.entry)) }
+{
+    match root {
+        Some(name) => name.copy(),
+        None => Words::new(alloc, ""),
+    }
+}
+
+/// The root type of a kind alone (GraphQL, October 2021, section 3.3.1).
+pub(crate) fn root_type(alloc: Global, schema: &Schema, kind: Kind) -> Result<Ids, NoMemory>
+    ensures { IfOk result (λ ids. ids ≡ name_or (types.root schema.now kind) ∷ []) }
+{
+    let root = name_of_root(alloc, schema.root(kind))?;
+    one_type(alloc, &root)
+}

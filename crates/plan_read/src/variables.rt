@@ -1,0 +1,71 @@
+//! The local variables of fragments in written order: the arguments of `@argumentDefinitions`, after
+//! Relay.
+ghost use Rattle.std.specs.Prelude.{◌≡◌, ◌++◌, map, IfOk, OnOk};
+ghost use Rattle.gql_ast.specs.ValueView.{value_of};
+ghost use Rattle.gql_graph.specs.Rules.{each};
+ghost use Rattle.doc_sites.specs.SitesView.{argument_of, directive_of};
+ghost use Rattle.relay_dirs.specs.Locals as spec;
+ghost use Rattle.relay_dirs.specs.View.{local_view};
+
+use doc_sites::{ArgumentAt, DirectiveAt};
+use gql_ast::{ValueTree, VariableDefs};
+use gql_plain::NoMemory;
+use relay_dirs::local_of;
+use std::alloc::Global;
+
+/// Puts the local variable that an argument defines, where it defines one.
+fn put_local(
+    alloc: Global,
+    locals: &mut VariableDefs,
+    name: &str,
+    value: &ValueTree,
+) -> Result<(), NoMemory>
+    ensures { OnOk result (map local_view locals.new ≡ map local_view locals.old ++ spec.as_list (spec.local_of name.now (value_of value.now))) }
+{
+    match local_of(alloc, name, value)? {
+        Some(local) => locals.push(local),
+        None => Ok(()),
+    }
+}
+
+/// Puts the local variables that arguments define.
+fn put_arguments(
+    alloc: Global,
+    locals: &mut VariableDefs,
+    arguments: &[ArgumentAt<'_>],
+) -> Result<(), NoMemory>
+    ensures { OnOk result (map local_view locals.new ≡ map local_view locals.old ++ each spec.local_at (map argument_of arguments.now)) }
+{
+    'arguments: for argument in arguments {
+        put_local(alloc, locals, argument.name.name, argument.value.of)?;
+    }
+    Ok(())
+}
+
+/// Puts the local variables that a directive defines.
+fn put_directive(
+    alloc: Global,
+    locals: &mut VariableDefs,
+    directive: &DirectiveAt<'_>,
+) -> Result<(), NoMemory>
+    ensures { OnOk result (map local_view locals.new ≡ map local_view locals.old ++ spec.locals_at (directive_of directive.now)) }
+{
+    if directive.name.name == "argumentDefinitions" {
+        return put_arguments(alloc, locals, &directive.arguments);
+    }
+    Ok(())
+}
+
+/// The local variables that directives define, in written order.
+pub(crate) fn locals_of(
+    alloc: Global,
+    directives: &[DirectiveAt<'_>],
+) -> Result<VariableDefs, NoMemory>
+    ensures { IfOk result (λ locals. map local_view locals ≡ spec.locals_of (map directive_of directives.now)) }
+{
+    let mut locals = VariableDefs::new(alloc);
+    'directives: for directive in directives {
+        put_directive(alloc, &mut locals, directive)?;
+    }
+    Ok(locals)
+}
