@@ -1,5 +1,5 @@
 -- What the code answers for a name is the plan of the project.
-use Rattle.std.proofs.Common.{◌≡◌, ℕ, Bool, true, false, true≢false, List, [], ◌∷◌, Option, Some, None, option_map, IfSome, refl, ap, sym, ◌∙◌}
+use Rattle.std.proofs.Common.{◌≡◌, Bool, true, true≢false, List, [], ◌∷◌, Option, Some, None, option_map, IfSome, ap, sym, ◌∙◌}
 use Rattle.std.specs.Prelude.{length, is_some}
 use Rattle.gql_ast.specs.Sels.{Sels}
 use Rattle.plan_expand.specs.Answers.{definitions_in, project}

@@ -5,10 +5,9 @@ use Rattle.gql_ast.specs.declared.directive.Directive.{Directive}
 use Rattle.gql_graph.proofs.TextSteps.{same_text}
 use Rattle.plan_build.specs.Conditions.{conditions_of}
 use Rattle.plan_ir.specs.Expansion.{Project, printed_conditions}
-use Rattle.plan_ir.specs.Reader.{Reader}
 use Rattle.plan_ir.specs.Substitution.{Scope, scope_at_spread}
-use Rattle.plan_read.specs.Reading.{Find, HasFragments, Ready, entered_ready, entering, reading, ready_fragment, ready_scope, spread_ready}
-use Rattle.plan_read.specs.Steps.{entered_steps, inline_steps, reader_steps, spread_steps, steps_with}
+use Rattle.plan_read.specs.Reading.{Find, HasFragments, Ready, entered_ready, reading, ready_fragment, ready_scope, spread_ready}
+use Rattle.plan_read.specs.Steps.{inline_steps, reader_steps, spread_steps, steps_with}
 use Rattle.schema_tables.specs.Types.{Text}
 use Rattle.schema_types.specs.NameRules.{fragment_named}
 use Rattle.schema_types.specs.Sites.{FragmentAt}

@@ -12,7 +12,7 @@ use Rattle.plan_read.specs.ReadyView.{ready_in}
 use Rattle.schema_tables.specs.Types.{Text}
 use Rattle.schema_trees.specs.Located.{Located}
 use Rattle.schema_types.specs.NameRules.{fragment_named, fragments, operations}
-use Rattle.schema_types.specs.Sites.{FragmentAt, OperationAt, DefinitionAt, operation, fragment}
+use Rattle.schema_types.specs.Sites.{OperationAt, DefinitionAt, operation, fragment}
 
 -- ---- what is put under a name
 

@@ -1,9 +1,8 @@
 -- One more selection, and all of them; one more class, and all of them; a spread that may be entered, or may not.
-use Rattle.std.proofs.Common.{rules, ◌≡◌, ◌≤◌, ◌-◌, Bool, true, false, cond, List, Some, bytes_eq, ap, sym, ◌∙◌, arith}
+use Rattle.std.proofs.Common.{rules, ◌≡◌, ◌≤◌, false, List, Some, bytes_eq, ap, sym, ◌∙◌, arith}
 use Rattle.std.proofs.lemmas.Result.{on_ok_weaker}
 use Rattle.std.specs.Prelude.{codes, option_map}
 use Rattle.gql_ast.specs.SelectionView.{sel_of}
-use Rattle.gql_ast.specs.declared.selection.Selection.{Selection}
 use Rattle.plan_build.specs.Classes.{Target, one_target}
 use Rattle.plan_build.specs.ClassView.{target_view}
 use Rattle.plan_build.specs.Conditions.{conditions_of}
@@ -14,13 +13,13 @@ use Rattle.plan_ir.specs.Reader.{Reader, reader_append}
 use Rattle.plan_read.specs.FieldView.{field_view}
 use Rattle.plan_read.specs.Reading.{entering, reading}
 use Rattle.plan_read.specs.ReadyView.{find_in, ready_of}
-use Rattle.plan_read.specs.Steps.{inline_steps, pointer_arguments, pointer_step, target_step}
-use Rattle.plan_read.specs.WalkView.{below_field, fragment_in, inside_in, steps_in}
+use Rattle.plan_read.specs.Steps.{inline_steps, target_step}
+use Rattle.plan_read.specs.WalkView.{below_field, inside_in, steps_in}
 use Rattle.plan_read.proofs.CodeSteps.{classes_end, classes_next, many_classes, put_field_selection, put_found, put_inline_selection, put_missing, put_no_object, put_no_type, put_none, put_one_target, steps_end, steps_next}
-use Rattle.plan_read.proofs.Depths.{entered_deep, selection_below, spread_depth, walk_depth}
+use Rattle.plan_read.proofs.Depths.{selection_below, spread_depth}
 use Rattle.plan_read.proofs.WalkDepths.{depth_in}
 use Rattle.plan_read.proofs.steps.+steps.Goals as goal
-use Rattle.schema_tables.specs.Types.{Text, is_composite, possible}
+use Rattle.schema_tables.specs.Types.{Text}
 
 pub put_set-put_selection-requires : goal.put_set-put_selection-requires
 put_set-put_selection-requires t c =

@@ -9,7 +9,7 @@ use Rattle.plan_read.specs.FieldView.{field_view}
 use Rattle.plan_read.specs.ReadyView.{find_in}
 use Rattle.plan_read.specs.Steps.{guarded_classes, target_step}
 use Rattle.plan_read.specs.WalkView.{below_field, steps_in}
-use Rattle.plan_read.proofs.Depths.{spread_depth, walk_depth}
+use Rattle.plan_read.proofs.Depths.{spread_depth}
 use Rattle.plan_read.proofs.WalkDepths.{depth_in, fragment_depth, inside_depth}
 use Rattle.plan_read.proofs.steps.+steps.Given as goal
 
