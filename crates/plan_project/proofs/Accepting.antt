@@ -1,29 +1,34 @@
--- In an accepted project each operation has the root type of its kind, and each fragment is on a composite type.
-use Rattle.std.proofs.Common.{◌≡◌, ◌+◌, ℕ, Bool, true, false, cond, not, List, [], ◌∷◌, ◌++◌, Option, Some, None, IfSome, is_some, unwrap_or, bytes_eq, refl, sym, subst}
-use Rattle.gql_ast.specs.declared.document.Definition.{Definition}
-use Rattle.gql_ast.specs.declared.document.Definition.TheVariants as D
+-- What the rules give of the operations and the fragments of an accepted project, by their names.
+use Rattle.std.proofs.Common.{◌≡◌, ℕ, Bool, true, false, true≢false, ◌&&◌, cond, List, [], ◌∷◌, ◌++◌, Option, Some, None, option_map, is_some, bytes_eq, refl, ap, sym, subst, ◌∙◌}
+use Rattle.std.specs.List.{AllByRecursion, list_all}
+use Rattle.doc_merge.specs.Faults.{fault_or, field_differences, values_unfit}
+use Rattle.doc_merge.specs.Places.{least}
 use Rattle.gql_ast.specs.declared.document.Document.{Document}
-use Rattle.gql_ast.specs.declared.document.Operation.{Operation}
+use Rattle.gql_ast.specs.declared.place.FilePlace.{FilePlace}
 use Rattle.gql_ast.specs.declared.place.Placed.{Placed}
-use Rattle.plan_project.proofs.LeastLaws.{nothing_first, nothing_then}
-use Rattle.plan_project.proofs.Looking.{found-append}
-use Rattle.plan_project.specs.Lookups.{definitions_in, or_else, first_of, compiled_operation, operation_by, operation_under, operation, compiled_fragment, fragment_under, fragment, HasRoot, IsOnComposite}
-use Rattle.plan_project.specs.Projects.{IsAcceptedProject}
-use Rattle.plan_project.specs.declared.operations.CompiledFragment.{CompiledFragment}
-use Rattle.relay_dirs.specs.RelayRules.{relay_rules}
-use Rattle.schema_types.specs.DocumentRules.{field_rules, argument_rules, trees_of}
-use Rattle.schema_types.specs.NameRules.{operations_not_named, fragments_not_unique, conditions_wrong, conditions_in, not_composite, fragments_not_there, spreads_on_cycles, without_root, roots_missing}
-use Rattle.gql_graph.specs.Rules.{each, wrong, first_broken}
-use Rattle.schema_types.specs.Sites.{DefinitionAt, optional_name_at, operation_at, definition_at, definition_nodes, definitions_at, document_nodes, documents_at}
-use Rattle.schema_tables.specs.Types.{Text, Defs, is_composite, root}
+use Rattle.gql_graph.proofs.TextSteps.{same_text}
+use Rattle.gql_graph.specs.Rules.{each, first_broken}
+use Rattle.gql_plain.specs.Names.{is_name}
+use Rattle.gql_syntax.specs.Words.{IsName}
+use Rattle.plan_build.proofs.CovarianceLists.{all_hold, right}
+use Rattle.plan_build.specs.Plans.{HaveNames}
+use Rattle.plan_expand.specs.Answers.{definitions_in, project, whole_in}
+use Rattle.plan_ir.specs.Expansion.{Whole, name_or, whole_fragment, whole_operation}
+use Rattle.plan_ir.specs.declared.form.Form.TheVariants as F
+use Rattle.plan_project.proofs.LeastLaws.{no_places, nothing_first}
+use Rattle.plan_project.proofs.SchemaNames.{possible_names}
+use Rattle.plan_project.proofs.SoundProjects.{operation_found}
+use Rattle.plan_project.proofs.SpreadChains.{none_each}
+use Rattle.plan_project.specs.Expansions.{differences_at, merge_fault, values_unfit_at, whole_at, whole_of_operation}
+use Rattle.plan_project.specs.Lookups.{fragment_in, operation_in}
+use Rattle.plan_project.specs.Projects.{IsAccepted, IsAcceptedProject, document_rules}
 use Rattle.schema_rules.specs.declared.fault.Rule.{Rule}
-use Rattle.schema_rules.specs.declared.fault.Rule.TheVariants as R
+use Rattle.schema_tables.specs.Types.{Text, Defs, is_composite, possible, root}
+use Rattle.schema_trees.specs.Located.{Located}
+use Rattle.schema_types.specs.NameRules.{condition_at, conditions_in, fragment_named, fragments, not_composite, operations, without_root}
+use Rattle.schema_types.specs.Sites.{DefinitionAt, FragmentAt, OperationAt, fragment, operation}
 
 -- ---- rules that hold
-
-not_wrong : (b : Bool) (at : ℕ) → wrong (not b) at ≡ [] → b ≡ true
-not_wrong true at e = refl
-not_wrong false at e = cc
 
 pub holds : (r : Rule) (ns : List ℕ) (more : List (Rule × List ℕ)) → first_broken ((r, ns) ∷ more) ≡ None → ns ≡ []
 holds r [] more e = refl
@@ -33,113 +38,101 @@ pub rest_holds : (r : Rule) (ns : List ℕ) (more : List (Rule × List ℕ)) →
 rest_holds r [] more e = e
 rest_holds r (n ∷ ns) more e = cc
 
--- the third and the sixth of the rules on names
-module _ (a b c d e f : List ℕ) (more : List (Rule × List ℕ)) where
-  abbrev from_6 : List (Rule × List ℕ)
-  from_6 = (R.V6, f) ∷ more
+-- ---- what holds of each definition holds of those of one sort
 
-  abbrev from_5 : List (Rule × List ℕ)
-  from_5 = (R.V5, e) ∷ from_6
+all_operations : (P : DefinitionAt → Type 0) (ds : List DefinitionAt) → AllByRecursion P ds → AllByRecursion (λ o. P (operation o)) (operations ds)
+all_operations P [] h = tt
+all_operations P (operation o ∷ ds) h = (h.0, all_operations P ds h.1)
+all_operations P (fragment f ∷ ds) h = all_operations P ds h.1
 
-  abbrev from_4 : List (Rule × List ℕ)
-  from_4 = (R.V4, d) ∷ from_5
+all_fragments : (P : DefinitionAt → Type 0) (ds : List DefinitionAt) → AllByRecursion P ds → AllByRecursion (λ f. P (fragment f)) (fragments ds)
+all_fragments P [] h = tt
+all_fragments P (operation o ∷ ds) h = all_fragments P ds h.1
+all_fragments P (fragment f ∷ ds) h = (h.0, all_fragments P ds h.1)
 
-  abbrev from_3 : List (Rule × List ℕ)
-  from_3 = (R.V3, c) ∷ from_4
+fragment_found : (P : FragmentAt → Type 0) (fs : List FragmentAt) (n : Text) (f : FragmentAt) → AllByRecursion P fs → fragment_named fs n ≡ Some f → P f × (f.name.name ≡ n)
+fragment_found P [] n f h e = absurd cc
+fragment_found P (g ∷ fs) n f h e = on (λ k. fragment_found P fs n f h.1 k) (bytes_eq g.name.name n) refl e
+  where
+    on : (fragment_named fs n ≡ Some f → P f × (f.name.name ≡ n)) → (b : Bool) → bytes_eq g.name.name n ≡ b → cond b (Some g) (fragment_named fs n) ≡ Some f
+        → P f × (f.name.name ≡ n)
+    on later true d e = let same : g ≡ f = cc e in (subst P same h.0, subst (λ (x : FragmentAt). x.name.name ≡ n) same (same_text g.name.name n d))
+    on later false d e = later e
 
-  abbrev from_2 : List (Rule × List ℕ)
-  from_2 = (R.V2, b) ∷ from_3
+-- ---- V24
 
-  after_2 : first_broken ((R.V1, a) ∷ from_2) ≡ None → first_broken from_3 ≡ None
-  after_2 h = rest_holds R.V2 b from_3 (rest_holds R.V1 a from_2 h)
+no_second : (v f : Option FilePlace) → fault_or v f ≡ None → f ≡ None
+no_second (Some p) f e = absurd cc
+no_second None (Some q) e = absurd cc
+no_second None None e = refl
 
-  third_holds : first_broken ((R.V1, a) ∷ from_2) ≡ None → c ≡ []
-  third_holds h = holds R.V3 c from_4 (after_2 h)
+-- no definition has fields that differ
+none_differ : (defs : Defs) (ps : List (Placed Document)) → merge_fault defs ps ≡ None → AllByRecursion (λ d. differences_at defs (whole_at defs ps d) ≡ []) (definitions_in defs ps)
+none_differ defs ps e =
+    let ds : List DefinitionAt = definitions_in defs ps in
+    let values : List FilePlace = each (λ d. values_unfit_at defs (whole_at defs ps d)) ds in
+    let fields : List FilePlace = each (λ d. differences_at defs (whole_at defs ps d)) ds in
+    none_each (λ d. differences_at defs (whole_at defs ps d)) ds (no_places fields (no_second (least values) (least fields) e))
 
-  sixth_holds : first_broken ((R.V1, a) ∷ from_2) ≡ None → f ≡ []
-  sixth_holds h = holds R.V6 f more (rest_holds R.V5 e from_6 (rest_holds R.V4 d from_5 (rest_holds R.V3 c from_4 (after_2 h))))
+-- ---- V3 and V6
 
--- ---- what is found first, where each has a property
+is_there : (r : Option Text) → is_some r ≡ true → r ≡ Some (name_or r)
+is_there None h = absurd (true≢false (sym h))
+is_there (Some t) h = refl
 
-either : {X : Type 0} (P : X → Type 0) (a b : Option X) → IfSome a P → IfSome b P → IfSome (or_else a b) P
-either P None b x y = y
-either P (Some k) b x y = x
+root_there : (defs : Defs) (o : OperationAt) (name : Option Located) (l : Located) → name ≡ Some l → without_root defs o name ≡ [] → root defs o.kind ≡ Some (name_or (root defs o.kind))
+root_there defs o None l i e = absurd cc
+root_there defs o (Some k) l i e = is_there (root defs o.kind) (right (is_some (root defs o.kind)) k.at e)
 
-module _ {X : Type 0} (defs : Defs) (P : X → Type 0) (find : Definition → Option X) (wrong_in : List DefinitionAt → List ℕ)
-    (next : (from : ℕ) (d : Definition) (more : List DefinitionAt) → wrong_in (definition_at defs from d ∷ more) ≡ [] → IfSome (find d) P × (wrong_in more ≡ [])) where
-  in_definitions : (from : ℕ) (ds : List Definition) (more : List DefinitionAt) → wrong_in (definitions_at defs from ds ++ more) ≡ []
-      → IfSome (first_of find ds) P × (wrong_in more ≡ [])
-  in_definitions from [] more e = (tt, e)
-  in_definitions from (d ∷ ds) more e =
-      let here = next from d (definitions_at defs (from + definition_nodes d) ds ++ more) e in
-      let rest = in_definitions (from + definition_nodes d) ds more here.1 in
-      (either P (find d) (first_of find ds) here.0 rest.0, rest.1)
+-- ---- names
 
-  in_documents : (from : ℕ) (ps : List (Placed Document)) → wrong_in (documents_at defs from (trees_of ps)) ≡ [] → IfSome (first_of find (definitions_in ps)) P
-  in_documents from [] e = tt
-  in_documents from (p ∷ ps) e =
-      let here = in_definitions (from + 1) p.tree.definitions (documents_at defs (from + document_nodes p.tree) (trees_of ps)) e in
-      subst (λ o. IfSome o P) (sym (found-append find p.tree.definitions (definitions_in ps)))
-      (either P (first_of find p.tree.definitions) (first_of find (definitions_in ps)) here.0 (in_documents (from + document_nodes p.tree) ps here.1))
-
--- ---- operations and fragments
-
-module _ (defs : Defs) (n : Text) where
-  some_root : (r : Option Text) → is_some r ≡ true → r ≡ Some (unwrap_or r [])
-  some_root None h = cc
-  some_root (Some t) h = refl
-
-  rooted_by : (o : Operation) (m : Text) → is_some (root defs o.kind) ≡ true → IfSome (operation_by defs n (Some m) o) (HasRoot defs)
-  rooted_by o m h = under (bytes_eq m n) where
-    under : (b : Bool) → IfSome (cond b (Some (compiled_operation defs m o)) None) (HasRoot defs)
-    under true = some_root (root defs o.kind) h
-    under false = tt
-
-  rooted_own : (from : ℕ) (o : Operation) (name : Option Text) (more : List DefinitionAt)
-      → without_root defs (operation_at defs from o) (optional_name_at (from + 2) name) ++ roots_missing defs more ≡ []
-      → IfSome (operation_by defs n name o) (HasRoot defs) × (roots_missing defs more ≡ [])
-  rooted_own from o None more e = (tt, e)
-  rooted_own from o (Some m) more e =
-      let here = wrong (not (is_some (root defs o.kind))) (from + 2) in
-      (rooted_by o m (not_wrong (is_some (root defs o.kind)) (from + 2) (nothing_first here (roots_missing defs more) e)), nothing_then here (roots_missing defs more) e)
-
-  rooted_next : (from : ℕ) (d : Definition) (more : List DefinitionAt) → roots_missing defs (definition_at defs from d ∷ more) ≡ []
-      → IfSome (operation_under defs n d) (HasRoot defs) × (roots_missing defs more ≡ [])
-  rooted_next from (D.Fragment f) more e = (tt, e)
-  rooted_next from (D.Operation o) more e = rooted_own from o o.name more e
-
-  typed_if : (b : Bool) (f : CompiledFragment) → is_composite defs f.on ≡ true → IfSome (cond b (Some f) None) (IsOnComposite defs)
-  typed_if true f h = h
-  typed_if false f h = tt
-
-  typed_next : (from : ℕ) (d : Definition) (more : List DefinitionAt) → conditions_wrong defs (definition_at defs from d ∷ more) ≡ []
-      → IfSome (fragment_under defs n d) (IsOnComposite defs) × (conditions_wrong defs more ≡ [])
-  typed_next from (D.Operation o) more e =
-      (tt, nothing_then (each (not_composite defs) (conditions_in (definition_at defs from (D.Operation o)))) (conditions_wrong defs more) e)
-  typed_next from (D.Fragment f) more e =
-      let here = nothing_first (each (not_composite defs) (conditions_in (definition_at defs from (D.Fragment f)))) (conditions_wrong defs more) e in
-      let on = not_wrong (is_composite defs f.on) (from + 3) (nothing_first (wrong (not (is_composite defs f.on)) (from + 3)) _ here) in (
-        typed_if (bytes_eq f.name n) (compiled_fragment defs f) on,
-        nothing_then (each (not_composite defs) (conditions_in (definition_at defs from (D.Fragment f)))) (conditions_wrong defs more) e,
-      )
+all_names : (ns : List Text) → AllByRecursion IsName ns → list_all is_name ns ≡ true
+all_names [] h = refl
+all_names (n ∷ ns) h = both (is_name n) (list_all is_name ns) h.0 (all_names ns h.1)
+  where
+    both : (a b : Bool) → a ≡ true → b ≡ true → (a && b) ≡ true
+    both true b e f = f
+    both false b e f = absurd (true≢false (sym e))
 
 -- ---- accepted projects
 
-module _ (defs : Defs) (ps : List (Placed Document)) (n : Text) (a : IsAcceptedProject defs ps) where
+module _ (defs : Defs) (ps : List (Placed Document)) (a : IsAcceptedProject defs ps) where
   abbrev all : List DefinitionAt
-  all = documents_at defs 0 (trees_of ps)
+  all = definitions_in defs ps
 
-  abbrev others : List (Rule × List ℕ)
-  others = field_rules defs all ++ (argument_rules defs all ++ relay_rules defs all)
+  -- the object types of the schema have Names
+  pub have_names : HaveNames defs
+  have_names =
+      let x = a.accepted in
+      subst HaveNames (sym x.says) (λ t. all_names (possible x.tree.tree.definitions t) (possible_names 0 a.schema x.tree x.trees.schema_is t))
 
-  pub operation_has_root : IfSome (operation defs ps n) (HasRoot defs)
-  operation_has_root =
-      in_documents defs (HasRoot defs) (operation_under defs n) (roots_missing defs) (rooted_next defs n) 0 ps
-      (sixth_holds (operations_not_named all) (fragments_not_unique all) (conditions_wrong defs all) (fragments_not_there all) (spreads_on_cycles all)
-      (roots_missing defs all) others a.accepted.meet)
+  module _ (n : Text) where
+    pub operation_has_root : (o : OperationAt) → operation_in defs ps n ≡ Some o → root defs o.kind ≡ Some (name_or (root defs o.kind))
+    operation_has_root o e =
+        let six = all_hold (document_rules defs all) a.accepted.meet in
+        let two = operation_found (λ (q : OperationAt). without_root defs q q.name ≡ []) (operations all) n o
+        (none_each (λ (q : OperationAt). without_root defs q q.name) (operations all) six.1.1.1.1.1.0) e in
+        root_there defs o o.name two.1.located two.1.is two.0
 
-  pub fragment_is_on_composite : IfSome (fragment defs ps n) (IsOnComposite defs)
-  fragment_is_on_composite =
-      in_documents defs (IsOnComposite defs) (fragment_under defs n) (conditions_wrong defs) (typed_next defs n) 0 ps
-      (third_holds (operations_not_named all) (fragments_not_unique all) (conditions_wrong defs all) (fragments_not_there all) (spreads_on_cycles all)
-      (roots_missing defs all) others a.accepted.meet)
+    pub operation_merges : (o : OperationAt) → operation_in defs ps n ≡ Some o → field_differences defs (whole_operation (project defs ps) o).expanded ≡ []
+    operation_merges o e =
+        let two = operation_found (λ (q : OperationAt). differences_at defs (whole_of_operation defs ps q.name) ≡ []) (operations all) n o
+        (all_operations (λ d. differences_at defs (whole_at defs ps d) ≡ []) all (none_differ defs ps a.accepted.merges)) e in
+        let named : differences_at defs (whole_in defs ps F.Operation n) ≡ [] =
+        subst (λ (k : Text). differences_at defs (whole_in defs ps F.Operation k) ≡ []) two.1.same
+        (subst (λ (l : Option Located). differences_at defs (whole_of_operation defs ps l) ≡ []) two.1.is two.0) in
+        sym (ap (λ (x : Option OperationAt). differences_at defs (option_map (whole_operation (project defs ps)) x)) e) ∙ named
+
+    pub fragment_is_on_composite : (f : FragmentAt) → fragment_in defs ps n ≡ Some f → is_composite defs f.on.name ≡ true
+    fragment_is_on_composite f e =
+        let three = all_hold (document_rules defs all) a.accepted.meet in
+        let two = fragment_found (λ g. each (not_composite defs) (conditions_in (fragment g)) ≡ []) (fragments all) n f
+        (all_fragments (λ d. each (not_composite defs) (conditions_in d) ≡ []) all (none_each (λ d. each (not_composite defs) (conditions_in d)) all three.1.1.0)) e in
+        right (is_composite defs f.on.name) f.on.at (nothing_first (not_composite defs f.on) _ two.0)
+
+    pub fragment_merges : (f : FragmentAt) → fragment_in defs ps n ≡ Some f → field_differences defs (whole_fragment (project defs ps) f).expanded ≡ []
+    fragment_merges f e =
+        let two = fragment_found (λ g. differences_at defs (whole_in defs ps F.Fragment g.name.name) ≡ []) (fragments all) n f
+        (all_fragments (λ d. differences_at defs (whole_at defs ps d) ≡ []) all (none_differ defs ps a.accepted.merges)) e in
+        sym (ap (λ (x : Option FragmentAt). differences_at defs (option_map (whole_fragment (project defs ps)) x)) e)
+        ∙ subst (λ (k : Text). differences_at defs (whole_in defs ps F.Fragment k) ≡ []) two.1 two.0

@@ -5,7 +5,11 @@ pub mod DocumentLaws
 pub mod ProjectLaws
 pub mod RuleLaws
 pub mod Looking
+pub mod Putting
+pub mod Trees
 pub mod Accepting
+pub mod KeptLocals
+pub mod KeptPlans
 pub mod LeastLaws
 pub mod NotingSteps
 pub mod NotingLaws

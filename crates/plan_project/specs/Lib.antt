@@ -4,4 +4,6 @@ pub mod Projects
 pub mod Noting
 pub mod Verdicts
 pub mod Lookups
+pub mod Filling
+pub mod Planning
 pub mod TextLaws

@@ -1,83 +1,82 @@
--- What a project is looked up for: its operations and its fragments, by their names.
-use Rattle.std.specs.Prelude.{◌≡◌, true, cond, List, [], ◌∷◌, ◌++◌, map, Option, Some, None, unwrap_or, bytes_eq}
-use Rattle.gql_ast.specs.declared.directive.Directive.{Directive}
-use Rattle.gql_ast.specs.declared.document.Definition.{Definition}
-use Rattle.gql_ast.specs.declared.document.Definition.TheVariants as D
+-- What a project is looked up for: its operations and its fragments, by their names, each operation with its plan.
+use Rattle.std.specs.Prelude.{◌≡◌, true, List, [], ◌∷◌, map, Option, Some, None, is_some}
 use Rattle.gql_ast.specs.declared.document.Document.{Document}
-use Rattle.gql_ast.specs.declared.document.Fragment.{Fragment}
-use Rattle.gql_ast.specs.declared.document.Operation.{Operation}
 use Rattle.gql_ast.specs.declared.place.Placed.{Placed}
+use Rattle.gql_plain.specs.Order.{member_at}
+use Rattle.plan_expand.specs.Answers.{definitions_in, project}
+use Rattle.plan_ir.specs.Expansion.{name_or, operation_named, variable_trees}
+use Rattle.plan_ir.specs.NormalMeaning.{is_formed, plan_says}
+use Rattle.plan_ir.specs.Substitution.{default_named}
 use Rattle.plan_project.specs.declared.operations.Compiled.{Compiled}
 use Rattle.plan_project.specs.declared.operations.CompiledFragment.{CompiledFragment}
-use Rattle.relay_dirs.specs.Locals.{Local, locals_of_tree}
-use Rattle.schema_tables.specs.Types.{Text, Defs, is_composite, possible, root}
+use Rattle.relay_dirs.specs.Locals.{locals_of}
+use Rattle.relay_dirs.specs.View.{directives_of_all, local_view}
+use Rattle.relay_model.specs.Readings.{no_place}
+use Rattle.relay_model.specs.Responses.{operation_says}
+use Rattle.schema_tables.specs.Types as schema
+use Rattle.schema_tables.specs.Types.{Text, Defs}
+use Rattle.schema_types.specs.Environments.{Values, environment}
+use Rattle.schema_types.specs.NameRules.{fragment_named, fragments, operations}
+use Rattle.schema_types.specs.Sites.{FragmentAt, OperationAt}
+use Rattle.serde_json.specs.Data as J
 
--- all definitions, in the order of the files and of their texts
-abbrev pub definitions_in : List (Placed Document) → List Definition
-definitions_in [] = []
-definitions_in (p ∷ ps) = p.tree.definitions ++ definitions_in ps
-
-abbrev pub or_else : {X : Type 0} → Option X → Option X → Option X
-or_else None later = later
-or_else (Some x) later = Some x
-
--- the first that is found in a list
-abbrev pub first_of : {X Y : Type 0} → (X → Option Y) → List X → Option Y
-first_of find [] = None
-first_of find (x ∷ xs) = or_else (find x) (first_of find xs)
+-- both are there and this holds of them, or neither is there
+abbrev pub Agree : {X Y : Type 0} → (X → Y → Type 0) → Option X → Option Y → Type 0
+Agree P None None = Unit {0}
+Agree P None (Some y) = ⊥
+Agree P (Some x) None = ⊥
+Agree P (Some x) (Some y) = P x y
 
 -- ---- operations
 
-abbrev pub compiled_operation : Defs → Text → Operation → Compiled
-compiled_operation defs n o = record { name = n; kind = o.kind; root = unwrap_or (root defs o.kind) []; variables = o.variables }
+-- the operation of a name
+abbrev pub operation_in : Defs → List (Placed Document) → Text → Option OperationAt
+operation_in defs ps n = operation_named (operations (definitions_in defs ps)) n
 
--- an operation, where this is its name
-abbrev pub operation_by : Defs → Text → (own : Option Text) → Operation → Option Compiled
-operation_by defs n None o = None
-operation_by defs n (Some m) o = cond (bytes_eq m n) (Some (compiled_operation defs m o)) None
+-- what is kept of an operation: its kind, its root type, and its variables in written order
+pub record KeepsOperation (defs : Defs) (n : Text) (o : OperationAt) (c : Compiled) : Type 0 where
+  pub name : c.name ≡ n
+  pub kind : c.kind ≡ o.kind
+  pub root : c.root ≡ name_or (schema.root defs o.kind)
+  pub rooted : schema.root defs o.kind ≡ Some c.root
+  pub types : c.types ≡ c.root ∷ []
+  pub variables : c.variables ≡ variable_trees o.variables
 
-abbrev pub operation_under : Defs → Text → Definition → Option Compiled
-operation_under defs n (D.Operation o) = operation_by defs n o.name o
-operation_under defs n (D.Fragment f) = None
-
--- the first operation of a name
-abbrev pub operation : Defs → List (Placed Document) → Text → Option Compiled
-operation defs ps n = first_of (operation_under defs n) (definitions_in ps)
+-- under each environment, each response says to the plan what it says to the operation along the documents, with the fields that are added
+pub record Normalizes (defs : Defs) (ps : List (Placed Document)) (o : OperationAt) (c : Compiled) : Type 0 where
+  pub formed : is_formed c.normal.value.steps ≡ true
+  pub says : (own : Values) (response : J.Data) → plan_says c.root own c.normal.value.steps response ≡ operation_says (project defs ps) no_place o own response
 
 -- ---- fragments
 
--- the names of the local variables of a fragment
-abbrev pub local_names : List Directive → List Text
-local_names ds = map (λ (l : Local). l.name) (locals_of_tree ds)
+-- the fragment of a name
+abbrev pub fragment_in : Defs → List (Placed Document) → Text → Option FragmentAt
+fragment_in defs ps n = fragment_named (fragments (definitions_in defs ps)) n
 
-abbrev pub compiled_fragment : Defs → Fragment → CompiledFragment
-compiled_fragment defs f = record {
-  name = f.name;
-  on = f.on;
-  locals = local_names f.directives;
-  types = cond (is_composite defs f.on) (possible defs f.on) [];
-}
+-- values of all local variables of a fragment, and of no other
+abbrev pub AreLocals : FragmentAt → Values → Type 0
+AreLocals f scope = (n : Text) → is_some (member_at scope n) ≡ is_some (default_named (locals_of f.directives) n)
 
-abbrev pub fragment_under : Defs → Text → Definition → Option CompiledFragment
-fragment_under defs n (D.Operation o) = None
-fragment_under defs n (D.Fragment f) = cond (bytes_eq f.name n) (Some (compiled_fragment defs f)) None
+-- what is kept of a fragment: its type, the object types that a value of it may have, and its local variables in written order. Whatever
+-- values they are given, an environment of them has them and no others
+pub record KeepsFragment (defs : Defs) (n : Text) (f : FragmentAt) (c : CompiledFragment) : Type 0 where
+  pub name : c.name ≡ n
+  pub on : c.on ≡ f.on.name
+  pub composite : schema.is_composite defs c.on ≡ true
+  pub types : c.types ≡ schema.possible defs c.on
+  pub locals : map local_view c.locals ≡ locals_of f.directives
+  pub bare : directives_of_all c.locals ≡ []
+  pub scopes : (given : Values) → AreLocals f (environment c.locals given)
 
--- the first fragment of a name
-abbrev pub fragment : Defs → List (Placed Document) → Text → Option CompiledFragment
-fragment defs ps n = first_of (fragment_under defs n) (definitions_in ps)
+-- ---- all of it
 
--- ---- tables
+pub record IsOperation (defs : Defs) (ps : List (Placed Document)) (n : Text) (o : OperationAt) (c : Compiled) : Type 0 where
+  pub keeps : KeepsOperation defs n o c
+  pub normalizes : Normalizes defs ps o c
 
--- whether by each name this is found
-abbrev pub Finds : {X : Type 0} → (Text → Option X) → (Text → Option X) → Type 0
-Finds look find = (n : Text) → find n ≡ look n
+-- by each name this is found, where the documents have it
+abbrev pub HasOperations : Defs → List (Placed Document) → (Text → Option Compiled) → Type 0
+HasOperations defs ps find = (n : Text) → Agree (IsOperation defs ps n) (operation_in defs ps n) (find n)
 
--- ---- what the rules on documents give
-
--- the root is the type of operations of this kind
-abbrev pub HasRoot : Defs → Compiled → Type 0
-HasRoot defs c = root defs c.kind ≡ Some c.root
-
--- the type is an object, an interface or a union
-abbrev pub IsOnComposite : Defs → CompiledFragment → Type 0
-IsOnComposite defs c = is_composite defs c.on ≡ true
+abbrev pub HasFragments : Defs → List (Placed Document) → (Text → Option CompiledFragment) → Type 0
+HasFragments defs ps find = (n : Text) → Agree (KeepsFragment defs n) (fragment_in defs ps n) (find n)

@@ -14,6 +14,7 @@ mod listing;
 pub mod operations;
 mod parsing;
 mod places;
+mod planner;
 pub mod project;
 mod ready;
 

@@ -1,60 +1,94 @@
-//! What is kept of the operations and the fragments of an accepted project.
-ghost use Rattle.std.specs.Prelude.{◌≡◌, cond, unwrap_or, option_copied, [], IfOk};
-ghost use Rattle.plan_project.specs.Lookups as lookups;
+//! What is kept of the operations and the fragments of an accepted project, with their plans.
+ghost use Rattle.std.specs.Prelude.{◌≡◌, [], ◌∷◌, Some, cond, is_some, map, option_map, true, IfOk};
+ghost use Rattle.plan_expand.specs.Answers.{whole_in};
+ghost use Rattle.plan_ir.specs.Expansion.{Whole};
+ghost use Rattle.plan_ir.specs.declared.form.Form.TheVariants as form;
+ghost use Rattle.plan_project.specs.Filling.{IsFragmentOf, IsNamedOperation};
+ghost use Rattle.plan_project.specs.Lookups.{operation_in};
+ghost use Rattle.plan_project.specs.Planning.{CanPlan};
 ghost use Rattle.schema_tables.specs.Types as types;
 
-use gql_ast::{Fragment, Kind, Names, Operation, VariableDefs};
+use crate::planner::Planner;
+use crate::ready::expanded_operation;
+use gql_ast::{Fragment, Kind, VariableDefs};
 use gql_plain::{Ids, Name, NoMemory};
+use plan_build::normal::one_type;
+use plan_build::normal_plan;
+use plan_ir::{Expanded, NormalPlan};
 use relay_dirs::locals;
 use schema_types::Schema;
 use std::alloc::Global;
+use std::rc::Rc;
 
-/// What is kept of an operation: its kind, the type of its selections, and its variables in written
-/// order.
+/// What is kept of an operation, with the plan by which its responses are normalized. The plan may
+/// have other owners.
 #[derive(Debug, Drop)]
 pub struct Compiled {
     pub name: Name,
     pub kind: Kind,
+    /// The type of its selections.
     pub root: Name,
+    /// That type alone.
+    pub types: Ids,
+    /// In written order.
     pub variables: VariableDefs,
+    pub normal: Rc<NormalPlan>,
 }
 
-/// What is kept of a fragment: its type, the names of its local variables in written order, and the
-/// object types that a value of its type may have.
+/// What is kept of a fragment.
 #[derive(Debug, Drop)]
 pub struct CompiledFragment {
     pub name: Name,
+    /// Its type.
     pub on: Name,
-    pub locals: Names,
+    /// Its local variables in written order, with their types and their defaults.
+    pub locals: VariableDefs,
+    /// The object types that a value of its type may have.
     pub types: Ids,
 }
 
-/// What is kept of an operation of this name.
+/// The operation of a name with its plan.
 pub(crate) fn compile_operation(
     alloc: Global,
-    schema: &Schema,
+    planner: &Planner<'_>,
     name: &Name,
-    operation: &Operation,
 ) -> Result<Compiled, NoMemory>
-    ensures { IfOk result (λ c. c ≡ lookups.compiled_operation schema.now name.now operation.now) }
+    requires ready { CanPlan planner.now }
+    requires there { is_some (operation_in planner.now.expander.schema.now planner.now.expander.documents.now name.now) ≡ true }
+    ensures { IfOk result (IsNamedOperation planner.now.expander.schema.now planner.now.expander.documents.now name.now) }
 {
-    let root = name_or_none(alloc, schema.root(operation.kind))?;
-    Ok(Compiled {
-        name: name.copy()?,
-        kind: operation.kind,
-        root,
-        variables: operation.variables.copy()?,
-    })
+    match expanded_operation(alloc, &planner.expander, name)? {
+        Some(expanded) => plan_operation(alloc, planner, name, expanded),
+        None => unreachable!(),
+    }
 }
 
-/// A name, or the empty text where there is none.
-fn name_or_none(alloc: Global, name: Option<&Name>) -> Result<Name, NoMemory>
-    ensures { IfOk result (λ n. n ≡ unwrap_or (option_copied name.entry) []) }
+/// The operation of a name with its plan, by what it becomes where all spreads are followed.
+fn plan_operation(
+    alloc: Global,
+    planner: &Planner<'_>,
+    name: &Name,
+    expanded: Expanded,
+) -> Result<Compiled, NoMemory>
+    requires ready { CanPlan planner.now }
+    requires whole { Some expanded ≡ option_map (λ (w : Whole). w.expanded)
+        (whole_in planner.now.expander.schema.now planner.now.expander.documents.now form.Operation name.now) }
+    ensures { IfOk result (IsNamedOperation planner.now.expander.schema.now planner.now.expander.documents.now name.now) }
 {
-    match name {
-        Some(name) => name.copy(),
-        None => Name::new(alloc, ""),
-    }
+    let Some(kind) = expanded.kind else {
+        unreachable!()
+    };
+    let plan = normal_plan(alloc, planner.expander.schema, &expanded)?;
+    let normal = Rc::new(alloc, plan)?;
+    let types = one_type(alloc, &expanded.root)?;
+    Ok(Compiled {
+        name: name.copy()?,
+        kind,
+        root: expanded.root,
+        types,
+        variables: expanded.variables,
+        normal,
+    })
 }
 
 /// What is kept of a fragment.
@@ -63,9 +97,9 @@ pub(crate) fn compile_fragment(
     schema: &Schema,
     fragment: &Fragment,
 ) -> Result<CompiledFragment, NoMemory>
-    ensures { IfOk result (λ c. c ≡ lookups.compiled_fragment schema.now fragment.now) }
+    ensures { IfOk result (IsFragmentOf schema.now fragment.now.name fragment.now) }
 {
-    let locals = local_names(alloc, fragment)?;
+    let locals = locals(alloc, fragment)?;
     let types = types_of(alloc, schema, fragment.on.as_str())?;
     Ok(CompiledFragment {
         name: fragment.name.copy()?,
@@ -83,16 +117,4 @@ fn types_of(alloc: Global, schema: &Schema, of: &str) -> Result<Ids, NoMemory>
         return schema.possible(of).copy();
     }
     Ok(Ids::new(alloc))
-}
-
-/// The names of the local variables of a fragment.
-fn local_names(alloc: Global, fragment: &Fragment) -> Result<Names, NoMemory>
-    ensures { IfOk result (λ names. names ≡ lookups.local_names fragment.now.directives) }
-{
-    let variables = locals(alloc, fragment)?;
-    let mut names = Names::new(alloc);
-    'variables: for variable in variables.as_slice() {
-        names.push(variable.name.copy()?)?;
-    }
-    Ok(names)
 }

@@ -1,9 +1,9 @@
 //! Accepted projects.
-ghost use Rattle.std.specs.Prelude.{◌≡◌, option_copied, IfOk, IfSome};
-ghost use Rattle.plan_project.specs.Lookups as lookups;
+ghost use Rattle.std.specs.Prelude.{◌≡◌, option_copied, IfOk};
+ghost use Rattle.plan_project.specs.Lookups.{Agree, KeepsFragment, KeepsOperation, Normalizes, fragment_in, operation_in};
 ghost use Rattle.plan_project.specs.Projects.{IsAcceptedProject};
 
-use crate::listing::{fragments_of, operations_of};
+use crate::listing::tables_of;
 use crate::operations::{Compiled, CompiledFragment};
 use gql_ast::Documents;
 use gql_plain::NoMemory;
@@ -31,7 +31,7 @@ impl Model for Project {
     ghost use Rattle.gql_ast.specs.contracts.schema.SchemaDef as definition_row;
     ghost use Rattle.gql_ast.specs.declared.document.Document.{Document};
     ghost use Rattle.gql_ast.specs.declared.place.Placed.{Placed};
-    ghost use Rattle.plan_project.specs.Lookups.{Finds, operation, fragment};
+    ghost use Rattle.plan_project.specs.Lookups.{HasFragments, HasOperations};
     ghost use Rattle.plan_project.specs.Projects.{IsAcceptedProject};
     ghost use Rattle.schema_tables.specs.Types.{Defs};
 
@@ -42,7 +42,7 @@ impl Model for Project {
     ghost view = { λ p. (p.schema, p.documents) };
 
     ghost invariant = { λ p. IsAcceptedProject p.schema p.documents
-        × Finds (operation p.schema p.documents) (get_by_text p.operations) × Finds (fragment p.schema p.documents) (get_by_text p.fragments) };
+        × HasOperations p.schema p.documents (get_by_text p.operations) × HasFragments p.schema p.documents (get_by_text p.fragments) };
 }
 
 impl Project {
@@ -55,13 +55,12 @@ impl Project {
         requires { IsAcceptedProject schema documents }
         ensures { IfOk result (λ p. p ≡ (schema, documents)) }
     {
-        let operations = operations_of(alloc, &schema, documents.as_slice())?;
-        let fragments = fragments_of(alloc, &schema, documents.as_slice())?;
+        let tables = tables_of(alloc, &schema, &documents)?;
         Ok(Project {
             schema,
             documents,
-            operations,
-            fragments,
+            operations: tables.operations,
+            fragments: tables.fragments,
         })
     }
 
@@ -79,18 +78,18 @@ impl Project {
         &self.documents
     }
 
-    /// What is kept of the operation of a name; `None` where the documents have none.
+    /// The operation of a name, with the plan by which responses to it are normalized; `None` where the
+    /// documents have none.
     pub fn operation(&self, name: &str) -> Option<&Compiled>
-        ensures found { option_copied result ≡ lookups.operation self.now.0 self.now.1 name.now }
-        ensures rooted { IfSome (option_copied result) (lookups.HasRoot self.now.0) }
+        ensures kept { Agree (KeepsOperation self.now.0 name.now) (operation_in self.now.0 self.now.1 name.now) (option_copied result) }
+        ensures normal { Agree (Normalizes self.now.0 self.now.1) (operation_in self.now.0 self.now.1 name.now) (option_copied result) }
     {
         self.operations.get(name)
     }
 
-    /// What is kept of the fragment of a name; `None` where the documents have none.
+    /// The fragment of a name, with its local variables; `None` where the documents have none.
     pub fn fragment(&self, name: &str) -> Option<&CompiledFragment>
-        ensures found { option_copied result ≡ lookups.fragment self.now.0 self.now.1 name.now }
-        ensures composite { IfSome (option_copied result) (lookups.IsOnComposite self.now.0) }
+        ensures kept { Agree (KeepsFragment self.now.0 name.now) (fragment_in self.now.0 self.now.1 name.now) (option_copied result) }
     {
         self.fragments.get(name)
     }

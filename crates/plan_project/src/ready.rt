@@ -92,7 +92,7 @@ impl<'p> ReadyProject<'p> {
 }
 
 /// The operation of a name, expanded; `None` where there is no operation of that name.
-fn expanded_operation(
+pub(crate) fn expanded_operation(
     alloc: Global,
     expander: &Expander<'_>,
     name: &Name,

@@ -1,14 +1,25 @@
-use Rattle.std.proofs.Common.{drop, ◌∙◌}
-use Rattle.std.proofs.lemmas.List.{drop_all}
+-- One document more, and all of them.
+use Rattle.std.proofs.Common.{rules, List, subst}
 use Rattle.std.specs.BTreeMap.{get_by_text}
-use Rattle.plan_project.proofs.Looking.{found-all, found_in_documents, in_document}
+use Rattle.gql_ast.specs.declared.document.Definition.{Definition}
+use Rattle.plan_project.proofs.KeptPlans.{fragments_filled}
+use Rattle.plan_project.proofs.Looking.{in_document, takes_next, takes_nothing}
 use Rattle.plan_project.proofs.listing.fragments_of.Goals as goal
-use Rattle.plan_project.specs.Lookups.{first_of, fragment_under}
+use Rattle.plan_project.specs.Filling.{IsFragmentOf, Takes, first_of, fragment_under}
+
+pub documents-init : goal.documents-init
+documents-init c = takes_nothing (IsFragmentOf c.args.planner.now.expander.schema.now) (get_by_text c.new-fragments.result)
+
+pub documents-preserved : goal.documents-preserved
+documents-preserved c =
+    let defs = c.args.planner.now.expander.schema.now in
+    takes_next (IsFragmentOf defs) (λ n. in_document (fragment_under n)) c.as_slice-document-items.result.now c.documents.document-index c.document-item.result
+    (get_by_text c.new-fragments.result) (get_by_text c.documents.fragments) (get_by_text c.put_fragments.new.fragments) c.documents-test.true c.document-item.is
+    c.documents.invariant
+    (subst (λ (ds : List Definition). Takes (IsFragmentOf defs) (λ n. first_of (fragment_under n) ds) (get_by_text c.documents.fragments) (get_by_text c.put_fragments.new.fragments))
+    c.as_slice.ensures c.in_ok-put_fragments.ensures)
 
 pub returns : goal.returns
-returns c = λ n.
-    let find = fragment_under c.args.schema.now n in
-    found-all (in_document find) (drop c.documents.document-index c.args.documents.now) (get_by_text c.documents.fragments n)
-    (first_of (in_document find) c.args.documents.now) (c.documents.invariant n)
-    (drop_all c.documents.document-index c.args.documents.now c.documents-test.false)
-    ∙ found_in_documents find c.args.documents.now
+returns c =
+    fragments_filled c.args.planner.now.expander.schema.now c.args.planner.now.expander.documents.now c.requires.accepted c.as_slice-document-items.result.now c.documents.document-index
+    (get_by_text c.new-fragments.result) (get_by_text c.documents.fragments) c.as_slice-document-items.ensures c.documents-test.false (λ n. search rules) c.documents.invariant

@@ -1,11 +1,11 @@
--- What is found so far, and what is left, are the whole.
-use Rattle.std.proofs.Common.{◌≡◌, drop}
+-- Of the documents so far the first operation of each name is put.
+use Rattle.std.proofs.Common.{take}
 use Rattle.std.specs.BTreeMap.{get_by_text}
 use Rattle.plan_project.proofs.Looking.{in_document}
 use Rattle.plan_project.proofs.listing.operations_of.Given as goal
-use Rattle.plan_project.specs.Lookups.{or_else, first_of, operation_under}
-use Rattle.gql_graph.specs.Texts.{Text}
+use Rattle.plan_project.specs.Filling.{IsOperationOf, Takes, first_of, operation_under}
 
 abbrev pub invariant-documents : goal.invariant-documents
-invariant-documents l = (n : Text) → or_else (get_by_text l.operations n) (first_of (in_document (operation_under l.schema n)) (drop l.document-index l.documents))
-    ≡ first_of (in_document (operation_under l.schema n)) l.documents
+invariant-documents l =
+    Takes (IsOperationOf l.planner.expander.schema.now l.planner.expander.documents.now) (λ n. first_of (in_document (operation_under n)) (take l.document-index l.document-items))
+    (get_by_text l.initial.operations) (get_by_text l.operations)

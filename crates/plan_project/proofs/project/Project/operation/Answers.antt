@@ -1,19 +1,26 @@
-use Rattle.std.proofs.Common.{List, IfSome, option_copied, sym, ap, subst, ◌∙◌}
+-- What the table has under a name is the operation of that name, with its plan.
+use Rattle.std.proofs.Common.{List, Option, option_copied, sym, subst}
 use Rattle.gql_ast.specs.declared.document.Document.{Document}
 use Rattle.gql_ast.specs.declared.place.Placed.{Placed}
-use Rattle.plan_project.proofs.Accepting.{operation_has_root}
+use Rattle.plan_project.proofs.KeptPlans.{agree_so}
 use Rattle.plan_project.proofs.project.Project.operation.Goals as goal
-use Rattle.plan_project.specs.Lookups as lookups
+use Rattle.plan_project.specs.Lookups.{Agree, IsOperation, KeepsOperation, Normalizes, operation_in}
+use Rattle.plan_project.specs.declared.operations.Compiled.{Compiled}
 use Rattle.schema_tables.specs.Types.{Defs}
+use Rattle.schema_types.specs.Sites.{OperationAt}
 
-pub returns-clause-found : goal.returns-clause-found
-returns-clause-found c =
-    c.get.ensures.value
-    ∙ c.self.invariant.1 c.args.name.now
-    ∙ ap (λ (p : Defs × List (Placed Document)). lookups.operation p.0 p.1 c.args.name.now) c.self.view_is
+pub returns-clause-kept : goal.returns-clause-kept
+returns-clause-kept c =
+    let p = c.self.inside in
+    let n = c.args.name.now in
+    let found = subst (λ (o : Option Compiled). Agree (IsOperation p.schema p.documents n) (operation_in p.schema p.documents n) o) (sym c.get.ensures.value) (c.self.invariant.1 n) in
+    subst (λ (q : Defs × List (Placed Document)). Agree (KeepsOperation q.0 n) (operation_in q.0 q.1 n) (option_copied c.get.result)) c.self.view_is
+    (agree_so (IsOperation p.schema p.documents n) (KeepsOperation p.schema n) (λ (o : OperationAt) (x : Compiled) k. k.keeps) (operation_in p.schema p.documents n) (option_copied c.get.result) found)
 
-pub returns-clause-rooted : goal.returns-clause-rooted
-returns-clause-rooted c =
-    subst (λ (p : Defs × List (Placed Document)). IfSome (option_copied c.get.result) (lookups.HasRoot p.0)) c.self.view_is
-    (subst (λ o. IfSome o (lookups.HasRoot c.self.inside.schema)) (sym (c.get.ensures.value ∙ c.self.invariant.1 c.args.name.now))
-    (operation_has_root c.self.inside.schema c.self.inside.documents c.args.name.now c.self.invariant.0))
+pub returns-clause-normal : goal.returns-clause-normal
+returns-clause-normal c =
+    let p = c.self.inside in
+    let n = c.args.name.now in
+    let found = subst (λ (o : Option Compiled). Agree (IsOperation p.schema p.documents n) (operation_in p.schema p.documents n) o) (sym c.get.ensures.value) (c.self.invariant.1 n) in
+    subst (λ (q : Defs × List (Placed Document)). Agree (Normalizes q.0 q.1) (operation_in q.0 q.1 n) (option_copied c.get.result)) c.self.view_is
+    (agree_so (IsOperation p.schema p.documents n) (Normalizes p.schema p.documents) (λ (o : OperationAt) (x : Compiled) k. k.normalizes) (operation_in p.schema p.documents n) (option_copied c.get.result) found)

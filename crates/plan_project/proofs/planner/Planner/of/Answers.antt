@@ -1,0 +1,16 @@
+-- What is made stands ready for the project.
+use Rattle.std.proofs.Common.{List, sym, subst}
+use Rattle.gql_ast.specs.declared.document.Document.{Document}
+use Rattle.gql_ast.specs.declared.place.Placed.{Placed}
+use Rattle.plan_project.proofs.planner.Planner.of.Goals as goal
+use Rattle.plan_project.specs.Projects.{IsAcceptedProject}
+use Rattle.schema_tables.specs.Types.{Defs}
+
+pub returns-clause-ready : goal.returns-clause-ready
+returns-clause-ready c =
+    let e = c.in_ok-expander.expander in
+    record {
+      expander = c.in_ok-expander.ensures.ready;
+      accepted = subst (λ (defs : Defs). IsAcceptedProject defs e.documents.now) (sym c.in_ok-expander.ensures.schema)
+          (subst (λ (ps : List (Placed Document)). IsAcceptedProject c.args.schema.now ps) (sym c.in_ok-expander.ensures.documents) c.requires);
+    }
