@@ -46,16 +46,21 @@ fn verdict(alloc: Global, schema: &str, first: &str, second: &str) -> Result<Str
 
 /// What is kept of the operation of a name; nothing where there is none.
 fn operation(alloc: Global, project: &Project, name: &str) -> Result<String, Fail> {
-    match project.operation(name) {
-        Some(found) => Ok(format!(in alloc;
-            "{} {:?} {} {}",
-            found.name.as_str(),
-            found.kind,
-            found.root.as_str(),
-            found.variables.len()
-        )?),
-        None => Ok(String::new(alloc)),
+    let Some(found) = project.operation(name) else {
+        return Ok(String::new(alloc));
+    };
+    let mut text = format!(in alloc;
+        "{} {:?} {} {}",
+        found.name.as_str(),
+        found.kind,
+        found.root.as_str(),
+        found.variables.len()
+    )?;
+    for object in found.types.as_slice() {
+        text.push_str(" ")?;
+        text.push_str(object.as_str())?;
     }
+    Ok(text)
 }
 
 /// What is kept of the fragment of a name; nothing where there is none.
@@ -66,7 +71,8 @@ fn fragment(alloc: Global, project: &Project, name: &str) -> Result<String, Fail
     let mut text = format!(in alloc; "{} {}", found.name.as_str(), found.on.as_str())?;
     for local in found.locals.as_slice() {
         text.push_str(" $")?;
-        text.push_str(local.as_str())?;
+        text.push_str(local.name.as_str())?;
+        text.push_str(if local.default.is_some() { "=" } else { "" })?;
     }
     for object in found.types.as_slice() {
         text.push_str(" ")?;
@@ -137,17 +143,18 @@ fn accepted_documents_are_kept_in_order(rt: HostRuntime) -> Result<(), Fail> {
     Ok(())
 }
 
-/// A name, and what is found of it, a row.
-const FOUND: &str = "Q;Q Query Query 2/\n\
-    A;A Subscription Subscription 0/A Named User\n\
-    B;/B Any $x $y Cat User\n\
+/// A name, and what is found of it, a row: an operation with the number of its variables and its type,
+/// and a fragment with its local variables, with `=` those that have a default, and its types.
+const FOUND: &str = "Q;Q Query Query 2 Query/\n\
+    A;A Subscription Subscription 0 Subscription/A Named User\n\
+    B;/B Any $x $y= Cat User\n\
     User;/\n\
     C;/";
 
 #[test]
 fn operations_and_fragments_are_found(rt: HostRuntime) -> Result<(), Fail> {
     let alloc = rt.alloc();
-    let first = "fragment B on Any@argumentDefinitions(x:{type:\"Int\"},y:{type:\"Int\"}){...A}";
+    let first = "fragment B on Any@argumentDefinitions(x:{type:\"Int\"},y:{type:\"Int\",defaultValue:1}){...A}";
     let second = "query Q($of:Int!,$no:Int){pick(of:$of)any{...B}}fragment A on Named{name} \
         subscription A{on}";
     for row in FOUND.lines() {
