@@ -46,7 +46,8 @@ fn closed(
     let child = NormalPlan { steps };
     match around {
         Some(mut around) => {
-            around.steps.push(step_around(alloc, around.head, child)?)?;
+            let step = step_around(alloc, around.head, child)?;
+            around.steps.push(step)?;
             Ok(around.steps)
         }
         None => Ok(child.steps),
