@@ -1,0 +1,11 @@
+pub mod CacheSteps
+pub mod GatherSteps
+pub mod LevelSteps
+pub mod LoopSteps
+pub mod MemberSteps
+pub mod MetSteps
+pub mod ReadSteps
+pub mod ScopeSteps
+pub mod SpreadSteps
+pub mod TypeSteps
+pub mod WalkSteps

@@ -1,0 +1,25 @@
+-- What is put and what is left are the whole; a step is at most as deep as its plan.
+use Rattle.std.proofs.Common.{◌≡◌, ◌+◌, ◌*◌, drop}
+use Rattle.plan_ir.specs.Reader.{depth}
+use Rattle.plan_ir.specs.ReaderMeaning.{collect_reading}
+use Rattle.plan_ir.specs.ReaderView.{step_of, steps_of}
+use Rattle.store_model.specs.Items.{asked_of, grouped_onto}
+use Rattle.store_read.specs.Gathering.{groups_in, spreads_in, IsPlaced}
+use Rattle.store_read.specs.Spreads.{pointers_onto}
+use Rattle.store_read.proofs.gathered.Gathered.+gather.Given as goal
+
+abbrev pub decreases-put_steps : goal.decreases-put_steps
+decreases-put_steps l = 2 * depth l.steps.now + 1
+
+abbrev pub decreases-put_step : goal.decreases-put_step
+decreases-put_step l = 2 * depth (step_of l.step.now)
+
+abbrev pub invariant-put_steps-steps : goal.invariant-put_steps-steps
+invariant-put_steps-steps l = record {
+  within : steps_of l.step-items ≡ l.steps;
+  groups : grouped_onto (groups_in l.self) (asked_of (collect_reading l.env.values l.object (steps_of (drop l.step-index l.step-items))))
+      ≡ grouped_onto (groups_in l.initial.self) (asked_of (collect_reading l.env.values l.object l.steps));
+  spreads : pointers_onto (spreads_in l.self) (collect_reading l.env.values l.object (steps_of (drop l.step-index l.step-items)))
+      ≡ pointers_onto (spreads_in l.initial.self) (collect_reading l.env.values l.object l.steps);
+  placed : IsPlaced l.self;
+}

@@ -1,0 +1,28 @@
+-- What is gathered of plans: fields by their response keys, and the first spread of each fragment.
+use Rattle.std.specs.Prelude.{◌≡◌, List, map, is_some}
+use Rattle.std.specs.BTreeMap.{get_by}
+use Rattle.std.specs.Cmp.Lexicographic.{slice_cmp}
+use Rattle.std.specs.Ordering.{nat_cmp}
+use Rattle.gql_plain.specs.Order.{has_text}
+use Rattle.plan_groups.specs.Putting.{place_of}
+use Rattle.plan_ir.specs.ReaderMeaning.{ReaderPart}
+use Rattle.schema_tables.specs.Types.{Text}
+use Rattle.store_model.specs.Items.{Group, Pointer}
+use Rattle.store_read.specs.FieldView.{asked_at, spread_at}
+use Rattle.store_read.specs.Spreads.{fragments}
+use Rattle.store_read.specs.declared.gathered.Fields.{Fields}
+use Rattle.store_read.specs.declared.gathered.Gathered.{Gathered}
+
+abbrev pub group_of : Fields → Group ReaderPart
+group_of g = record { first = asked_at g.first; others = map asked_at g.others.items }
+
+abbrev pub groups_in : Gathered → List (Group ReaderPart)
+groups_in g = map group_of g.groups.items
+
+abbrev pub spreads_in : Gathered → List (Pointer ReaderPart)
+spreads_in g = map spread_at g.spreads.items
+
+-- each response key has the place of its group, and each fragment of a spread is known
+pub record IsPlaced (g : Gathered) : Type 0 where
+  pub keys : (n : Text) → get_by (λ k. slice_cmp nat_cmp n k.now) g.places ≡ place_of (groups_in g) n
+  pub names : (n : Text) → is_some (get_by (λ k. slice_cmp nat_cmp n k.now) g.fragments) ≡ has_text (fragments (spreads_in g)) n

@@ -1,0 +1,11 @@
+pub mod CacheFalls
+pub mod CacheView
+pub mod Caching
+pub mod FieldView
+pub mod Footprints
+pub mod Gathering
+pub mod Meeting
+pub mod Members
+pub mod Reading
+pub mod Spreads
+pub mod Walked

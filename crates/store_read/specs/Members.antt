@@ -1,0 +1,20 @@
+-- The members of objects, as they are put.
+use Rattle.std.specs.Prelude.{codes, List, [], ◌∷◌, Option, Some, None}
+use Rattle.gql_plain.specs.Tree.{Tree, text}
+use Rattle.store_model.specs.Walks.{Shown, shown_object, with_value}
+use Rattle.store_record.specs.Keys.{Text}
+
+-- pairs put onto members, of those of one key the first one counts
+abbrev pub put_all : List (Text × Tree) → Shown → Shown
+put_all [] end = end
+put_all (p ∷ ps) end = with_value p.0 p.1 (put_all ps end)
+
+-- a value that is found, and then the others
+abbrev pub found_before : Text → Option Tree → List (Text × Tree) → List (Text × Tree)
+found_before key None ps = ps
+found_before key (Some t) ps = (key, t) ∷ ps
+
+-- what an object with pointers tells beside its fields
+abbrev pub mark_members : (owner id : Text) → Shown → List (Text × Tree)
+mark_members owner id [] = []
+mark_members owner id (m ∷ ms) = (codes "__fragments", shown_object (m ∷ ms)) ∷ (codes "__id", text id) ∷ (codes "__owner", text owner) ∷ []

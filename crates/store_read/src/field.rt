@@ -1,0 +1,114 @@
+//! Fields of plans in the environments of their operations.
+ghost use Rattle.std.specs.Prelude.{◌≡◌, None, IfOk};
+ghost use Rattle.plan_ir.specs.NormalMeaning.{ask_step, typename_ask};
+ghost use Rattle.plan_ir.specs.Reader.{done};
+ghost use Rattle.plan_ir.specs.ReaderMeaning.{field_item};
+ghost use Rattle.store_model.specs.Items as items;
+ghost use Rattle.store_model.specs.Items.{asked};
+ghost use Rattle.store_model.specs.Walks as walks;
+ghost use Rattle.store_read.specs.FieldView.{ask_at, asked_at, part_at};
+
+use gql_ast::Arguments;
+use gql_plain::{Conn, Name, NoMemory, Pairs, Words};
+use plan_groups::{Call, FormAt};
+use plan_ir::{ReaderPlan, ReaderSteps};
+use schema_values::{Env, evaluate_arguments};
+use std::alloc::Global;
+use store_record::{field_key, handle_key};
+
+/// Steps in the environment of their operation.
+#[derive(Clone, Copy)]
+pub(crate) struct PartAt<'p> {
+    pub(crate) env: &'p Env,
+    /// None where there is no step.
+    pub(crate) steps: Option<&'p ReaderSteps>,
+}
+
+impl<'p> PartAt<'p> {
+    /// The steps of a plan; takes no memory.
+    pub(crate) fn new(env: &'p Env, plan: &'p ReaderPlan) -> PartAt<'p>
+        ensures { part_at result ≡ record { environment = env.now.values; steps = plan.now.steps } }
+    {
+        PartAt {
+            env,
+            steps: Some(&plan.steps),
+        }
+    }
+}
+
+/// A field.
+#[derive(Clone, Copy)]
+pub(crate) struct FieldAt<'p> {
+    pub(crate) response: &'p Name,
+    /// None for the name of the type of the record.
+    pub(crate) call: Option<Call<'p>>,
+    pub(crate) connection: Option<&'p Conn>,
+    pub(crate) form: FormAt<'p>,
+    /// What stands below, and the environment.
+    pub(crate) part: PartAt<'p>,
+}
+
+impl<'p> FieldAt<'p> {
+    /// The name of the type of the record; takes no memory.
+    pub(crate) fn type_name(env: &'p Env, response: &'p Name) -> FieldAt<'p>
+        ensures { asked (asked_at result) ≡ field_item (typename_ask response.now) env.now.values done }
+    {
+        FieldAt {
+            response,
+            call: None,
+            connection: None,
+            form: FormAt::Typename,
+            part: PartAt { env, steps: None },
+        }
+    }
+
+    /// A field of a scalar or an enum, or of a list of these; takes no memory.
+    pub(crate) fn leaf(
+        env: &'p Env,
+        response: &'p Name,
+        name: &'p Name,
+        arguments: &'p Arguments,
+    ) -> FieldAt<'p>
+        ensures { asked (asked_at result) ≡ field_item (ask_step env.now.values response.now name.now arguments.now None items.leaf) env.now.values done }
+    {
+        FieldAt {
+            response,
+            call: Some(Call { name, arguments }),
+            connection: None,
+            form: FormAt::Leaf,
+            part: PartAt { env, steps: None },
+        }
+    }
+
+    /// The key that the field is read under: that of its connection, or its own where it has none.
+    pub(crate) fn read_key(&self, alloc: Global) -> Result<Words, NoMemory>
+        ensures { IfOk result (λ key. key ≡ walks.read_key (ask_at self.now)) }
+    {
+        let arguments = self.arguments(alloc)?;
+        match self.connection {
+            Some(connection) => handle_key(alloc, connection, &arguments),
+            None => self.own_key(alloc, &arguments),
+        }
+    }
+
+    /// The values of the arguments.
+    fn arguments(&self, alloc: Global) -> Result<Pairs, NoMemory>
+        ensures { IfOk result (λ arguments. arguments ≡ (ask_at self.now).arguments) }
+    {
+        match self.call {
+            Some(call) => evaluate_arguments(alloc, call.arguments, self.part.env),
+            None => Ok(Pairs::new(alloc)),
+        }
+    }
+
+    /// The key that the field is stored under; its arguments have these values.
+    fn own_key(&self, alloc: Global, arguments: &Pairs) -> Result<Words, NoMemory>
+        requires { arguments.now ≡ (ask_at self.now).arguments }
+        ensures { IfOk result (λ key. key ≡ items.key_of (ask_at self.now)) }
+    {
+        match self.call {
+            Some(call) => field_key(alloc, call.name, arguments),
+            None => Words::new(alloc, "__typename"),
+        }
+    }
+}
