@@ -1,0 +1,262 @@
+#!/bin/bash
+# Times the facts of payloads of 1, 2 and 4 MB beside serde_json, which reads the same text alone:
+# lists of many objects, with ids and without, an object of many aliases, objects 60 deep, many objects
+# that meet in one id with equal values, and one long text. It tells of each number of facts whether it
+# is the one that is due. Times are processor times, the least of nine rounds over all sizes. What the
+# program takes to start, to make the plan and to take in the file is measured by itself and taken off;
+# `facts / reading` is what `facts` takes beyond the reading, as a ratio to the reading. The program is
+# made in a folder of its own outside the repository, where the crates that it stands on are proved
+# first. Instead, a program may be named that was made so: run.sh PROGRAM. With KEEP=PATH the program
+# is left there.
+set -eu
+here=$(cd "$(dirname "$0")" && pwd)
+repository=$(cd "$here/../.." && pwd)
+folder=$(mktemp -d)
+trap 'rm -rf "$folder"' EXIT
+program=${1:+$(realpath "$1")}
+cd "$folder"
+
+# Makes the program from the crates that the tests of the same calls stand on.
+make_program() {
+    libraries=$(sed -n 's/^norm_tests: //p' "$repository/crates.txt")
+    for crate in $libraries; do
+        if [ -d "$repository/crates/$crate" ]; then
+            mkdir -p "crates/$crate"
+            for part in src specs proofs; do
+                if [ -d "$repository/crates/$crate/$part" ]; then
+                    cp -r "$repository/crates/$crate/$part" "crates/$crate/$part"
+                fi
+            done
+            grep -E "^$crate:" "$repository/crates.txt" >> crates.txt
+        fi
+    done
+    echo 'Handles allowed: none.' > HANDLES
+    rt new crates/payload_bench start_io > /dev/null
+    rm -rf crates/payload_bench/{src,specs,proofs,stdin,stdout}
+    mkdir crates/payload_bench/src
+    echo "payload_bench: $libraries" >> crates.txt
+    cat > crates/payload_bench/src/main.rt
+    (cd crates/payload_bench && rt run -- many 1 file /dev/null)
+    program=$folder/crates/payload_bench/out/payload_bench
+    if [ -n "${KEEP:-}" ]; then
+        cp "$program" "$KEEP"
+    fi
+}
+
+if [ -z "$program" ]; then
+    make_program <<'END'
+//! Reads a payload, and gathers its facts, as far as the words say.
+#![tactic(auto)]
+
+use gql_ast::{Argument, Arguments, ValueTree};
+use gql_plain::{Ids, NoMemory, Pairs, Words};
+use plan_ir::{NormalPlan, NormalStep, NormalSteps};
+use schema_values::Env;
+use serde_json::Value;
+use std::alloc::Global;
+use std::{env, fs, io};
+use store_model::Facts;
+use store_norm::{facts, is_formed};
+
+/// A leaf under a response key, with an argument where a number is given.
+fn leaf(
+    alloc: Global,
+    response: &str,
+    name: &str,
+    number: Option<i64>,
+) -> Result<NormalStep, NoMemory> {
+    let mut arguments = Arguments::new(alloc);
+    if let Some(number) = number {
+        arguments.push(Argument {
+            name: Words::new(alloc, "n")?,
+            value: ValueTree::Int(number),
+        })?;
+    }
+    Ok(NormalStep::Leaf {
+        response: Words::new(alloc, response)?,
+        name: Words::new(alloc, name)?,
+        arguments,
+    })
+}
+
+/// A field of users, which have ids.
+fn users(
+    alloc: Global,
+    name: &str,
+    many: bool,
+    steps: NormalSteps,
+) -> Result<NormalStep, NoMemory> {
+    let mut types = Vec::new(alloc);
+    types.push(Words::new(alloc, "User")?)?;
+    let types = Ids::sort(types)?;
+    Ok(NormalStep::Object {
+        response: Words::new(alloc, name)?,
+        name: Words::new(alloc, name)?,
+        arguments: Arguments::new(alloc),
+        many,
+        identified: types.copy()?,
+        types,
+        open_type: false,
+        connection: None,
+        child: NormalPlan { steps },
+    })
+}
+
+/// `id age name`
+fn user_steps(alloc: Global) -> Result<NormalSteps, NoMemory> {
+    let mut steps = NormalSteps::new(alloc);
+    for name in ["id", "age", "name"] {
+        steps.push(leaf(alloc, name, name, None)?)?;
+    }
+    Ok(steps)
+}
+
+/// `id`, and so many aliases of a field, each with an argument of its own or none.
+fn alias_steps(alloc: Global, count: i64, are_many: bool) -> Result<NormalSteps, NoMemory> {
+    let mut steps = NormalSteps::new(alloc);
+    steps.push(leaf(alloc, "id", "id", None)?)?;
+    for number in 0..count {
+        let response = format!(in alloc; "a{number}")?;
+        let argument = if are_many { Some(number) } else { None };
+        steps.push(leaf(alloc, response.as_str(), "name", argument)?)?;
+    }
+    Ok(steps)
+}
+
+/// `id friend{id friend{..}}`, so deep.
+fn deep_steps(alloc: Global, depth: u64) -> Result<NormalSteps, NoMemory> {
+    let mut below = NormalSteps::new(alloc);
+    for _ in 0..depth {
+        let mut steps = NormalSteps::new(alloc);
+        steps.push(leaf(alloc, "id", "id", None)?)?;
+        steps.push(users(alloc, "friend", false, below)?)?;
+        below = steps;
+    }
+    Ok(below)
+}
+
+/// The plan of that name.
+fn plan_of(alloc: Global, name: &str, count: i64) -> Result<NormalPlan, NoMemory> {
+    let mut steps = NormalSteps::new(alloc);
+    match name {
+        "deep" => steps.push(users(alloc, "team", true, deep_steps(alloc, 60)?)?)?,
+        "aliases" => steps.push(users(alloc, "me", false, alias_steps(alloc, count, true)?)?)?,
+        "same" => steps.push(users(alloc, "me", false, alias_steps(alloc, count, false)?)?)?,
+        _ => {
+            steps.push(users(alloc, "team", true, user_steps(alloc)?)?)?;
+            steps.push(users(alloc, "me", false, user_steps(alloc)?)?)?;
+        }
+    }
+    Ok(NormalPlan { steps })
+}
+
+/// How many facts, the names of types counted.
+fn count_of(facts: &Facts) -> u64 {
+    let mut count: u64 = 0;
+    for row in facts.facts.rows() {
+        count = count.wrapping_add(1).wrapping_add(row.fields.len() as u64);
+    }
+    count
+}
+
+/// How many facts a payload says; none where it is refused, or memory is short.
+fn said(alloc: Global, plan: &NormalPlan, response: &Value) -> Result<u64, NoMemory> {
+    let env = Env {
+        root: Words::new(alloc, "Query")?,
+        values: Pairs::new(alloc),
+    };
+    if !is_formed(plan) {
+        return Ok(0);
+    }
+    match facts(alloc, plan, &env, response) {
+        Ok(facts) => Ok(count_of(&facts)),
+        Err(_) => Ok(0),
+    }
+}
+
+/// What is done with a payload: nothing, 1 where it is read, or how many facts it says.
+fn done(alloc: Global, plan: &NormalPlan, mode: &str, bytes: &[u8]) -> Result<u64, NoMemory> {
+    if mode == "file" {
+        return Ok(0);
+    }
+    match Value::from_slice(alloc, bytes) {
+        Ok(response) => {
+            if mode == "facts" {
+                return said(alloc, plan, &response);
+            }
+            Ok(1)
+        }
+        Err(_) => Ok(0),
+    }
+}
+
+fn main(rt: HostRuntime) -> io::Result<()> {
+    let alloc = rt.alloc();
+    let mut words = env::args(&rt)?.skip(1);
+    let Some(name) = words.next() else {
+        return Ok(());
+    };
+    let Some(count) = words.next() else {
+        return Ok(());
+    };
+    let Some(mode) = words.next() else {
+        return Ok(());
+    };
+    let Some(path) = words.next() else {
+        return Ok(());
+    };
+    let count = count.as_str().parse::<i64>().unwrap_or(0);
+    let bytes = fs::read(&rt, path.as_str())?;
+    match plan_of(alloc, name.as_str(), count) {
+        Ok(plan) => {
+            let found = done(alloc, &plan, mode.as_str(), &bytes).unwrap_or(0);
+            println!(rt; "{found}")
+        }
+        Err(_) => println!(rt; "out of memory"),
+    }
+}
+END
+fi
+
+cat > measure.py <<'END'
+import os, subprocess, sys
+from payloads import PAYLOADS
+
+ROUNDS, MODES = 9, ("file", "read", "facts")
+
+def run(plan, count, mode):
+    """The processor time of a run, its most memory in MiB, and its answer."""
+    with open("answer", "w+b") as answer:
+        words = [program, plan, str(count), mode, f"{count}.json"]
+        child = subprocess.Popen(words, stdin=subprocess.DEVNULL, stdout=answer)
+        _, code, usage = os.wait4(child.pid, 0)
+        answer.seek(0)
+        said = answer.read().decode().strip()
+    return usage.ru_utime + usage.ru_stime, usage.ru_maxrss / 1024, said if code == 0 else f"status {code}"
+
+program, payloads, wrong = sys.argv[1], sys.argv[2], False
+print("payload                   count    MB  reading ms  facts ms  facts / reading  times the half  peak MiB  of reading  answer")
+for row, (name, plan, _, counts) in enumerate(PAYLOADS):
+    due, best = {}, {}
+    for count in counts:
+        # By a process of its own: a child's most memory begins at that of its parent
+        due[count] = subprocess.check_output([sys.executable, payloads, str(row), str(count), f"{count}.json"], text=True).strip()
+    for _ in range(ROUNDS):
+        for count in counts:
+            for mode in MODES:
+                best[count, mode] = min(run(plan, count, mode), best.get((count, mode), (1e9,)))
+    half = None
+    for count in counts:
+        start, reading, whole = (best[count, mode][0] for mode in MODES)
+        took, reading = whole - reading, reading - start
+        said = best[count, "facts"][2]
+        wrong = wrong or said != due[count]
+        answer = "as due" if said == due[count] else f"WRONG: {said}, due {due[count]}"
+        grown = f"{took / half:.2f}" if half else ""
+        size = os.path.getsize(f"{count}.json") / 1e6
+        print(f"{name:22} {count:8} {size:5.1f} {reading*1000:11.1f} {took*1000:9.1f}  {took/reading:15.2f}  {grown:>14}  {best[count, 'facts'][1]:8.0f}  {best[count, 'read'][1]:10.0f}  {answer}", flush=True)
+        half = took
+        os.remove(f"{count}.json")
+sys.exit(wrong)
+END
+PYTHONDONTWRITEBYTECODE=1 PYTHONPATH="$here" python3 measure.py "$program" "$here/payloads.py"
