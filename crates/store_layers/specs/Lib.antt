@@ -1,0 +1,6 @@
+pub mod Changed
+pub mod Layered
+pub mod LayeredCode
+pub mod Taken
+pub mod Versions
+pub mod Work

@@ -1,0 +1,201 @@
+//! The layers.
+ghost use Rattle.std.specs.Prelude.{◌≡◌, ◌+◌, ◌*◌, ◌≤◌, ◌++◌, [], ◌∷◌, true, false, length, IfOk, OnOk, OnErr};
+ghost use Rattle.gql_plain.specs.Counted.{next_count};
+ghost use Rattle.store_model.specs.Entries.{weight, fold_entries};
+ghost use Rattle.store_model.specs.Records.{no_records};
+ghost use Rattle.store_layers.specs.Changed.{AreChanged};
+ghost use Rattle.store_layers.specs.Layered as spec;
+ghost use Rattle.store_layers.specs.Layered.{entries_of, view_of, below, from_on, above, without, committed, begun, finished, reverted};
+ghost use Rattle.store_layers.specs.Taken.{MayBeApplied};
+ghost use Rattle.store_layers.specs.Work.{counted, weights};
+
+use crate::fold::{Entries, copy_versions, newest};
+use crate::names::{copy_entries, count_of, is_named, place_of, put_layer};
+use crate::rebuild::{confirm, finish, revert};
+use gql_plain::{Ids, NoMemory, Words};
+use indexmap::IndexMap;
+use std::alloc::Global;
+use std::marker::Model;
+use store_model::Entry;
+use store_source::RecordSource;
+use store_update::{Changed, apply};
+
+/// What is confirmed, and over it the live layers, each by its name, in order of start. Seen as the
+/// records of the base, and the names and entries of the layers.
+///
+/// Each layer keeps the whole version of the records after it. A call builds all that it changes
+/// aside, and puts it in place by moves, so that an error leaves all as it was. The ids that a call
+/// gives hold every id whose slot in the view differs.
+#[derive(Drop)]
+pub struct Layers<S: RecordSource> {
+    base: S,
+    entries: Entries,
+    /// The version after each layer, and the ids that the layer changes.
+    versions: Vec<Changed<S>>,
+}
+
+impl<S: RecordSource> Model for Layers<S> {
+    ghost use Rattle.store_layers.specs.Layered.{Layered};
+
+    ghost Value = { Layered };
+
+    ghost use Rattle.store_layers.specs.LayeredCode.{layered_code};
+
+    ghost coded = { layered_code };
+
+    ghost use Rattle.store_layers.specs.Versions.{shown, layers_of, AreKept};
+
+    ghost view = { λ l. record { base = S.records l.base; live = layers_of l.entries.entries } };
+
+    ghost invariant = { λ l. AreKept (S.records l.base) (layers_of l.entries.entries) (shown S.records l.versions.items) };
+}
+
+impl<S: RecordSource> Layers<S> {
+    /// No layer over a map without records.
+    pub fn new(alloc: Global, source: S) -> Result<Layers<S>, NoMemory>
+        requires { S.records source ≡ no_records }
+        ensures { IfOk result (λ layers. layers ≡ record { base = no_records; live = [] }) }
+    {
+        Ok(Layers {
+            base: source,
+            entries: IndexMap::new(alloc),
+            versions: Vec::new(alloc),
+        })
+    }
+
+    /// Applies an entry to the base, and each layer again.
+    pub fn commit(&mut self, entry: Entry, steps: &mut S::Count) -> Result<Ids, NoMemory>
+        requires { MayBeApplied entry }
+        ensures ok { OnOk result (self.new ≡ committed entry self.old) }
+        ensures err { OnErr result (self.new ≡ self.old) }
+        ensures changed { IfOk result (λ ids. AreChanged self.old.base (entries_of self.old.live) (entry ∷ entries_of self.old.live) ids) }
+        ensures applies { S.Count.applies steps.new ≤ S.Count.applies steps.old + (length self.old.live + 1) }
+        ensures looks { S.Count.looks steps.new ≤ S.Count.looks steps.old + 8 * weights (entry ∷ entries_of self.old.live) self.old.base }
+    {
+        let alloc = *self.versions.allocator();
+        let confirmed = confirm(
+            alloc,
+            &self.base,
+            &self.entries,
+            &self.versions,
+            &entry,
+            steps,
+        )?;
+        self.base = confirmed.base;
+        self.versions = confirmed.rest.versions;
+        Ok(confirmed.rest.ids)
+    }
+
+    /// Starts a layer above all others, under a name that is not live.
+    pub fn begin(
+        &mut self,
+        name: Words,
+        entry: Entry,
+        steps: &mut S::Count,
+    ) -> Result<Ids, NoMemory>
+        requires name { spec.is_live self.old.live name ≡ false }
+        requires may { MayBeApplied entry }
+        ensures ok { OnOk result (self.new ≡ begun name entry self.old) }
+        ensures err { OnErr result (self.new ≡ self.old) }
+        ensures changed { IfOk result (λ ids. AreChanged (view_of self.old) [] (entry ∷ []) ids) }
+        ensures applies { S.Count.applies steps.new ≡ next_count (S.Count.applies steps.old) }
+        ensures looks { S.Count.looks steps.new ≤ S.Count.looks steps.old + 8 * weight entry (view_of self.old) }
+    {
+        let version = apply(newest(&self.base, &self.versions), &entry, steps)?;
+        let ids = version.touched.copy()?;
+        put_layer(&mut self.entries, &mut self.versions, name, entry, version)?;
+        Ok(ids)
+    }
+
+    /// Drops a live layer, applies an entry to the base, and each other layer again.
+    pub fn finish(
+        &mut self,
+        name: &Words,
+        entry: Entry,
+        steps: &mut S::Count,
+    ) -> Result<Ids, NoMemory>
+        requires name { spec.is_live self.old.live name.now ≡ true }
+        requires may { MayBeApplied entry }
+        ensures ok { OnOk result (self.new ≡ finished name.now entry self.old) }
+        ensures err { OnErr result (self.new ≡ self.old) }
+        ensures changed { IfOk result (λ ids. AreChanged self.old.base (entries_of self.old.live) (entry ∷ entries_of (without name.now self.old.live)) ids) }
+        ensures applies { S.Count.applies steps.new ≤ S.Count.applies steps.old + length self.old.live }
+        ensures looks { S.Count.looks steps.new ≤ S.Count.looks steps.old + 8 * weights (entry ∷ entries_of (without name.now self.old.live)) self.old.base }
+    {
+        let alloc = *self.versions.allocator();
+        let at = place_of(&self.entries, name.as_str());
+        let confirmed = finish(
+            alloc,
+            &self.base,
+            &self.entries,
+            at,
+            &self.versions,
+            &entry,
+            steps,
+        )?;
+        self.base = confirmed.base;
+        drop(self.entries.shift_remove_index(at));
+        self.versions = confirmed.rest.versions;
+        Ok(confirmed.rest.ids)
+    }
+
+    /// Drops a live layer, and applies each layer above it again, from the version below it on.
+    pub fn revert(&mut self, name: &Words, steps: &mut S::Count) -> Result<Ids, NoMemory>
+        requires { spec.is_live self.old.live name.now ≡ true }
+        ensures ok { OnOk result (self.new ≡ reverted name.now self.old) }
+        ensures err { OnErr result (self.new ≡ self.old) }
+        ensures changed { IfOk result (λ ids. AreChanged (fold_entries (entries_of (below name.now self.old.live)) self.old.base) (entries_of (from_on name.now self.old.live)) (entries_of (above name.now self.old.live)) ids) }
+        ensures exact { OnOk result (S.Count.applies steps.new ≡ counted (length (above name.now self.old.live)) (S.Count.applies steps.old)) }
+        ensures applies { S.Count.applies steps.new ≤ S.Count.applies steps.old + length (above name.now self.old.live) }
+        ensures looks { S.Count.looks steps.new ≤ S.Count.looks steps.old + 8 * weights (entries_of (above name.now self.old.live)) (fold_entries (entries_of (below name.now self.old.live)) self.old.base) }
+    {
+        let alloc = *self.versions.allocator();
+        let at = place_of(&self.entries, name.as_str());
+        let rebuilt = revert(alloc, &self.base, &self.entries, at, &self.versions, steps)?;
+        drop(self.entries.shift_remove_index(at));
+        self.versions = rebuilt.versions;
+        Ok(rebuilt.ids)
+    }
+
+    /// The base with each live layer applied to it, in order of start; takes no memory.
+    pub fn view(&self) -> &S
+        ensures { S.records result.now ≡ view_of self.now }
+    {
+        newest(&self.base, &self.versions)
+    }
+
+    /// What is confirmed; takes no memory.
+    pub fn base(&self) -> &S
+        ensures { S.records result.now ≡ self.now.base }
+    {
+        &self.base
+    }
+
+    /// Whether a layer of the name is live; takes no memory.
+    pub fn is_live(&self, name: &str) -> bool
+        ensures { result ≡ spec.is_live self.now.live name.now }
+    {
+        is_named(&self.entries, name)
+    }
+
+    /// How many layers are live; takes no memory.
+    pub fn count(&self) -> u64
+        ensures { result ≡ length self.now.live }
+    {
+        count_of(&self.entries)
+    }
+
+    /// Equal layers, which share all records and all entries.
+    pub fn copy(&self) -> Result<Layers<S>, NoMemory>
+        ensures { IfOk result (λ copy. copy ≡ self.now) }
+    {
+        let base = self.base.version()?;
+        let entries = copy_entries(&self.entries)?;
+        let versions = copy_versions(*self.versions.allocator(), &self.versions)?;
+        Ok(Layers {
+            base,
+            entries,
+            versions,
+        })
+    }
+}

@@ -1,0 +1,10 @@
+//! A base of records and the layers over it.
+#![tactic(auto)]
+
+mod fold;
+mod ids;
+pub mod layers;
+mod names;
+mod rebuild;
+
+pub use layers::Layers;

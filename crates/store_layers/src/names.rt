@@ -1,0 +1,62 @@
+//! The layers by their names.
+ghost use Rattle.std.specs.Prelude.{◌≡◌, ◌++◌, [], ◌∷◌, true, false, length, IfOk, OnOk, OnErr};
+ghost use Rattle.store_layers.specs.Layered.{is_live};
+ghost use Rattle.store_layers.specs.Versions.{layers_of, IsPlaceOf};
+
+use crate::fold::Entries;
+use gql_plain::{NoMemory, Words};
+use std::rc::Rc;
+use store_model::Entry;
+use store_source::RecordSource;
+use store_update::Changed;
+
+/// Whether a layer has the name; takes no memory.
+pub(crate) fn is_named(entries: &Entries, name: &str) -> bool
+    ensures { result ≡ is_live (layers_of entries.now.entries) name.now }
+{
+    entries.contains_key(name)
+}
+
+/// How many layers there are; takes no memory.
+pub(crate) fn count_of(entries: &Entries) -> u64
+    ensures { result ≡ length (layers_of entries.now.entries) }
+{
+    entries.len() as u64
+}
+
+/// The place of the layer of a live name; takes no memory.
+pub(crate) fn place_of(entries: &Entries, name: &str) -> usize
+    requires { is_live (layers_of entries.now.entries) name.now ≡ true }
+    ensures { IsPlaceOf name.now (layers_of entries.now.entries) result }
+{
+    entries.get_index_of(name).unwrap()
+}
+
+/// Puts a layer under a name that is not live, and its version, to the end.
+pub(crate) fn put_layer<S: RecordSource>(
+    entries: &mut Entries,
+    versions: &mut Vec<Changed<S>>,
+    name: Words,
+    entry: Entry,
+    version: Changed<S>,
+) -> Result<(), NoMemory>
+    requires { is_live (layers_of entries.old.entries) name ≡ false }
+    ensures layers { OnOk result (layers_of entries.new.entries ≡ layers_of entries.old.entries ++ (name, entry) ∷ []) }
+    ensures versions { OnOk result (versions.new.items ≡ versions.old.items ++ version ∷ []) }
+    ensures same_layers { OnErr result (layers_of entries.new.entries ≡ layers_of entries.old.entries) }
+    ensures same_versions { OnErr result (versions.new.items ≡ versions.old.items) }
+{
+    let entry = Rc::new(*versions.allocator(), entry)?;
+    entries.reserve(1)?;
+    versions.push(version)?;
+    drop(entries.insert(name.into_string(), entry).unwrap());
+    Ok(())
+}
+
+/// Equal layers, which share their entries.
+pub(crate) fn copy_entries(entries: &Entries) -> Result<Entries, NoMemory>
+    ensures { IfOk result (λ copy. layers_of copy.entries ≡ layers_of entries.now.entries) }
+{
+    let copy = entries.clone()?;
+    Ok(copy)
+}
