@@ -154,7 +154,8 @@ const FOUND: &str = "Q;Q Query Query 2 Query/\n\
 #[test]
 fn operations_and_fragments_are_found(rt: HostRuntime) -> Result<(), Fail> {
     let alloc = rt.alloc();
-    let first = "fragment B on Any@argumentDefinitions(x:{type:\"Int\"},y:{type:\"Int\",defaultValue:1}){...A}";
+    let first =
+        "fragment B on Any@argumentDefinitions(x:{type:\"Int\"},y:{type:\"Int\",defaultValue:1}){...A}";
     let second = "query Q($of:Int!,$no:Int){pick(of:$of)any{...B}}fragment A on Named{name} \
         subscription A{on}";
     for row in FOUND.lines() {
