@@ -1,0 +1,6 @@
+pub mod Cases
+pub mod Looks
+pub mod Merges
+pub mod Puts
+pub mod Sets
+pub mod Steps

@@ -1,0 +1,12 @@
+use Rattle.std.proofs.Common.{arith}
+use Rattle.store_model.specs.Entries.{asked_by_page}
+use Rattle.store_conn.proofs.Looks.{within_bound}
+use Rattle.store_conn.proofs.page.put_page.Goals as goal
+
+pub returns-clause-looks : goal.returns-clause-looks
+returns-clause-looks g c =
+    within_bound _ _ 5 (asked_by_page c.args.handle.now (g.S.RecordSource.records c.args.source)) (omega arith) (omega (arith, c.changes_of_page.ensures.looks, c.put_all.ensures.looks))
+
+pub returns-in_err-changes-clause-looks : goal.returns-in_err-changes-clause-looks
+returns-in_err-changes-clause-looks g c =
+    within_bound _ _ 5 (asked_by_page c.args.handle.now (g.S.RecordSource.records c.args.source)) (omega arith) (omega (arith, c.changes_of_page.ensures.looks))
