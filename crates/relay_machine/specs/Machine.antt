@@ -4,8 +4,9 @@ use Rattle.std.specs.List.{filter}
 use Rattle.gql_ast.specs.Value.{Val}
 use Rattle.gql_ast.specs.declared.document.Document.{Document}
 use Rattle.gql_ast.specs.declared.place.Placed.{Placed}
+use Rattle.plan_expand.specs.Answers as expansions
 use Rattle.plan_ir.specs.Expansion as plans
-use Rattle.plan_ir.specs.Expansion.{operation_named, project_of, variable_trees}
+use Rattle.plan_ir.specs.Expansion.{operation_named, variable_trees}
 use Rattle.relay_dirs.specs.Locals.{Local, locals_of}
 use Rattle.relay_machine.specs.Printed.{event_line, read_line, refusal_line}
 use Rattle.relay_machine.specs.Refusals.{Refusal, not_json, event_shape, update_shape, line_too_long, unknown_operation, unknown_fragment, unknown_handle, handle_taken, unknown_layer, layer_taken, unknown_type, variables, payload, too_many, not_yet, Limited, handles, layers, most}
@@ -45,7 +46,7 @@ abbrev pub definitions_in : Project → List DefinitionAt
 definitions_in p = all_definitions p.defs (trees_of p.documents)
 
 abbrev pub documents_of : Project → plans.Project
-documents_of p = project_of p.defs (λ n. no_place) (definitions_in p)
+documents_of p = expansions.project p.defs p.documents
 
 -- a live handle: its operation, and the values of the operation's variables
 pub record Handle : Type 0 where

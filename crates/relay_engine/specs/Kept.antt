@@ -1,0 +1,33 @@
+-- What an engine keeps (this project's own).
+use Rattle.std.specs.Prelude.{ℕ, List, []}
+use Rattle.gql_ast.specs.declared.document.Document.{Document}
+use Rattle.gql_ast.specs.declared.place.Placed.{Placed}
+use Rattle.schema_tables.specs.Types.{Text, Defs}
+use Rattle.schema_types.specs.Environments.{Values}
+use Rattle.store_layers.specs.Layered.{Layered}
+use Rattle.store_model.specs.Records.{no_records}
+
+-- a live handle: the name of its operation, the operation's root type, and the values of its variables
+pub record HandleKept : Type 0 where
+  pub name : Text
+  pub operation : Text
+  pub root : Text
+  pub values : Values
+
+-- the project, how many released operations are kept at most, the base with the live layers, and the live handles in order of start
+pub record Kept : Type 0 where
+  pub defs : Defs
+  pub documents : List (Placed Document)
+  pub buffer : ℕ
+  pub layers : Layered
+  pub handles : List HandleKept
+
+-- nothing is confirmed, and nothing is live
+abbrev pub begun : Defs × List (Placed Document) → (buffer : ℕ) → Kept
+begun project buffer = record {
+  defs = project.0;
+  documents = project.1;
+  buffer = buffer;
+  layers = record { base = no_records; live = [] };
+  handles = [];
+}

@@ -1,0 +1,18 @@
+-- What the parts of a step say, as the machine sees it.
+use Rattle.std.specs.Prelude.{◌≡◌, List}
+use Rattle.gql_ast.specs.declared.document.Document.{Document}
+use Rattle.gql_ast.specs.declared.place.Placed.{Placed}
+use Rattle.relay_engine.specs.declared.said.Told.{Told}
+use Rattle.relay_engine.specs.declared.said.Told.TheVariants.{Facts, Fault}
+use Rattle.relay_machine.specs.Machine.{Project}
+use Rattle.schema_tables.specs.Types.{Defs}
+use Rattle.store_model.specs.Verdicts.{Verdict, content, refusal}
+
+-- the schema and the documents are those of the project
+pub record IsProject (parts : Defs × List (Placed Document)) (p : Project) : Type 0 where
+  pub schema : parts.0 ≡ p.defs
+  pub documents : parts.1 ≡ p.documents
+
+abbrev pub verdict_told : Told → Verdict
+verdict_told (Facts said) = content said
+verdict_told (Fault fault) = refusal fault

@@ -1,0 +1,10 @@
+//! The lines that the program prints: the answers of events, of reads and of refusals, and the fault of
+//! a project (this project's own). A line is compact JSON with its keys in byte order, here without
+//! its line end.
+#![tactic(auto)]
+
+pub mod lines;
+pub mod refusal;
+
+pub use lines::{event_line, fault_line, read_line, refusal_line};
+pub use refusal::{Limited, Refusal};
