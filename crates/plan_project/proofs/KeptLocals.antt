@@ -3,7 +3,7 @@ use Rattle.std.proofs.Common.{◌≡◌, Bool, true, false, cond, List, [], ◌�
 use Rattle.gql_ast.specs.declared.variable.VariableDef.{VariableDef}
 use Rattle.gql_plain.specs.Order.{member_at}
 use Rattle.plan_ir.specs.Substitution.{default_named}
-use Rattle.plan_project.specs.Lookups.{AreLocals}
+use Rattle.plan_read.specs.Laws.{AreLocals}
 use Rattle.plan_text.proofs.Evaluating.{found-with_pair}
 use Rattle.relay_dirs.specs.Locals.{locals_of}
 use Rattle.relay_dirs.specs.View.{local_view}

@@ -15,13 +15,15 @@ use Rattle.plan_ir.specs.declared.expanded.Expanded.{Expanded}
 use Rattle.plan_ir.specs.declared.form.Form.TheVariants as F
 use Rattle.plan_project.proofs.Accepting.{fragment_is_on_composite, have_names, operation_has_root, operation_merges}
 use Rattle.plan_project.proofs.KeptLocals.{are_locals}
+use Rattle.plan_project.proofs.KeptReaders.{reads_fragment, reads_operation}
 use Rattle.plan_project.proofs.Looking.{found_in_documents, in_document, takes_all, takes_whole}
 use Rattle.plan_project.proofs.Trees.{AnyPlaces, HasPlaces, fragment_places, locals_define, operation_places}
 use Rattle.plan_project.specs.Filling.{IsFragmentOf, IsNamedOperation, IsOperationOf, Takes, first_of, fragment_under, operation_under, trees_in}
-use Rattle.plan_project.specs.Lookups.{Agree, HasFragments, HasOperations, IsOperation, KeepsFragment, Normalizes, fragment_in, operation_in}
+use Rattle.plan_project.specs.Lookups.{Agree, HasFragments, HasOperations, IsFragment, IsOperation, Normalizes, fragment_in, operation_in}
 use Rattle.plan_project.specs.Projects.{IsAcceptedProject}
 use Rattle.plan_project.specs.declared.operations.Compiled.{Compiled}
 use Rattle.plan_project.specs.declared.operations.CompiledFragment.{CompiledFragment}
+use Rattle.plan_read.specs.Plans.{reader_in}
 use Rattle.relay_dirs.specs.Locals.{locals_of}
 use Rattle.relay_dirs.specs.View.{local_view}
 use Rattle.relay_model.specs.Readings.{no_place}
@@ -57,14 +59,15 @@ module _ (defs : Defs) (ps : List (Placed Document)) (a : IsAcceptedProject defs
   -- what is made of the expansion of the operation of a name
   pub operation_planned : (n : Text) (e : Expanded) (c : Compiled) → Some e ≡ option_map (λ (w : Whole). w.expanded) (whole_in defs ps F.Operation n)
       → c.name ≡ n → e.kind ≡ Some c.kind → c.root ≡ e.root → c.types ≡ e.root ∷ [] → c.variables ≡ e.variables
-      → IsWellFormed defs c.normal.value.steps → MeansTheSame defs e c.normal.value.steps → IsNamedOperation defs ps n c
-  operation_planned n e c whole name kind at_root types variables formed means = on (operation_in defs ps n) refl whole
+      → IsWellFormed defs c.normal.value.steps → MeansTheSame defs e c.normal.value.steps → Some c.reader.value.steps ≡ reader_in defs ps F.Operation n → IsNamedOperation defs ps n c
+  operation_planned n e c whole name kind at_root types variables formed means planned = on (operation_in defs ps n) refl whole
     where
       on : (x : Option OperationAt) → operation_in defs ps n ≡ x → Some e ≡ option_map (λ (w : Whole). w.expanded) (option_map (whole_operation (project defs ps)) x) → IsNamedOperation defs ps n c
       on None d w = absurd cc
       on (Some o) d w =
           let same : e ≡ (whole_operation (project defs ps) o).expanded = cc w in
           let is_root : c.root ≡ name_or (root defs o.kind) = at_root ∙ ap (λ (x : Expanded). x.root) same in
+          let typed : c.types ≡ c.root ∷ [] = types ∙ ap (λ (r : Text). r ∷ []) (sym at_root) in
           let of_kind : Some c.kind ≡ Some o.kind = sym kind ∙ ap (λ (x : Expanded). x.kind) same in
           record {
             at = o;
@@ -75,10 +78,11 @@ module _ (defs : Defs) (ps : List (Placed Document)) (a : IsAcceptedProject defs
                 kind = cc of_kind;
                 root = is_root;
                 rooted = operation_has_root defs ps a n o d ∙ ap Some (sym is_root);
-                types = types ∙ ap (λ (r : Text). r ∷ []) (sym at_root);
+                types = typed;
                 variables = variables ∙ ap (λ (x : Expanded). x.variables) same;
               };
               normalizes = normalizes n o d c is_root formed (subst (λ (x : Expanded). MeansTheSame defs x c.normal.value.steps) same means);
+              reads = reads_operation defs ps a n o c d is_root typed planned;
             };
           }
 
@@ -109,28 +113,33 @@ module _ (defs : Defs) (ps : List (Placed Document)) (a : IsAcceptedProject defs
 
   -- ---- fragments
 
-  fragment_kept : (n : Text) (f : Fragment) (g : FragmentAt) (c : CompiledFragment) → fragment_in defs ps n ≡ Some g → HasPlaces defs f g → IsFragmentOf defs n f c → KeepsFragment defs n g c
+  fragment_kept : (n : Text) (f : Fragment) (g : FragmentAt) (c : CompiledFragment) → fragment_in defs ps n ≡ Some g → HasPlaces defs f g → IsFragmentOf defs ps n f c → IsFragment defs ps n g c
   fragment_kept n f g c e p k =
       let on : c.on ≡ g.on.name = k.on ∙ sym (ap (λ (x : FragmentAt). x.on.name) p.1) in
       let composite : is_composite defs c.on ≡ true = ap (is_composite defs) on ∙ fragment_is_on_composite defs ps a n g e in
       let locals : map local_view c.locals ≡ locals_of g.directives =
       k.locals ∙ sym (locals_define (p.0 + 4) f.directives) ∙ sym (ap (λ (x : FragmentAt). locals_of x.directives) p.1) in
+      let types : c.types ≡ possible defs c.on =
+      k.types ∙ (λ i. cond (is_composite defs (sym k.on i)) (possible defs (sym k.on i)) []) ∙ ap (λ b. cond b (possible defs c.on) []) composite in
       record {
-        name = k.name;
-        on = on;
-        composite = composite;
-        types = k.types ∙ (λ i. cond (is_composite defs (sym k.on i)) (possible defs (sym k.on i)) []) ∙ ap (λ b. cond b (possible defs c.on) []) composite;
-        locals = locals;
-        bare = k.bare;
-        scopes = are_locals g c.locals locals;
+        keeps = record {
+          name = k.name;
+          on = on;
+          composite = composite;
+          types = types;
+          locals = locals;
+          bare = k.bare;
+          scopes = are_locals g c.locals locals;
+        };
+        reads = reads_fragment defs ps a n g c e (types ∙ ap (possible defs) on) k.planned;
       }
 
   -- the table of the fragments that are found first
-  fragments_kept : (find : Text → Option CompiledFragment) → ((n : Text) → Agree (IsFragmentOf defs n) (first_of (fragment_under n) (trees_in ps)) (find n)) → HasFragments defs ps find
+  fragments_kept : (find : Text → Option CompiledFragment) → ((n : Text) → Agree (IsFragmentOf defs ps n) (first_of (fragment_under n) (trees_in ps)) (find n)) → HasFragments defs ps find
   fragments_kept find h n = on (first_of (fragment_under n) (trees_in ps)) (fragment_in defs ps n) (find n) (fragment_places defs ps n) (h n) refl
     where
-      on : (x : Option Fragment) (g : Option FragmentAt) (c : Option CompiledFragment) → Agree (HasPlaces defs) x g → Agree (IsFragmentOf defs n) x c → fragment_in defs ps n ≡ g
-          → Agree (KeepsFragment defs n) g c
+      on : (x : Option Fragment) (g : Option FragmentAt) (c : Option CompiledFragment) → Agree (HasPlaces defs) x g → Agree (IsFragmentOf defs ps n) x c → fragment_in defs ps n ≡ g
+          → Agree (IsFragment defs ps n) g c
       on None None None p k e = tt
       on None None (Some c) p k e = absurd k
       on None (Some g) c p k e = absurd p
@@ -140,9 +149,9 @@ module _ (defs : Defs) (ps : List (Placed Document)) (a : IsAcceptedProject defs
 
   -- the table of all documents
   pub fragments_filled : (xs : List (Placed Document)) (i : ℕ) (old new : Text → Option CompiledFragment) → xs ≡ ps → length xs ≤ i → ((n : Text) → old n ≡ None)
-      → Takes (IsFragmentOf defs) (λ n. first_of (in_document (fragment_under n)) (take i xs)) old new → HasFragments defs ps new
+      → Takes (IsFragmentOf defs ps) (λ n. first_of (in_document (fragment_under n)) (take i xs)) old new → HasFragments defs ps new
   fragments_filled xs i old new e behind empty t =
-      let all = takes_all (IsFragmentOf defs) (λ n. in_document (fragment_under n)) xs i old new behind t in
+      let all = takes_all (IsFragmentOf defs ps) (λ n. in_document (fragment_under n)) xs i old new behind t in
       fragments_kept new (λ n.
-      subst (λ x. Agree (IsFragmentOf defs n) x (new n)) (ap (first_of (in_document (fragment_under n))) e ∙ found_in_documents (fragment_under n) ps)
-      (takes_whole (IsFragmentOf defs) (λ m. first_of (in_document (fragment_under m)) xs) old new empty all n))
+      subst (λ x. Agree (IsFragmentOf defs ps n) x (new n)) (ap (first_of (in_document (fragment_under n))) e ∙ found_in_documents (fragment_under n) ps)
+      (takes_whole (IsFragmentOf defs ps) (λ m. first_of (in_document (fragment_under m)) xs) old new empty all n))

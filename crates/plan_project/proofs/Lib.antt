@@ -9,6 +9,7 @@ pub mod Putting
 pub mod Trees
 pub mod Accepting
 pub mod KeptLocals
+pub mod KeptReaders
 pub mod KeptPlans
 pub mod LeastLaws
 pub mod NotingSteps

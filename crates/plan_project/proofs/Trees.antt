@@ -11,7 +11,7 @@ use Rattle.gql_ast.specs.declared.place.Placed.{Placed}
 use Rattle.gql_graph.specs.Rules.{each}
 use Rattle.plan_ir.specs.Expansion.{is_named, operation_named}
 use Rattle.plan_project.proofs.Looking.{found-append, found-at, found_in_documents, in_document, or_else-assoc}
-use Rattle.plan_project.specs.Filling.{AreOperations, first_of, fragment_under, operation_by, operation_under, or_else, trees_in}
+use Rattle.plan_project.specs.Filling.{AreFragments, AreOperations, first_of, fragment_under, operation_by, operation_under, or_else, trees_in}
 use Rattle.plan_project.specs.Lookups.{Agree, fragment_in, operation_in}
 use Rattle.relay_dirs.specs.Locals.{as_list, defines_locals, local_at, local_in_tree, local_of, locals_of, locals_of_tree}
 use Rattle.schema_tables.specs.Types.{Text, Defs}
@@ -95,6 +95,14 @@ fragment_next defs n from (D.Fragment f) more o h = on (bytes_eq f.name n)
 pub fragment_places : (defs : Defs) (ps : List (Placed Document)) (n : Text) → Agree (HasPlaces defs) (first_of (fragment_under n) (trees_in ps)) (fragment_in defs ps n)
 fragment_places defs ps n =
     in_documents defs (HasPlaces defs) (fragment_under n) (λ (ds : List DefinitionAt). fragment_named (fragments ds) n) tt (fragment_next defs n) 0 ps
+
+-- the fragments of a document are some of all
+pub fragments_there : (defs : Defs) (ps xs : List (Placed Document)) (i : ℕ) (p : Placed Document) → xs ≡ ps → i < length xs → p ≡ get_or xs i p
+    → AreFragments defs ps (λ n. first_of (fragment_under n) p.tree.definitions)
+fragments_there defs ps xs i p e within is n s =
+    agree_there (HasPlaces defs) (first_of (fragment_under n) (trees_in ps)) (fragment_in defs ps n) (fragment_places defs ps n)
+    (ap is_some (sym (found_in_documents (fragment_under n) ps)) ∙ ap (λ ys. is_some (first_of (in_document (fragment_under n)) ys)) (sym e)
+    ∙ found-at (in_document (fragment_under n)) xs i p within is s)
 
 -- ---- local variables
 

@@ -6,9 +6,11 @@ use Rattle.gql_ast.specs.declared.document.Document.{Document}
 use Rattle.gql_ast.specs.declared.document.Fragment.{Fragment}
 use Rattle.gql_ast.specs.declared.document.Operation.{Operation}
 use Rattle.gql_ast.specs.declared.place.Placed.{Placed}
-use Rattle.plan_project.specs.Lookups.{Agree, IsOperation, operation_in}
+use Rattle.plan_ir.specs.declared.form.Form.TheVariants as F
+use Rattle.plan_project.specs.Lookups.{Agree, IsOperation, fragment_in, operation_in}
 use Rattle.plan_project.specs.declared.operations.Compiled.{Compiled}
 use Rattle.plan_project.specs.declared.operations.CompiledFragment.{CompiledFragment}
+use Rattle.plan_read.specs.Plans.{reader_in}
 use Rattle.relay_dirs.specs.Locals.{locals_of_tree}
 use Rattle.relay_dirs.specs.View.{directives_of_all, local_view}
 use Rattle.schema_tables.specs.Types.{Text, Defs, is_composite, possible}
@@ -55,13 +57,14 @@ pub record IsNamedOperation (defs : Defs) (ps : List (Placed Document)) (n : Tex
 abbrev pub IsOperationOf : Defs → List (Placed Document) → Text → Operation → Compiled → Type 0
 IsOperationOf defs ps n tree c = IsNamedOperation defs ps n c
 
--- what is kept of the tree of a fragment
-pub record IsFragmentOf (defs : Defs) (n : Text) (tree : Fragment) (c : CompiledFragment) : Type 0 where
+-- what is kept of the tree of a fragment, and its plan
+pub record IsFragmentOf (defs : Defs) (ps : List (Placed Document)) (n : Text) (tree : Fragment) (c : CompiledFragment) : Type 0 where
   pub name : c.name ≡ n
   pub on : c.on ≡ tree.on
   pub types : c.types ≡ cond (is_composite defs tree.on) (possible defs tree.on) []
   pub locals : map local_view c.locals ≡ locals_of_tree tree.directives
   pub bare : directives_of_all c.locals ≡ []
+  pub planned : Some c.reader.value.steps ≡ reader_in defs ps F.Fragment n
 
 -- a table that had what belongs to `o` under a name has now what belongs to the first of `o` and of what is found by the name
 abbrev pub Takes : {X Y : Type 0} → (Text → X → Y → Type 0) → (find : Text → Option X) → (old new : Text → Option Y) → Type 0
@@ -70,3 +73,6 @@ Takes {X = X} P find old new = (n : Text) (o : Option X) → Agree (P n) o (old 
 -- what is found here, the documents have
 abbrev pub AreOperations : Defs → List (Placed Document) → (Text → Option Operation) → Type 0
 AreOperations defs ps find = (n : Text) → is_some (find n) ≡ true → is_some (operation_in defs ps n) ≡ true
+
+abbrev pub AreFragments : Defs → List (Placed Document) → (Text → Option Fragment) → Type 0
+AreFragments defs ps find = (n : Text) → is_some (find n) ≡ true → is_some (fragment_in defs ps n) ≡ true

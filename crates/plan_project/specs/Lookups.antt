@@ -1,17 +1,17 @@
--- What a project is looked up for: its operations and its fragments, by their names, each operation with its plan.
-use Rattle.std.specs.Prelude.{◌≡◌, true, List, [], ◌∷◌, map, Option, Some, None, is_some}
+-- What a project is looked up for: its operations and its fragments, by their names, with their plans.
+use Rattle.std.specs.Prelude.{◌≡◌, true, List, [], ◌∷◌, map, Option, Some, None}
 use Rattle.gql_ast.specs.declared.document.Document.{Document}
 use Rattle.gql_ast.specs.declared.place.Placed.{Placed}
-use Rattle.gql_plain.specs.Order.{member_at}
 use Rattle.plan_expand.specs.Answers.{definitions_in, project}
 use Rattle.plan_ir.specs.Expansion.{name_or, operation_named, variable_trees}
 use Rattle.plan_ir.specs.NormalMeaning.{is_formed, plan_says}
-use Rattle.plan_ir.specs.Substitution.{default_named}
+use Rattle.plan_ir.specs.ReaderMeaning.{plan_reads}
 use Rattle.plan_project.specs.declared.operations.Compiled.{Compiled}
 use Rattle.plan_project.specs.declared.operations.CompiledFragment.{CompiledFragment}
+use Rattle.plan_read.specs.Laws.{AreLocals}
 use Rattle.relay_dirs.specs.Locals.{locals_of}
 use Rattle.relay_dirs.specs.View.{directives_of_all, local_view}
-use Rattle.relay_model.specs.Readings.{no_place}
+use Rattle.relay_model.specs.Readings.{fragment_reads, no_place, operation_reads, with_marked}
 use Rattle.relay_model.specs.Responses.{operation_says}
 use Rattle.schema_tables.specs.Types as schema
 use Rattle.schema_tables.specs.Types.{Text, Defs}
@@ -19,6 +19,7 @@ use Rattle.schema_types.specs.Environments.{Values, environment}
 use Rattle.schema_types.specs.NameRules.{fragment_named, fragments, operations}
 use Rattle.schema_types.specs.Sites.{FragmentAt, OperationAt}
 use Rattle.serde_json.specs.Data as J
+use Rattle.store_model.specs.Walks.{Slots, type_of_record}
 
 -- both are there and this holds of them, or neither is there
 abbrev pub Agree : {X Y : Type 0} → (X → Y → Type 0) → Option X → Option Y → Type 0
@@ -53,10 +54,6 @@ pub record Normalizes (defs : Defs) (ps : List (Placed Document)) (o : Operation
 abbrev pub fragment_in : Defs → List (Placed Document) → Text → Option FragmentAt
 fragment_in defs ps n = fragment_named (fragments (definitions_in defs ps)) n
 
--- values of all local variables of a fragment, and of no other
-abbrev pub AreLocals : FragmentAt → Values → Type 0
-AreLocals f scope = (n : Text) → is_some (member_at scope n) ≡ is_some (default_named (locals_of f.directives) n)
-
 -- what is kept of a fragment: its type, the object types that a value of it may have, and its local variables in written order. Whatever
 -- values they are given, an environment of them has them and no others
 pub record KeepsFragment (defs : Defs) (n : Text) (f : FragmentAt) (c : CompiledFragment) : Type 0 where
@@ -68,15 +65,33 @@ pub record KeepsFragment (defs : Defs) (n : Text) (f : FragmentAt) (c : Compiled
   pub bare : directives_of_all c.locals ≡ []
   pub scopes : (given : Values) → AreLocals f (environment c.locals given)
 
+-- ---- reading
+
+-- for every map, owner and id, under each environment, the plan reads what the operation along the documents shows in the masked form
+pub record ReadsOperation (defs : Defs) (ps : List (Placed Document)) (o : OperationAt) (c : Compiled) : Type 0 where
+  pub reads : (own : Values) (owner : Text) (m : Slots) (id : Text)
+      → plan_reads (type_of_record c.root) owner m own c.reader.value.steps c.types id ≡ operation_reads (project defs ps) o own owner m id
+
+-- the same of a fragment, under an operation of any root type, for all values of its local variables
+pub record ReadsFragment (defs : Defs) (ps : List (Placed Document)) (f : FragmentAt) (c : CompiledFragment) : Type 0 where
+  pub reads : (operation_type : Text) (own scope : Values) → AreLocals f scope → (owner : Text) (m : Slots) (id : Text)
+      → plan_reads (type_of_record operation_type) owner m (with_marked own scope) c.reader.value.steps c.types id
+      ≡ fragment_reads (project defs ps) f operation_type own scope owner m id
+
 -- ---- all of it
 
 pub record IsOperation (defs : Defs) (ps : List (Placed Document)) (n : Text) (o : OperationAt) (c : Compiled) : Type 0 where
   pub keeps : KeepsOperation defs n o c
   pub normalizes : Normalizes defs ps o c
+  pub reads : ReadsOperation defs ps o c
+
+pub record IsFragment (defs : Defs) (ps : List (Placed Document)) (n : Text) (f : FragmentAt) (c : CompiledFragment) : Type 0 where
+  pub keeps : KeepsFragment defs n f c
+  pub reads : ReadsFragment defs ps f c
 
 -- by each name this is found, where the documents have it
 abbrev pub HasOperations : Defs → List (Placed Document) → (Text → Option Compiled) → Type 0
 HasOperations defs ps find = (n : Text) → Agree (IsOperation defs ps n) (operation_in defs ps n) (find n)
 
 abbrev pub HasFragments : Defs → List (Placed Document) → (Text → Option CompiledFragment) → Type 0
-HasFragments defs ps find = (n : Text) → Agree (KeepsFragment defs n) (fragment_in defs ps n) (find n)
+HasFragments defs ps find = (n : Text) → Agree (IsFragment defs ps n) (fragment_in defs ps n) (find n)

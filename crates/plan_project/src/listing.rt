@@ -2,7 +2,7 @@
 ghost use Rattle.std.specs.Prelude.{◌≡◌, Some, None, cond, bytes_eq, IfOk, OnOk};
 ghost use Rattle.std.specs.BTreeMap.{get_by_text};
 ghost use Rattle.gql_graph.specs.Texts.{Text};
-ghost use Rattle.plan_project.specs.Filling.{AreOperations, IsFragmentOf, IsOperationOf, Takes, first_of, fragment_under, operation_under, or_else};
+ghost use Rattle.plan_project.specs.Filling.{AreFragments, AreOperations, IsFragmentOf, IsOperationOf, Takes, first_of, fragment_under, operation_under, or_else};
 ghost use Rattle.plan_project.specs.Lookups.{HasFragments, HasOperations};
 ghost use Rattle.plan_project.specs.Planning.{CanPlan};
 ghost use Rattle.plan_project.specs.Projects.{IsAcceptedProject};
@@ -116,7 +116,7 @@ fn fragments_of(
     'documents: for document in planner.expander.documents.as_slice() {
         put_fragments(
             alloc,
-            planner.expander.schema,
+            planner,
             &mut fragments,
             document.tree.definitions.as_slice(),
         )?;
@@ -127,15 +127,17 @@ fn fragments_of(
 /// Puts the fragments among definitions, each unless there is one of its name.
 fn put_fragments(
     alloc: Global,
-    schema: &Schema,
+    planner: &Planner<'_>,
     fragments: &mut BTreeMap<String, CompiledFragment>,
     definitions: &[Definition],
 ) -> Result<(), NoMemory>
-    ensures { OnOk result (Takes (IsFragmentOf schema.now) (λ n. first_of (fragment_under n) definitions.now)
-        (get_by_text fragments.old) (get_by_text fragments.new)) }
+    requires ready { CanPlan planner.now }
+    requires there { AreFragments planner.now.expander.schema.now planner.now.expander.documents.now (λ n. first_of (fragment_under n) definitions.now) }
+    ensures { OnOk result (Takes (IsFragmentOf planner.now.expander.schema.now planner.now.expander.documents.now)
+        (λ n. first_of (fragment_under n) definitions.now) (get_by_text fragments.old) (get_by_text fragments.new)) }
 {
     'definitions: for definition in definitions {
-        put_fragment(alloc, schema, fragments, definition)?;
+        put_fragment(alloc, planner, fragments, definition)?;
     }
     Ok(())
 }
@@ -143,17 +145,19 @@ fn put_fragments(
 /// Puts a definition, where it is a fragment, unless there is one of its name.
 fn put_fragment(
     alloc: Global,
-    schema: &Schema,
+    planner: &Planner<'_>,
     fragments: &mut BTreeMap<String, CompiledFragment>,
     definition: &Definition,
 ) -> Result<(), NoMemory>
-    ensures { OnOk result (Takes (IsFragmentOf schema.now) (λ n. fragment_under n definition.now)
-        (get_by_text fragments.old) (get_by_text fragments.new)) }
+    requires ready { CanPlan planner.now }
+    requires there { AreFragments planner.now.expander.schema.now planner.now.expander.documents.now (λ n. fragment_under n definition.now) }
+    ensures { OnOk result (Takes (IsFragmentOf planner.now.expander.schema.now planner.now.expander.documents.now)
+        (λ n. fragment_under n definition.now) (get_by_text fragments.old) (get_by_text fragments.new)) }
 {
     match definition {
         Definition::Operation(_) => Ok(()),
         Definition::Fragment(fragment) => {
-            let compiled = compile_fragment(alloc, schema, fragment)?;
+            let compiled = compile_fragment(alloc, planner, fragment)?;
             put_new(alloc, fragments, fragment.name.as_str(), compiled)?;
             Ok(())
         }

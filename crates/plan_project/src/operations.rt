@@ -4,7 +4,7 @@ ghost use Rattle.plan_expand.specs.Answers.{whole_in};
 ghost use Rattle.plan_ir.specs.Expansion.{Whole};
 ghost use Rattle.plan_ir.specs.declared.form.Form.TheVariants as form;
 ghost use Rattle.plan_project.specs.Filling.{IsFragmentOf, IsNamedOperation};
-ghost use Rattle.plan_project.specs.Lookups.{operation_in};
+ghost use Rattle.plan_project.specs.Lookups.{fragment_in, operation_in};
 ghost use Rattle.plan_project.specs.Planning.{CanPlan};
 ghost use Rattle.schema_tables.specs.Types as types;
 
@@ -14,14 +14,14 @@ use gql_ast::{Fragment, Kind, VariableDefs};
 use gql_plain::{Ids, Name, NoMemory};
 use plan_build::normal::one_type;
 use plan_build::normal_plan;
-use plan_ir::{Expanded, NormalPlan};
+use plan_ir::{Expanded, Form, NormalPlan, ReaderPlan};
 use relay_dirs::locals;
 use schema_types::Schema;
 use std::alloc::Global;
 use std::rc::Rc;
 
-/// What is kept of an operation, with the plan by which its responses are normalized. The plan may
-/// have other owners.
+/// What is kept of an operation, with the plan by which its responses are normalized and the plan by
+/// which it is read. Both may have other owners.
 #[derive(Debug, Drop)]
 pub struct Compiled {
     pub name: Name,
@@ -33,9 +33,11 @@ pub struct Compiled {
     /// In written order.
     pub variables: VariableDefs,
     pub normal: Rc<NormalPlan>,
+    /// The plan by which it is read.
+    pub reader: Rc<ReaderPlan>,
 }
 
-/// What is kept of a fragment.
+/// What is kept of a fragment, with the plan by which it is read. The plan may have other owners.
 #[derive(Debug, Drop)]
 pub struct CompiledFragment {
     pub name: Name,
@@ -45,9 +47,11 @@ pub struct CompiledFragment {
     pub locals: VariableDefs,
     /// The object types that a value of its type may have.
     pub types: Ids,
+    /// The plan by which it is read.
+    pub reader: Rc<ReaderPlan>,
 }
 
-/// The operation of a name with its plan.
+/// The operation of a name with its plans.
 pub(crate) fn compile_operation(
     alloc: Global,
     planner: &Planner<'_>,
@@ -63,7 +67,7 @@ pub(crate) fn compile_operation(
     }
 }
 
-/// The operation of a name with its plan, by what it becomes where all spreads are followed.
+/// The operation of a name with its plans, by what it becomes where all spreads are followed.
 fn plan_operation(
     alloc: Global,
     planner: &Planner<'_>,
@@ -80,6 +84,7 @@ fn plan_operation(
     };
     let plan = normal_plan(alloc, planner.expander.schema, &expanded)?;
     let normal = Rc::new(alloc, plan)?;
+    let reader = planner.reader(alloc, name, Form::Operation)?;
     let types = one_type(alloc, &expanded.root)?;
     Ok(Compiled {
         name: name.copy()?,
@@ -88,24 +93,29 @@ fn plan_operation(
         types,
         variables: expanded.variables,
         normal,
+        reader,
     })
 }
 
-/// What is kept of a fragment.
+/// What is kept of a fragment of the project, with its plan.
 pub(crate) fn compile_fragment(
     alloc: Global,
-    schema: &Schema,
+    planner: &Planner<'_>,
     fragment: &Fragment,
 ) -> Result<CompiledFragment, NoMemory>
-    ensures { IfOk result (IsFragmentOf schema.now fragment.now.name fragment.now) }
+    requires ready { CanPlan planner.now }
+    requires there { is_some (fragment_in planner.now.expander.schema.now planner.now.expander.documents.now fragment.now.name) ≡ true }
+    ensures { IfOk result (IsFragmentOf planner.now.expander.schema.now planner.now.expander.documents.now fragment.now.name fragment.now) }
 {
     let locals = locals(alloc, fragment)?;
-    let types = types_of(alloc, schema, fragment.on.as_str())?;
+    let types = types_of(alloc, planner.expander.schema, fragment.on.as_str())?;
+    let reader = planner.reader(alloc, &fragment.name, Form::Fragment)?;
     Ok(CompiledFragment {
         name: fragment.name.copy()?,
         on: fragment.on.copy()?,
         locals,
         types,
+        reader,
     })
 }
 

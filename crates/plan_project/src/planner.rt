@@ -1,20 +1,25 @@
 //! What stands ready to plan the operations and the fragments of an accepted project.
-ghost use Rattle.std.specs.Prelude.{◌≡◌, IfOk};
+ghost use Rattle.std.specs.Prelude.{◌≡◌, Some, is_some, true, IfOk};
 ghost use Rattle.plan_project.specs.Planning.{CanPlan};
 ghost use Rattle.plan_project.specs.Projects.{IsAcceptedProject};
+ghost use Rattle.plan_read.specs.Plans.{reader_in};
 
 use doc_sites::definitions_at;
 use gql_ast::Documents;
-use gql_plain::NoMemory;
+use gql_plain::{Name, NoMemory};
 use plan_expand::Expander;
+use plan_ir::{Form, ReaderPlan};
+use plan_read::Readers;
 use schema_types::Schema;
 use std::alloc::Global;
+use std::rc::Rc;
 
 /// What stands ready to plan the operations and the fragments of a project. It is made once a
 /// project; one plan then costs what it makes.
 #[derive(Drop)]
 pub(crate) struct Planner<'a> {
     pub(crate) expander: Expander<'a>,
+    readers: Readers<'a>,
 }
 
 impl<'a> Planner<'a> {
@@ -31,6 +36,24 @@ impl<'a> Planner<'a> {
     {
         let definitions = definitions_at(alloc, schema, documents)?;
         let expander = Expander::new(alloc, schema, documents, &definitions)?;
-        Ok(Planner { expander })
+        let readers = Readers::new(alloc, schema, documents, &definitions)?;
+        Ok(Planner { expander, readers })
+    }
+
+    /// The plan by which the operation or the fragment of a name is read. Its only error is that
+    /// memory is lacking.
+    pub(crate) fn reader(
+        &self,
+        alloc: Global,
+        name: &Name,
+        form: Form,
+    ) -> Result<Rc<ReaderPlan>, NoMemory>
+        requires ready { CanPlan self.now }
+        requires there { is_some (reader_in self.now.expander.schema.now self.now.expander.documents.now form name.now) ≡ true }
+        ensures { IfOk result (λ reader. Some reader.value.steps ≡ reader_in self.now.expander.schema.now self.now.expander.documents.now form name.now) }
+    {
+        let plan = self.readers.plan(alloc, name, form)?;
+        let reader = Rc::new(alloc, plan)?;
+        Ok(reader)
     }
 }

@@ -1,6 +1,6 @@
 //! Accepted projects.
 ghost use Rattle.std.specs.Prelude.{◌≡◌, option_copied, IfOk};
-ghost use Rattle.plan_project.specs.Lookups.{Agree, KeepsFragment, KeepsOperation, Normalizes, fragment_in, operation_in};
+ghost use Rattle.plan_project.specs.Lookups.{Agree, KeepsFragment, KeepsOperation, Normalizes, ReadsFragment, ReadsOperation, fragment_in, operation_in};
 ghost use Rattle.plan_project.specs.Projects.{IsAcceptedProject};
 
 use crate::listing::tables_of;
@@ -78,18 +78,21 @@ impl Project {
         &self.documents
     }
 
-    /// The operation of a name, with the plan by which responses to it are normalized; `None` where the
-    /// documents have none.
+    /// The operation of a name, with the plan by which responses to it are normalized and the plan by
+    /// which it is read; `None` where the documents have none.
     pub fn operation(&self, name: &str) -> Option<&Compiled>
         ensures kept { Agree (KeepsOperation self.now.0 name.now) (operation_in self.now.0 self.now.1 name.now) (option_copied result) }
         ensures normal { Agree (Normalizes self.now.0 self.now.1) (operation_in self.now.0 self.now.1 name.now) (option_copied result) }
+        ensures reads { Agree (ReadsOperation self.now.0 self.now.1) (operation_in self.now.0 self.now.1 name.now) (option_copied result) }
     {
         self.operations.get(name)
     }
 
-    /// The fragment of a name, with its local variables; `None` where the documents have none.
+    /// The fragment of a name, with its local variables and the plan by which it is read; `None` where
+    /// the documents have none.
     pub fn fragment(&self, name: &str) -> Option<&CompiledFragment>
         ensures kept { Agree (KeepsFragment self.now.0 name.now) (fragment_in self.now.0 self.now.1 name.now) (option_copied result) }
+        ensures reads { Agree (ReadsFragment self.now.0 self.now.1) (fragment_in self.now.0 self.now.1 name.now) (option_copied result) }
     {
         self.fragments.get(name)
     }

@@ -7,5 +7,5 @@ use Rattle.plan_project.specs.Filling.{IsFragmentOf, Takes, first_of, fragment_u
 
 abbrev pub invariant-documents : goal.invariant-documents
 invariant-documents l =
-    Takes (IsFragmentOf l.planner.expander.schema.now) (λ n. first_of (in_document (fragment_under n)) (take l.document-index l.document-items))
+    Takes (IsFragmentOf l.planner.expander.schema.now l.planner.expander.documents.now) (λ n. first_of (in_document (fragment_under n)) (take l.document-index l.document-items))
     (get_by_text l.initial.fragments) (get_by_text l.fragments)

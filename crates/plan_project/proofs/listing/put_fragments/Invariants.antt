@@ -6,5 +6,5 @@ use Rattle.plan_project.specs.Filling.{IsFragmentOf, Takes, first_of, fragment_u
 
 abbrev pub invariant-definitions : goal.invariant-definitions
 invariant-definitions l =
-    Takes (IsFragmentOf l.schema) (λ n. first_of (fragment_under n) (take l.definition-index l.definitions))
+    Takes (IsFragmentOf l.planner.expander.schema.now l.planner.expander.documents.now) (λ n. first_of (fragment_under n) (take l.definition-index l.definitions))
     (get_by_text l.initial.fragments) (get_by_text l.fragments)
