@@ -1,5 +1,5 @@
 -- The ids that are noted while an entry is applied, and those of them whose slot differs in the end.
-use Rattle.std.proofs.Common.{◌≡◌, ℕ, ◌+◌, ◌≤◌, Bool, true, false, true≢false, ◌||◌, ◌&&◌, not, cond, List, [], ◌∷◌, ◌++◌, length-append, Option, Some, None, refl, sym, ap, ◌∙◌, arith, nat_cmp, bytes_eq}
+use Rattle.std.proofs.Common.{◌≡◌, ℕ, ◌+◌, ◌≤◌, Bool, true, false, true≢false, ◌||◌, ◌&&◌, not, cond, List, [], ◌∷◌, ◌++◌, length, length-append, append-nil, append_assoc, Option, Some, None, refl, sym, ap, ◌∙◌, subst, arith, nat_cmp, bytes_eq}
 use Rattle.std.proofs.lemmas.List.Folds.{list_any-append}
 use Rattle.std.proofs.lemmas.Map.Text.{is_eq-slice_cmp}
 use Rattle.std.proofs.lemmas.Map.Views.{any-filter_same}
@@ -13,10 +13,13 @@ use Rattle.gql_plain.proofs.SortedTexts.{has_text-Decides}
 use Rattle.gql_plain.specs.Order.{AreSortedOf, has_text}
 use Rattle.store_record.specs.Keys.{Text}
 use Rattle.store_record.specs.declared.record.Slot.{Slot}
-use Rattle.store_model.specs.Records.{Records, slot_at, with_slot}
+use Rattle.store_record.specs.declared.record.Slot.TheVariants.{Alive}
+use Rattle.store_model.specs.Records.{Records, slot_at, with_slot, with_record}
+use Rattle.store_conn.specs.Changes.{put_all}
+use Rattle.store_conn.specs.declared.changes.Change.{Change}
 use Rattle.store_update.proofs.Equal.{slot_eq-Decides}
 use Rattle.store_update.specs.Slots.{slot_eq, with_change}
-use Rattle.store_update.specs.Touched.{AreTouched, AreNoted, noted, is_changed}
+use Rattle.store_update.specs.Touched.{AreTouched, HaveStayed, AreNoted, noted, ids_put, is_changed}
 
 -- ---- steps
 
@@ -57,6 +60,26 @@ noted_more n k l m r xs ys zs first then = record {
 
 pub noted_within : (n k : ℕ) (l m : Records) (xs ys : List Text) → n ≤ k → AreNoted n l m xs ys → AreNoted k l m xs ys
 noted_within n k l m xs ys le h = record { few = omega (arith, h.few); kept = h.kept }
+
+pub stayed_more : (l m r : Records) (xs ys zs : List Text) → HaveStayed l m xs ys → HaveStayed m r ys zs → HaveStayed l r xs zs
+stayed_more l m r xs ys zs first then = λ q h. ((first q (then q h).0).0, (then q h).1 ∙ (first q (then q h).0).1)
+
+-- ---- records that are put
+
+puts_noted : (cs : List Change) (m : Records) (ids : List Text) → AreNoted (length cs) m (put_all cs m) ids (ids ++ ids_put cs)
+puts_noted [] m ids = subst (λ xs. AreNoted 0 m m ids xs) (sym (append-nil ids)) (noted_none m ids)
+puts_noted (c ∷ cs) m ids =
+    let after = with_record c.id c.row m in
+    let rest = puts_noted cs after (ids ++ c.id ∷ []) in
+    let all = noted_more 1 (length cs) m after (put_all cs after) ids (ids ++ c.id ∷ []) ((ids ++ c.id ∷ []) ++ ids_put cs) (noted_put c.id (Alive c.row) m ids) rest in
+    subst (λ xs. AreNoted (length (c ∷ cs)) m (put_all cs after) ids xs) (append_assoc ids (c.id ∷ []) (ids_put cs))
+    (noted_within (1 + length cs) (length (c ∷ cs)) _ _ _ _ (omega arith) all)
+
+pub noted_puts : (cs : List Change) (n : ℕ) (m after : Records) (ids new : List Text) → after ≡ put_all cs m → new ≡ ids ++ ids_put cs → length cs ≤ n
+    → AreNoted n m after ids new
+noted_puts cs n m after ids new made grown few =
+    subst (λ r. AreNoted n m r ids new) (sym made)
+    (subst (λ xs. AreNoted n m (put_all cs m) ids xs) (sym grown) (noted_within (length cs) n _ _ _ _ few (puts_noted cs m ids)))
 
 -- ---- those whose slot differs
 

@@ -1,12 +1,15 @@
--- One step of going over rows, commands and ids.
-use Rattle.std.proofs.Common.{◌≡◌, ℕ, zero, suc, ◌+◌, ◌<◌, Bool, true, true≢false, false, cond, ◌&&◌, List, [], ◌∷◌, ◌++◌, length, get_or, drop, take, refl, sym, ap, ◌∙◌, subst}
+-- One step of going over rows, pages, commands and ids.
+use Rattle.std.proofs.Common.{◌≡◌, ℕ, ◌+◌, ◌<◌, Bool, true, false, cond, List, [], ◌∷◌, ◌++◌, length, get_or, drop, take, refl, sym, ap, ◌∙◌}
 use Rattle.std.proofs.lemmas.List.{drop_more, take_more}
-use Rattle.std.specs.List.{filter, list_all}
+use Rattle.std.specs.List.{filter}
+use Rattle.store_model.specs.Entries.{asked_by_page, asked_by_pages, asked_by_command, asked_by_commands, merge_all, number_asked, weights}
 use Rattle.store_model.specs.FactRows.{with_row, put_rows}
+use Rattle.store_model.specs.Merge.{merge}
 use Rattle.store_model.specs.Records.{Records}
 use Rattle.store_model.specs.Updates.{act, act_all}
 use Rattle.store_model.specs.declared.command.Command.{Command}
 use Rattle.store_model.specs.declared.facts.FactRow.{FactRow}
+use Rattle.store_model.specs.declared.facts.HandleFact.{HandleFact}
 
 module _ {X : Type 0} where
   next_of : (xs : List X) (i : ℕ) (x : X) → i < length xs → x ≡ get_or xs i x → drop i xs ≡ x ∷ drop (i + 1) xs
@@ -16,9 +19,20 @@ pub rows_next : (rows : List FactRow) (i : ℕ) (row : FactRow) (m : Records) �
     → put_rows (drop (i + 1) rows) (with_row row m) ≡ put_rows (drop i rows) m
 rows_next rows i row m within is = sym (ap (λ rs. put_rows rs m) (next_of rows i row within is))
 
+module _ (handles : List HandleFact) (i : ℕ) (h : HandleFact) (m : Records) (within : i < length handles) (is : h ≡ get_or handles i h) where
+  pub merges_next : merge_all (drop (i + 1) handles) (merge h m) ≡ merge_all (drop i handles) m
+  merges_next = sym (ap (λ hs. merge_all hs m) (next_of handles i h within is))
+
+  pub pages_weigh : weights (asked_by_pages (drop i handles) m) ≡ 1 + number_asked (asked_by_page h m) + weights (asked_by_pages (drop (i + 1) handles) (merge h m))
+  pages_weigh = ap (λ hs. weights (asked_by_pages hs m)) (next_of handles i h within is)
+
 pub acts_next : (commands : List Command) (i : ℕ) (c : Command) (m : Records) → i < length commands → c ≡ get_or commands i c
     → act_all (drop (i + 1) commands) (act c m) ≡ act_all (drop i commands) m
 acts_next commands i c m within is = sym (ap (λ cs. act_all cs m) (next_of commands i c within is))
+
+pub acts_weigh : (commands : List Command) (i : ℕ) (c : Command) (m : Records) → i < length commands → c ≡ get_or commands i c
+    → weights (asked_by_commands (drop i commands) m) ≡ 1 + number_asked (asked_by_command c m) + weights (asked_by_commands (drop (i + 1) commands) (act c m))
+acts_weigh commands i c m within is = ap (λ cs. weights (asked_by_commands cs m)) (next_of commands i c within is)
 
 module _ {X : Type 0} (p : X → Bool) where
   filtered : (xs ys : List X) → filter p (xs ++ ys) ≡ filter p xs ++ filter p ys
@@ -29,20 +43,3 @@ module _ {X : Type 0} (p : X → Bool) where
 
   pub filter_next : (xs : List X) (i : ℕ) (x : X) → i < length xs → x ≡ get_or xs i x → filter p (take i xs) ++ filter p (x ∷ []) ≡ filter p (take (i + 1) xs)
   filter_next xs i x within is = sym (ap (filter p) (take_more xs i x within ∙ ap (λ y. take i xs ++ y ∷ []) (sym is)) ∙ filtered (take i xs) (x ∷ []))
-
-  first_and : (a b : Bool) → (a && b) ≡ true → a ≡ true
-  first_and true b h = refl
-  first_and false b h = h
-
-  second_and : (a b : Bool) → (a && b) ≡ true → b ≡ true
-  second_and true b h = h
-  second_and false b h = absurd (true≢false (sym h))
-
-  dropped : (xs : List X) (i : ℕ) → list_all p xs ≡ true → list_all p (drop i xs) ≡ true
-  dropped [] zero h = refl
-  dropped [] (suc i) h = refl
-  dropped (x ∷ xs) zero h = h
-  dropped (x ∷ xs) (suc i) h = dropped xs i (second_and (p x) (list_all p xs) h)
-
-  pub all_at : (xs : List X) (i : ℕ) (x : X) → i < length xs → x ≡ get_or xs i x → list_all p xs ≡ true → p x ≡ true
-  all_at xs i x within is h = first_and (p x) (list_all p (drop (i + 1) xs)) (subst (λ ys. list_all p ys ≡ true) (next_of xs i x within is) (dropped xs i h))

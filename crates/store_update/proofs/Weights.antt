@@ -1,22 +1,21 @@
--- The weight of an entry that changes no connection: two for each fact and each command.
-use Rattle.std.proofs.Common.{◌≡◌, ◌+◌, ◌*◌, ◌≤◌, true, true≢false, false, Bool, ◌&&◌, List, [], ◌∷◌, ◌++◌, map, length, refl, sym, ap, arith, length-append, Ordering, Less, Equal, Greater}
+-- The weight of an entry, and what it bounds.
+use Rattle.std.proofs.Common.{◌≡◌, ◌+◌, ◌*◌, ◌≤◌, List, [], ◌∷◌, ◌++◌, map, length, refl, ap, ◌∙◌, arith, length-append, Ordering, Less, Equal, Greater}
 use Rattle.std.specs.FinMap.Entries.{by_order, put as put_entry}
-use Rattle.std.specs.List.{list_all}
+use Rattle.std.specs.Ordering.{match_ordering}
+use Rattle.gql_plain.specs.Order.{sorted_texts, with_text}
 use Rattle.gql_plain.specs.declared.plain.Plain.TheVariants.{Text as Words}
 use Rattle.store_record.specs.Keys.{Text}
 use Rattle.store_record.specs.declared.field.Field.{Field}
 use Rattle.store_record.specs.declared.field.Field.TheVariants.{Leaf}
-use Rattle.store_model.specs.Entries.{Looks, asked_by_facts, asked_by_pages, asked_by_command, asked_by_commands, weights, weight, merge_all, number_asked, of_ids}
+use Rattle.store_model.specs.Entries.{Looks, asked_by_facts, asked_by_page, asked_by_pages, asked_by_commands, asked_of_parent, weights, weight, merge_all, not_among, number_asked, of_ids}
 use Rattle.store_model.specs.FactOrder.{text_cmp}
 use Rattle.store_model.specs.FactRows.{fact_at, facts_of, facts_of_row, fields_of}
-use Rattle.store_model.specs.Records.{Records, put, typename}
-use Rattle.store_model.specs.Updates.{act}
-use Rattle.store_model.specs.declared.command.Command.{Command}
-use Rattle.store_model.specs.declared.command.Command.TheVariants as C
+use Rattle.store_model.specs.Records.{Records, live, put, typename}
 use Rattle.store_model.specs.declared.entry.Entry.{Entry}
 use Rattle.store_model.specs.declared.facts.Fact.{Fact}
 use Rattle.store_model.specs.declared.facts.FactRow.{FactRow}
-use Rattle.store_update.specs.Touched.{is_of_record, IsWithoutEdges}
+use Rattle.store_model.specs.declared.facts.HandleFact.{HandleFact}
+use Rattle.store_update.specs.Touched.{most_looks, most_noted}
 
 weights-append : (xs ys : List Looks) → weights (xs ++ ys) ≡ weights xs + weights ys
 weights-append [] ys = omega arith
@@ -28,42 +27,50 @@ facts_weigh (f ∷ fs) =
     let one : number_asked (of_ids (f.id ∷ [])) ≡ 1 = refl in
     omega (arith, one, facts_weigh fs)
 
-command_weighs : (c : Command) (m : Records) → is_of_record c ≡ true → number_asked (asked_by_command c m) ≡ 1
-command_weighs (C.Set id field args value) m h = refl
-command_weighs (C.Add id field args by) m h = refl
-command_weighs (C.Link id field args to) m h = refl
-command_weighs (C.Links id field args to) m h = refl
-command_weighs (C.Create id of) m h = refl
-command_weighs (C.Delete id) m h = refl
-command_weighs (C.AppendNode e) m h = absurd (true≢false (sym h))
-command_weighs (C.PrependNode e) m h = absurd (true≢false (sym h))
-command_weighs (C.DeleteEdge e) m h = absurd (true≢false (sym h))
+-- the weight of an entry is that of its facts, its pages and its commands
+pub weight_is : (e : Entry) (m facts merged : Records) → facts ≡ put e.facts.facts m → merged ≡ merge_all e.facts.handles facts
+    → weight e m ≡ 2 * length e.facts.facts + weights (asked_by_pages e.facts.handles facts) + weights (asked_by_commands e.commands merged)
+weight_is e m facts merged made put_on =
+    let first = asked_by_facts e.facts.facts in
+    let pages = asked_by_pages e.facts.handles in
+    let commands = asked_by_commands e.commands in
+    let before = put e.facts.facts m in
+    let whole : weights (first ++ pages before ++ commands (merge_all e.facts.handles before)) ≡ weights (first ++ pages before) + weights (commands (merge_all e.facts.handles before)) =
+    weights-append (first ++ pages before) (commands (merge_all e.facts.handles before)) in
+    let same_pages : weights (pages facts) ≡ weights (pages before) = ap (λ m. weights (pages m)) made in
+    let same_commands : weights (commands merged) ≡ weights (commands (merge_all e.facts.handles before)) = ap (λ m. weights (commands m)) (put_on ∙ ap (merge_all e.facts.handles) made) in
+    omega (arith, whole, weights-append first (pages before), facts_weigh e.facts.facts, same_pages, same_commands)
 
-first_and : (a b : Bool) → (a && b) ≡ true → a ≡ true
-first_and true b h = refl
-first_and false b h = h
+-- ---- what a page and a command look at and put is within what they ask for
 
-second_and : (a b : Bool) → (a && b) ≡ true → b ≡ true
-second_and true b h = h
-second_and false b h = absurd (true≢false (sym h))
+with_some : (text : Text) (texts : List Text) → 1 ≤ length (with_text text texts)
+with_some text [] = omega arith
+with_some text (first ∷ rest) = at (text_cmp text first)
+  where
+    at : (o : Ordering) → 1 ≤ length (match_ordering o (text ∷ first ∷ rest) (first ∷ rest) (first ∷ with_text text rest))
+    at Less = omega arith
+    at Equal = omega arith
+    at Greater = omega arith
 
-commands_weigh : (cs : List Command) (m : Records) → list_all is_of_record cs ≡ true → weights (asked_by_commands cs m) ≡ 2 * length cs
-commands_weigh [] m h = refl
-commands_weigh (c ∷ cs) m h =
-    let one = command_weighs c m (first_and (is_of_record c) (list_all is_of_record cs) h) in
-    omega (arith, one, commands_weigh cs (act c m) (second_and (is_of_record c) (list_all is_of_record cs) h))
+some_asked : (id : Text) (ids edges : List Text) → 1 ≤ length edges + length (sorted_texts (not_among edges (id ∷ ids)))
+some_asked id ids [] = omega (arith, with_some id (sorted_texts (not_among [] ids)))
+some_asked id ids (e ∷ edges) = omega arith
 
-pub weight_is : (e : Entry) (m : Records) → IsWithoutEdges e → weight e m ≡ 2 * length e.facts.facts + 2 * length e.commands
-weight_is e m without =
-    let facts = asked_by_facts e.facts.facts in
-    let put_facts = put e.facts.facts m in
-    let pages = asked_by_pages e.facts.handles put_facts in
-    let commands = asked_by_commands e.commands (merge_all e.facts.handles put_facts) in
-    let none : weights pages ≡ 0 = ap (λ hs. weights (asked_by_pages hs put_facts)) without.pages in
-    let a : weights facts ≡ 2 * length e.facts.facts = facts_weigh e.facts.facts in
-    let b : weights commands ≡ 2 * length e.commands = commands_weigh e.commands (merge_all e.facts.handles put_facts) without.commands in
-    let whole : weights (facts ++ pages ++ commands) ≡ weights (facts ++ pages) + weights commands = weights-append (facts ++ pages) commands in
-    omega (arith, whole, weights-append facts pages, none, a, b)
+module _ (h : HandleFact) (m : Records) where
+  page_asks : 1 ≤ number_asked (asked_by_page h m)
+  page_asks = some_asked h.parent (asked_of_parent h (live h.parent m) m).ids (asked_of_parent h (live h.parent m) m).edges
+
+  pub page_looks : 5 + length (asked_by_page h m).edges ≤ most_looks (asked_by_page h m)
+  page_looks = omega (arith, page_asks)
+
+  pub page_notes : 3 + length (asked_by_page h m).edges ≤ most_noted (asked_by_page h m)
+  page_notes = omega (arith, page_asks)
+
+pub command_looks : (asked : Looks) → 2 + length asked.edges ≤ most_looks asked
+command_looks asked = omega arith
+
+pub command_notes : (asked : Looks) → 2 ≤ most_noted asked
+command_notes asked = omega arith
 
 -- ---- each row has a fact
 

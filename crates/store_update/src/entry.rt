@@ -4,9 +4,12 @@ ghost use Rattle.std.specs.List.{filter};
 ghost use Rattle.gql_plain.specs.Counted.{next_count};
 ghost use Rattle.gql_plain.specs.Order.{AreSortedOf};
 ghost use Rattle.store_model.specs.Entries as entries;
-ghost use Rattle.store_update.specs.Touched.{AreTouched, IsWithoutEdges, AreNoted, is_changed};
+ghost use Rattle.store_update.specs.Touched.{AreTouched, AreNoted, is_changed};
 
-use crate::draft::{Draft, act_all, put_facts};
+use crate::commands::act_all;
+use crate::draft::Draft;
+use crate::facts::put_facts;
+use crate::pages::put_pages;
 use crate::slot::are_equal;
 use gql_plain::{Id, Ids, NoMemory, Steps};
 use store_model::Entry;
@@ -19,17 +22,18 @@ pub struct Changed<S: RecordSource> {
     pub touched: Ids,
 }
 
-/// Applies an entry to a map, which stays as it is: puts the facts, and then the commands act in
-/// their order. The entry has no pages and no commands of edges.
+/// Applies an entry to a map, which stays as it is: puts the facts, then merges the pages in their
+/// order, and then the commands act in theirs.
 ///
-/// The facts of one id take one look and at most one new record, and so does each command. What is
-/// there already gives no new record. Each id that had a new record is looked up twice more.
+/// The facts of one id take one look and at most one new record, and so does each command on a
+/// record. What is there already gives no new record. A page and a command on edges look once at each
+/// edge that they ask for, and put the connection, its new edges and its page information. Each id
+/// that had a new record is looked up twice more.
 pub fn apply<S: RecordSource>(
     source: &S,
     entry: &Entry,
     steps: &mut S::Count,
 ) -> Result<Changed<S>, NoMemory>
-    requires { IsWithoutEdges entry.now }
     ensures records { IfOk result (λ changed. S.records changed.source ≡ entries.apply entry.now (S.records source.now)) }
     ensures touched { IfOk result (λ changed. AreTouched (S.records source.now) (S.records changed.source) changed.touched) }
     ensures applies { S.Count.applies steps.new ≡ next_count (S.Count.applies steps.old) }
@@ -48,21 +52,21 @@ pub fn apply<S: RecordSource>(
     })
 }
 
-/// A version of a map with the facts put and after the commands.
+/// A version of a map with the facts put, the pages merged, and after the commands.
 fn draft_of<S: RecordSource>(
     source: &S,
     entry: &Entry,
     steps: &mut S::Count,
 ) -> Result<Draft<S>, NoMemory>
-    requires { IsWithoutEdges entry.now }
     ensures records { IfOk result (λ d. S.records d.source ≡ entries.apply entry.now (S.records source.now)) }
-    ensures changed { IfOk result (λ d. AreNoted (length entry.now.facts.facts + length entry.now.commands) (S.records source.now) (S.records d.source) [] d.changed.items) }
-    ensures looks { S.Count.looks steps.new ≤ S.Count.looks steps.old + (length entry.now.facts.facts + length entry.now.commands) }
+    ensures changed { IfOk result (λ d. AreNoted (2 * entries.weight entry.now (S.records source.now)) (S.records source.now) (S.records d.source) [] d.changed.items) }
+    ensures looks { S.Count.looks steps.new ≤ S.Count.looks steps.old + 4 * entries.weight entry.now (S.records source.now) }
     ensures applies { S.Count.applies steps.new ≡ S.Count.applies steps.old }
 {
     let alloc = *entry.commands.items.allocator();
     let put = put_facts(alloc, source, &entry.facts.facts, steps)?;
-    let acted = act_all(alloc, put, entry.commands.as_slice(), steps)?;
+    let merged = put_pages(alloc, put, entry.facts.handles.as_slice(), steps)?;
+    let acted = act_all(alloc, merged, entry.commands.as_slice(), steps)?;
     Ok(acted)
 }
 

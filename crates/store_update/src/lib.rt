@@ -2,8 +2,11 @@
 #![tactic(auto)]
 
 mod command;
+mod commands;
 mod draft;
 pub mod entry;
+mod facts;
+mod pages;
 mod row;
 mod slot;
 

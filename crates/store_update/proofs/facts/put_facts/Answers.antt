@@ -4,7 +4,7 @@ use Rattle.store_model.specs.FactRows.{put_rows}
 use Rattle.store_model.specs.Records.{put}
 use Rattle.store_update.proofs.Noted.{noted_within}
 use Rattle.store_update.proofs.Weights.{rows_few}
-use Rattle.store_update.proofs.draft.put_facts.Goals as goal
+use Rattle.store_update.proofs.facts.put_facts.Goals as goal
 use Rattle.store_update.specs.Touched.{AreNoted}
 
 pub returns-clause-records : goal.returns-clause-records

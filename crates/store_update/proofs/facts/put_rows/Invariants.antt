@@ -1,6 +1,6 @@
 use Rattle.std.proofs.Common.{◌≡◌, ◌+◌, ◌≤◌, drop}
 use Rattle.store_model.specs.FactRows.{put_rows}
-use Rattle.store_update.proofs.draft.put_rows.Given as goal
+use Rattle.store_update.proofs.facts.put_rows.Given as goal
 use Rattle.store_update.specs.Touched.{AreNoted}
 
 abbrev pub invariant-rows : goal.invariant-rows

@@ -2,7 +2,7 @@ use Rattle.std.proofs.Common.{ap, ◌∙◌, option_copied}
 use Rattle.std.specs.FinMap as finmap
 use Rattle.store_update.proofs.Changes.{row_is}
 use Rattle.store_update.proofs.Noted.{noted_change}
-use Rattle.store_update.proofs.draft.put_row.Goals as goal
+use Rattle.store_update.proofs.facts.put_row.Goals as goal
 
 pub returns-clause-records : goal.returns-clause-records
 returns-clause-records g c =

@@ -2,7 +2,7 @@ use Rattle.std.proofs.Common.{◌+◌, drop, ap, ◌∙◌, arith}
 use Rattle.store_model.specs.FactRows.{put_rows}
 use Rattle.store_update.proofs.Noted.{noted_more}
 use Rattle.store_update.proofs.Walks.{rows_next}
-use Rattle.store_update.proofs.draft.put_rows.Goals as goal
+use Rattle.store_update.proofs.facts.put_rows.Goals as goal
 
 pub rows-preserved : goal.rows-preserved
 rows-preserved g c =
