@@ -1,1 +1,3 @@
-
+mod LocalScopes
+mod MarkedPairs
+mod Meanings

@@ -13,13 +13,18 @@ ghost use Rattle.store_model.specs.Walks.{reading};
 ghost use Rattle.store_read.specs.Reading.{reading_of, slots};
 ghost use Rattle.store_record.specs.Keys as keys;
 
+use crate::environments::with_locals;
 use crate::handles::Held;
+use crate::said::operation_held;
 use gql_plain::{Id, NoMemory, Words};
 use plan_project::{CompiledFragment, Project};
 use schema_values::Env;
 use std::alloc::Global;
-use store_read::Snapshot;
+use store_read::{Snapshot, read};
 use store_source::RecordSource;
+
+/// The id of the record at which operations are read.
+const ROOT: &str = "client:root";
 
 /// What the operation that a handle holds shows of the root record.
 pub(crate) fn read_operation<S: RecordSource>(
@@ -35,7 +40,19 @@ pub(crate) fn read_operation<S: RecordSource>(
         → reading_of snapshot ≡ reading (operation_reads (documents_of p) h.operation h.values owner.now (slots (S.records source.now)) keys.root)) }
     ensures applies { S.Count.applies steps.new ≡ S.Count.applies steps.old }
 {
-    Err(NoMemory)
+    let compiled = operation_held(project, held);
+    let plan = compiled.reader.as_ref();
+    let root = Words::new(alloc, ROOT)?;
+    read(
+        alloc,
+        source,
+        plan,
+        &compiled.types,
+        &held.env,
+        &root,
+        owner,
+        steps,
+    )
 }
 
 /// What a fragment shows of the record at an id, under the operation that a handle holds, with these
@@ -56,5 +73,7 @@ pub(crate) fn read_fragment<S: RecordSource>(
         → reading_of snapshot ≡ reading (fragment_reads (documents_of p) f (root_type p h) h.values scope.now.values owner.now (slots (S.records source.now)) id.now)) }
     ensures applies { S.Count.applies steps.new ≡ S.Count.applies steps.old }
 {
-    Err(NoMemory)
+    let env = with_locals(alloc, &held.env, &scope.values)?;
+    let plan = fragment.reader.as_ref();
+    read(alloc, source, plan, &fragment.types, &env, id, owner, steps)
 }

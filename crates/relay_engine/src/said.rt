@@ -1,18 +1,21 @@
 //! What responses say.
-ghost use Rattle.std.specs.Prelude.{◌≡◌, true, is_some, IfOk};
-ghost use Rattle.plan_project.specs.Lookups.{operation_in};
+ghost use Rattle.std.specs.Prelude.{◌≡◌, true, is_some, IfOk, Some};
+ghost use Rattle.plan_ir.specs.NormalMeaning.{is_formed};
+ghost use Rattle.plan_project.specs.Lookups.{IsOperation, operation_in};
 ghost use Rattle.relay_engine.specs.Handles.{held_as};
 ghost use Rattle.relay_engine.specs.Parts.{IsProject, verdict_told};
 ghost use Rattle.relay_engine.specs.Stands.{KeepsHandle};
 ghost use Rattle.relay_machine.specs.Machine as machine;
+ghost use Rattle.schema_types.specs.Sites.{OperationAt};
 ghost use Rattle.serde_json.specs.View.{view};
 
 use crate::handles::Held;
 use gql_plain::NoMemory;
-use plan_project::Project;
+use plan_project::{Compiled, Project};
 use serde_json::Value;
 use std::alloc::Global;
 use store_model::{Facts, PayloadFault};
+use store_norm::{NormFault, facts};
 
 /// What a response says to the operation of a handle: its facts, or its first fault.
 #[derive(Drop)]
@@ -32,5 +35,23 @@ pub(crate) fn said_to(
     ensures { IfOk result (λ told. (p : machine.Project) (h : machine.Handle) → IsProject project.now p → KeepsHandle p (held_as h.name held.now) h
         → verdict_told told ≡ machine.said_to p h (view response.now)) }
 {
-    Err(NoMemory)
+    let compiled = operation_held(project, held);
+    match facts(alloc, compiled.normal.as_ref(), &held.env, response) {
+        Ok(said) => Ok(Told::Facts(said)),
+        Err(NormFault::Payload(fault)) => Ok(Told::Fault(fault)),
+        Err(NormFault::NoMemory) => Err(NoMemory),
+    }
+}
+
+/// The operation that a handle holds, with its plans; takes no memory.
+pub(crate) fn operation_held<'p>(project: &'p Project, held: &Held) -> &'p Compiled
+    requires { is_some (operation_in project.now.0 project.now.1 held.now.operation) ≡ true }
+    ensures formed { is_formed result.now.normal.value.steps ≡ true }
+    ensures is { (o : OperationAt) → operation_in project.now.0 project.now.1 held.now.operation ≡ Some o
+        → IsOperation project.now.0 project.now.1 held.now.operation o result.now }
+{
+    match project.operation(held.operation.as_str()) {
+        Some(compiled) => compiled,
+        None => unreachable!(),
+    }
 }

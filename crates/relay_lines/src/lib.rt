@@ -3,8 +3,14 @@
 //! its line end.
 #![tactic(auto)]
 
+mod line_writer;
 pub mod lines;
 pub mod refusal;
+mod refused;
+mod values;
 
 pub use lines::{event_line, fault_line, read_line, refusal_line};
 pub use refusal::{Limited, Refusal};
+
+#[cfg(test)]
+mod tests;

@@ -4,7 +4,9 @@ ghost use Rattle.relay_lines.specs.RefusalShown.{refusal_shown};
 ghost use Rattle.relay_machine.specs.Printed as model;
 ghost use Rattle.store_read.specs.Reading.{reading_of};
 
+use crate::line_writer::LineWriter;
 use crate::refusal::Refusal;
+use crate::refused::{bare_line, limit_line, named_line, payload_line, variable_line};
 use gql_plain::{NoMemory, Words};
 use std::alloc::Global;
 use store_read::Snapshot;
@@ -14,7 +16,10 @@ pub fn event_line(alloc: Global, name: &str, n: u64) -> Result<Words, NoMemory>
     requires { n < 2 ^ 63 }
     ensures { IfOk result (λ words. words ++ 10 ∷ [] ≡ model.event_line name.now n) }
 {
-    Err(NoMemory)
+    let mut line = LineWriter::new(alloc)?;
+    line.put_number("n", n)?;
+    line.put_text("ok", name)?;
+    line.finish()
 }
 
 /// The answer of a read: its data, whether something was missing, the number of the line, and the ids
@@ -23,7 +28,13 @@ pub fn read_line(alloc: Global, snapshot: Snapshot, n: u64) -> Result<Words, NoM
     requires { n < 2 ^ 63 }
     ensures { IfOk result (λ words. words ++ 10 ∷ [] ≡ model.read_line n (reading_of snapshot)) }
 {
-    Err(NoMemory)
+    let mut line = LineWriter::new(alloc)?;
+    line.put_plain("data", &snapshot.shown)?;
+    line.put_truth("missing", snapshot.missing)?;
+    line.put_number("n", n)?;
+    line.put_text("ok", "read")?;
+    line.put_texts("seen", &snapshot.seen)?;
+    line.finish()
 }
 
 /// The line of a refusal: its code and name, the number of the line, and its further keys.
@@ -31,7 +42,24 @@ pub fn refusal_line(alloc: Global, refusal: Refusal<'_>, n: u64) -> Result<Words
     requires { n < 2 ^ 63 }
     ensures { IfOk result (λ words. words ++ 10 ∷ [] ≡ model.refusal_line n (refusal_shown refusal.entry)) }
 {
-    Err(NoMemory)
+    match refusal {
+        Refusal::NotJson => bare_line(alloc, refusal, n),
+        Refusal::EventShape => bare_line(alloc, refusal, n),
+        Refusal::UpdateShape => bare_line(alloc, refusal, n),
+        Refusal::LineTooLong => bare_line(alloc, refusal, n),
+        Refusal::UnknownOperation(name) => named_line(alloc, refusal, n, name),
+        Refusal::UnknownFragment(name) => named_line(alloc, refusal, n, name),
+        Refusal::UnknownHandle(name) => named_line(alloc, refusal, n, name),
+        Refusal::HandleTaken(name) => named_line(alloc, refusal, n, name),
+        Refusal::UnknownLayer(name) => named_line(alloc, refusal, n, name),
+        Refusal::LayerTaken(name) => named_line(alloc, refusal, n, name),
+        Refusal::UnknownType(name) => named_line(alloc, refusal, n, name),
+        Refusal::MissingVariable(name) => variable_line(alloc, refusal, n, "Missing", name),
+        Refusal::UnfitVariable(name) => variable_line(alloc, refusal, n, "Unfit", name),
+        Refusal::Payload(fault) => payload_line(alloc, refusal, n, fault),
+        Refusal::TooMany(what) => limit_line(alloc, refusal, n, what),
+        Refusal::NotYet => bare_line(alloc, refusal, n),
+    }
 }
 
 /// The line of a project that is refused: the file at fault with the line and the column, from 1, and
@@ -45,5 +73,10 @@ pub fn fault_line(
 ) -> Result<Words, NoMemory>
     ensures { IfOk result (λ words. words ++ 10 ∷ [] ≡ model.project_fault file.now line column rule.now) }
 {
-    Err(NoMemory)
+    let mut fault = LineWriter::new(alloc)?;
+    fault.put_number("column", column as u64)?;
+    fault.put_text("file", file)?;
+    fault.put_number("line", line as u64)?;
+    fault.put_text("rule", rule)?;
+    fault.finish()
 }

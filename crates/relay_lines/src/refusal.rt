@@ -14,6 +14,28 @@ pub enum Limited {
     Layers,
 }
 
+impl Limited {
+    /// The kind, as it is printed.
+    pub fn kind(self) -> &'static str
+        ensures { result.now ≡ model.limited_name (limited_shown self) }
+    {
+        match self {
+            Limited::Handles => "handles",
+            Limited::Layers => "layers",
+        }
+    }
+
+    /// How many there may be.
+    pub fn most(self) -> u64
+        ensures { result ≡ model.most (limited_shown self) }
+    {
+        match self {
+            Limited::Handles => 10_000,
+            Limited::Layers => 1_000,
+        }
+    }
+}
+
 /// Why a line is refused.
 #[derive(Clone, Copy)]
 pub enum Refusal<'a> {
@@ -49,4 +71,54 @@ pub enum Refusal<'a> {
     TooMany(Limited),
     /// The form of the line is not taken yet.
     NotYet,
+}
+
+impl<'a> Refusal<'a> {
+    /// The code, as it is printed.
+    pub fn code(self) -> u64
+        ensures { result ≡ model.code_of (refusal_shown self.entry) }
+    {
+        match self {
+            Refusal::NotJson => 1,
+            Refusal::EventShape => 2,
+            Refusal::UpdateShape => 3,
+            Refusal::LineTooLong => 4,
+            Refusal::UnknownOperation(_) => 5,
+            Refusal::UnknownFragment(_) => 6,
+            Refusal::UnknownHandle(_) => 7,
+            Refusal::HandleTaken(_) => 8,
+            Refusal::UnknownLayer(_) => 10,
+            Refusal::LayerTaken(_) => 11,
+            Refusal::UnknownType(_) => 14,
+            Refusal::MissingVariable(_) => 15,
+            Refusal::UnfitVariable(_) => 15,
+            Refusal::Payload(_) => 16,
+            Refusal::TooMany(_) => 17,
+            Refusal::NotYet => 90,
+        }
+    }
+
+    /// The name, as it is printed.
+    pub fn name(self) -> &'static str
+        ensures { result.now ≡ model.name_of (refusal_shown self.entry) }
+    {
+        match self {
+            Refusal::NotJson => "NotJson",
+            Refusal::EventShape => "EventShape",
+            Refusal::UpdateShape => "UpdateShape",
+            Refusal::LineTooLong => "LineTooLong",
+            Refusal::UnknownOperation(_) => "UnknownOperation",
+            Refusal::UnknownFragment(_) => "UnknownFragment",
+            Refusal::UnknownHandle(_) => "UnknownHandle",
+            Refusal::HandleTaken(_) => "HandleTaken",
+            Refusal::UnknownLayer(_) => "UnknownLayer",
+            Refusal::LayerTaken(_) => "LayerTaken",
+            Refusal::UnknownType(_) => "UnknownType",
+            Refusal::MissingVariable(_) => "Variables",
+            Refusal::UnfitVariable(_) => "Variables",
+            Refusal::Payload(_) => "Payload",
+            Refusal::TooMany(_) => "TooMany",
+            Refusal::NotYet => "NotYet",
+        }
+    }
 }

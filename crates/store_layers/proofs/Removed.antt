@@ -1,14 +1,12 @@
 -- The layers around a place, and what is left where the layer there is taken out.
 use Rattle.std.proofs.Common.{◌≡◌, ℕ, suc, ◌+◌, List, ◌++◌, map, take, drop, String, Global, sym, ap, ◌∙◌, subst, arith}
 use Rattle.std.proofs.lemmas.List.{map-append, take-map, drop-map}
-use Rattle.std.specs.List.{AllByRecursion, remove}
+use Rattle.std.specs.List.{remove}
 use Rattle.std.specs.declared.rc.Rc.{Rc}
 use Rattle.store_record.specs.Keys.{Text}
 use Rattle.store_model.specs.Records.{Records}
 use Rattle.store_model.specs.declared.entry.Entry.{Entry}
-use Rattle.store_layers.proofs.Steps.{each-append, each-take, each-drop}
 use Rattle.store_layers.specs.Layered.{Layer, entries_of, below, from_on, above, without}
-use Rattle.store_layers.specs.Taken.{MayBeApplied}
 use Rattle.store_layers.specs.Versions.{Version, AreVersions, AreKept, layer_of, layers_of, entries_without, IsPlaceOf}
 
 abbrev Named : Type 0
@@ -38,13 +36,7 @@ module _ (name : Text) (named : Named) (at : ℕ) (place : IsPlaceOf name (layer
       ∙ removed layer_of named at ∙ sym place.without
 
   -- what is kept of the others
-  pub others_kept : (m : Records) (base : Records) (olds news : List Version) → AreKept base (layers_of named) olds → AreVersions m (entries_without at named) news
-      → AreKept m (layers_of (remove named at)) news
-  others_kept m base olds news kept new =
+  pub others_kept : (base : Records) (news : List Version) → AreVersions base (entries_without at named) news → AreKept base (layers_of (remove named at)) news
+  others_kept base news new =
       let same : entries_of (layers_of (remove named at)) ≡ entries_without at named = ap entries_of layers_without ∙ without_entries in
-      record {
-        versions = subst (λ es. AreVersions m es news) (sym same) new;
-        entries = subst (λ es. AllByRecursion MayBeApplied es) (sym same)
-            (each-append MayBeApplied (take at (entries_of (layers_of named))) (drop (at + 1) (entries_of (layers_of named)))
-            (each-take MayBeApplied at (entries_of (layers_of named)) kept.entries) (each-drop MayBeApplied (at + 1) (entries_of (layers_of named)) kept.entries));
-      }
+      record { versions = subst (λ es. AreVersions base es news) (sym same) new }

@@ -1,7 +1,7 @@
 -- One step of going over the layers.
 use Rattle.std.proofs.Common.{◌≡◌, ℕ, zero, suc, ◌+◌, ◌-◌, ◌≤◌, ◌<◌, List, [], ◌∷◌, ◌++◌, take, drop, get_or, length, Option, Some, is_some, true≢false, String, Global, refl, sym, ap, ◌∙◌, subst, arith, unwrap_or}
 use Rattle.std.proofs.lemmas.List.Edits.{between_more}
-use Rattle.std.specs.List.{AllByRecursion, slice_get}
+use Rattle.std.specs.List.{slice_get}
 use Rattle.std.specs.Map.{values_of}
 use Rattle.std.specs.declared.rc.Rc.{Rc}
 use Rattle.gql_plain.specs.Counted.{next_count}
@@ -32,26 +32,6 @@ pub within_more : (named : Named) (from i : ℕ) (v : Rc Entry Global) → from 
 within_more named from i v le lt is =
     between_more (entries_of (layers_of named)) from i v.value le (subst (λ n. i < n) (sym (layers_length named)) lt)
     ∙ ap (λ e. entries_within from i named ++ e ∷ []) (entry_at named i v is)
-
-module _ {X : Type 0} (P : X → Type 0) where
-  pub each_at : (xs : List X) (i : ℕ) (d : X) → i < length xs → AllByRecursion P xs → P (get_or xs i d)
-  each_at [] i d lt h = absurd (omega (arith, lt))
-  each_at (x ∷ xs) zero d lt h = h.0
-  each_at (x ∷ xs) (suc i) d lt h = each_at xs i d (omega (arith, lt)) h.1
-
-  pub each-take : (i : ℕ) (xs : List X) → AllByRecursion P xs → AllByRecursion P (take i xs)
-  each-take zero xs h = tt
-  each-take (suc i) [] h = tt
-  each-take (suc i) (x ∷ xs) h = (h.0, each-take i xs h.1)
-
-  pub each-drop : (i : ℕ) (xs : List X) → AllByRecursion P xs → AllByRecursion P (drop i xs)
-  each-drop zero xs h = h
-  each-drop (suc i) [] h = tt
-  each-drop (suc i) (x ∷ xs) h = each-drop i xs h.1
-
-  pub each-append : (xs ys : List X) → AllByRecursion P xs → AllByRecursion P ys → AllByRecursion P (xs ++ ys)
-  each-append [] ys h k = k
-  each-append (x ∷ xs) ys h k = (h.0, each-append xs ys h.1 k)
 
 -- ---- work
 

@@ -1,6 +1,5 @@
 pub mod Changed
 pub mod Layered
 pub mod LayeredCode
-pub mod Taken
 pub mod Versions
 pub mod Work

@@ -1,6 +1,6 @@
 -- The versions of the records that the layers keep.
 use Rattle.std.specs.Prelude.{◌≡◌, ℕ, ◌+◌, ◌<◌, List, [], ◌∷◌, ◌++◌, map, drop, take, length, Bool, String, string_bytes}
-use Rattle.std.specs.List.{AllByRecursion, flat_map, list_any, slice_range}
+use Rattle.std.specs.List.{flat_map, list_any, slice_range}
 use Rattle.std.specs.declared.alloc.Global.{Global}
 use Rattle.std.specs.declared.rc.Rc.{Rc}
 use Rattle.gql_plain.specs.Order.{has_text}
@@ -11,7 +11,6 @@ use Rattle.store_model.specs.declared.entry.Entry.{Entry}
 use Rattle.store_update.specs.Touched.{AreTouched}
 use Rattle.store_update.specs.declared.entry.Changed.{Changed}
 use Rattle.store_layers.specs.Layered.{Layer, entries_of, below, from_on, above, without}
-use Rattle.store_layers.specs.Taken.{MayBeApplied}
 
 -- ---- what a version holds
 
@@ -68,7 +67,6 @@ pub record IsPlaceOf (name : Text) (layers : List Layer) (at : ℕ) : Type 0 whe
   pub above : above name layers ≡ drop (at + 1) layers
   pub without : without name layers ≡ take at layers ++ drop (at + 1) layers
 
--- each live layer has its version, and an entry that may be applied
+-- each live layer has its version
 pub record AreKept (base : Records) (layers : List Layer) (kept : List Version) : Type 0 where
   pub versions : AreVersions base (entries_of layers) kept
-  pub entries : AllByRecursion MayBeApplied (entries_of layers)

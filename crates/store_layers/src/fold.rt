@@ -1,13 +1,10 @@
 //! Versions of the records, one after another.
 ghost use Rattle.std.specs.Prelude.{◌≡◌, ◌+◌, ◌*◌, ◌-◌, ◌≤◌, ◌++◌, [], ◌∷◌, length, List, IfOk, OnOk};
-ghost use Rattle.std.specs.List.{AllByRecursion};
 ghost use Rattle.gql_plain.specs.Counted.{next_count};
 ghost use Rattle.indexmap.specs.IndexMap.{index_map_len};
 ghost use Rattle.store_model.specs.Entries.{weight, fold_entries};
 ghost use Rattle.store_model.specs.declared.entry.Entry as E;
-ghost use Rattle.store_layers.specs.Layered.{entries_of};
-ghost use Rattle.store_layers.specs.Taken.{MayBeApplied};
-ghost use Rattle.store_layers.specs.Versions.{shown, newest, AreVersions, layers_of, entries_within};
+ghost use Rattle.store_layers.specs.Versions.{shown, newest, AreVersions, entries_within};
 ghost use Rattle.store_layers.specs.Work.{counted, weights};
 
 use gql_plain::NoMemory;
@@ -38,7 +35,6 @@ pub(crate) fn put_version<S: RecordSource>(
     entry: &Entry,
     steps: &mut S::Count,
 ) -> Result<(), NoMemory>
-    requires { MayBeApplied entry.now }
     ensures versions { OnOk result ((before : List E.Entry) → AreVersions (S.records base.now) before (shown S.records versions.old.items)
         → AreVersions (S.records base.now) (before ++ entry.now ∷ []) (shown S.records versions.new.items)) }
     ensures applies { S.Count.applies steps.new ≡ next_count (S.Count.applies steps.old) }
@@ -61,7 +57,6 @@ pub(crate) fn put_versions<S: RecordSource>(
 ) -> Result<(), NoMemory>
     requires order { from ≤ end }
     requires within { end ≤ index_map_len entries.now }
-    requires may { AllByRecursion MayBeApplied (entries_of (layers_of entries.now.entries)) }
     ensures versions { OnOk result ((before : List E.Entry) → AreVersions (S.records base.now) before (shown S.records versions.old.items)
         → AreVersions (S.records base.now) (before ++ entries_within from end entries.now.entries) (shown S.records versions.new.items)) }
     ensures exact { OnOk result (S.Count.applies steps.new ≡ counted (end - from) (S.Count.applies steps.old)) }

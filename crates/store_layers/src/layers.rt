@@ -6,7 +6,6 @@ ghost use Rattle.store_model.specs.Records.{no_records};
 ghost use Rattle.store_layers.specs.Changed.{AreChanged};
 ghost use Rattle.store_layers.specs.Layered as spec;
 ghost use Rattle.store_layers.specs.Layered.{entries_of, view_of, below, from_on, above, without, committed, begun, finished, reverted};
-ghost use Rattle.store_layers.specs.Taken.{MayBeApplied};
 ghost use Rattle.store_layers.specs.Work.{counted, weights};
 
 use crate::fold::{Entries, copy_versions, newest};
@@ -65,7 +64,6 @@ impl<S: RecordSource> Layers<S> {
 
     /// Applies an entry to the base, and each layer again.
     pub fn commit(&mut self, entry: Entry, steps: &mut S::Count) -> Result<Ids, NoMemory>
-        requires { MayBeApplied entry }
         ensures ok { OnOk result (self.new ≡ committed entry self.old) }
         ensures err { OnErr result (self.new ≡ self.old) }
         ensures changed { IfOk result (λ ids. AreChanged self.old.base (entries_of self.old.live) (entry ∷ entries_of self.old.live) ids) }
@@ -94,7 +92,6 @@ impl<S: RecordSource> Layers<S> {
         steps: &mut S::Count,
     ) -> Result<Ids, NoMemory>
         requires name { spec.is_live self.old.live name ≡ false }
-        requires may { MayBeApplied entry }
         ensures ok { OnOk result (self.new ≡ begun name entry self.old) }
         ensures err { OnErr result (self.new ≡ self.old) }
         ensures changed { IfOk result (λ ids. AreChanged (view_of self.old) [] (entry ∷ []) ids) }
@@ -115,7 +112,6 @@ impl<S: RecordSource> Layers<S> {
         steps: &mut S::Count,
     ) -> Result<Ids, NoMemory>
         requires name { spec.is_live self.old.live name.now ≡ true }
-        requires may { MayBeApplied entry }
         ensures ok { OnOk result (self.new ≡ finished name.now entry self.old) }
         ensures err { OnErr result (self.new ≡ self.old) }
         ensures changed { IfOk result (λ ids. AreChanged self.old.base (entries_of self.old.live) (entry ∷ entries_of (without name.now self.old.live)) ids) }

@@ -4,7 +4,6 @@ ghost use Rattle.indexmap.specs.IndexMap.{index_map_len};
 ghost use Rattle.store_model.specs.Entries.{apply, fold_entries};
 ghost use Rattle.store_layers.specs.Changed.{AreChanged};
 ghost use Rattle.store_layers.specs.Layered.{entries_of};
-ghost use Rattle.store_layers.specs.Taken.{MayBeApplied};
 ghost use Rattle.store_layers.specs.Versions.{shown, AreVersions, AreKept, layers_of, entries_without};
 ghost use Rattle.store_layers.specs.Work.{counted, weights};
 
@@ -40,7 +39,6 @@ pub(crate) fn confirm<S: RecordSource>(
     steps: &mut S::Count,
 ) -> Result<Confirmed<S>, NoMemory>
     requires kept { AreKept (S.records base.now) (layers_of entries.now.entries) (shown S.records versions.now) }
-    requires may { MayBeApplied entry.now }
     ensures base { IfOk result (λ c. S.records c.base ≡ apply entry.now (S.records base.now)) }
     ensures versions { IfOk result (λ c. AreVersions (apply entry.now (S.records base.now)) (entries_of (layers_of entries.now.entries)) (shown S.records c.rest.versions.items)) }
     ensures ids { IfOk result (λ c. AreChanged (S.records base.now) (entries_of (layers_of entries.now.entries)) (entry.now ∷ entries_of (layers_of entries.now.entries)) c.rest.ids) }
@@ -73,7 +71,6 @@ pub(crate) fn finish<S: RecordSource>(
 ) -> Result<Confirmed<S>, NoMemory>
     requires kept { AreKept (S.records base.now) (layers_of entries.now.entries) (shown S.records versions.now) }
     requires place { at < length entries.now.entries }
-    requires may { MayBeApplied entry.now }
     ensures base { IfOk result (λ c. S.records c.base ≡ apply entry.now (S.records base.now)) }
     ensures versions { IfOk result (λ c. AreVersions (apply entry.now (S.records base.now)) (entries_without at entries.now.entries) (shown S.records c.rest.versions.items)) }
     ensures ids { IfOk result (λ c. AreChanged (S.records base.now) (entries_of (layers_of entries.now.entries)) (entry.now ∷ entries_without at entries.now.entries) c.rest.ids) }

@@ -25,10 +25,10 @@ pub struct Changed<S: RecordSource> {
 /// Applies an entry to a map, which stays as it is: puts the facts, then merges the pages in their
 /// order, and then the commands act in theirs.
 ///
-/// The facts of one id take one look and at most one new record, and so does each command on a
-/// record. What is there already gives no new record. A page and a command on edges look once at each
-/// edge that they ask for, and put the connection, its new edges and its page information. Each id
-/// that had a new record is looked up twice more.
+/// The facts of one id take one look and at most one new record, and so does a command on a record.
+/// What is there already gives no new record. A page or a command on edges takes one look for each
+/// edge that it asks for and at most five more, and puts at most three records beside its new edges.
+/// Each id that had a new record is looked up twice more.
 pub fn apply<S: RecordSource>(
     source: &S,
     entry: &Entry,

@@ -1,19 +1,10 @@
 use Rattle.std.proofs.Common.{◌≡◌, suc, ◌+◌, ◌-◌, ◌≤◌, ◌<◌, length, ◌++◌, ◌∷◌, [], append_assoc, sym, ap, ◌∙◌, subst, arith}
 use Rattle.gql_plain.specs.Counted.{next_count}
 use Rattle.store_model.specs.Entries.{fold_entries}
-use Rattle.store_layers.proofs.Steps.{within_more, entry_at, each_at, layers_length, step_weighs, within_weighs, next_le}
+use Rattle.store_layers.proofs.Steps.{within_more, step_weighs, within_weighs, next_le}
 use Rattle.store_layers.proofs.fold.put_versions.Goals as goal
-use Rattle.store_layers.specs.Layered.{entries_of}
-use Rattle.store_layers.specs.Taken.{MayBeApplied}
-use Rattle.store_layers.specs.Versions.{shown, AreVersions, layers_of, entries_within}
+use Rattle.store_layers.specs.Versions.{shown, AreVersions, entries_within}
 use Rattle.store_layers.specs.Work.{counted}
-
-pub put_version-requires : goal.put_version-requires
-put_version-requires g c =
-    let named = c.args.entries.now.entries in
-    let lt : c.layers.at < length named = omega (arith, c.layers-test.true, c.requires.within) in
-    subst MayBeApplied (entry_at named c.layers.at c.index.result.now c.index.ensures ∙ sym c.deref.ensures)
-    (each_at MayBeApplied (entries_of (layers_of named)) c.layers.at c.index.result.now.value (omega (arith, lt, layers_length named)) c.requires.may)
 
 pub returns-in_err-put_version-clause-looks : goal.returns-in_err-put_version-clause-looks
 returns-in_err-put_version-clause-looks g c = λ before h.

@@ -47,7 +47,7 @@ invariant_of-self-2 g c =
     let vs = c.self.inside.versions.items in
     let top0 = c.newest.ensures ∙ ap (λ xs. newest (r c.self.inside.base) (shown r xs)) c.deref.ensures.value ∙ newest_is (r c.self.inside.base) (entries_of (layers_of c.self.inside.entries.entries)) (shown r vs) c.self.invariant.versions in
     begun_kept r (r c.self.inside.base) (layers_of c.self.inside.entries.entries) (layers_of c.put_layer.new.entries.entries) vs c.put_layer.new.versions.items c.args.name c.args.entry c.in_ok-version.version (r c.newest.result.now)
-    c.self.invariant c.requires.may c.in_ok-put_layer.ensures.layers c.in_ok-put_layer.ensures.versions top0 c.in_ok-version.ensures.records c.in_ok-version.ensures.touched
+    c.self.invariant c.in_ok-put_layer.ensures.layers c.in_ok-put_layer.ensures.versions top0 c.in_ok-version.ensures.records c.in_ok-version.ensures.touched
 
 pub returns-clause-changed : goal.returns-clause-changed
 returns-clause-changed g c =

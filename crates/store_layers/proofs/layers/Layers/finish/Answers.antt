@@ -40,9 +40,8 @@ invariant_of-self g c =
     let place : IsPlaceOf name (layers_of named) at = subst (λ t. IsPlaceOf t (layers_of named) at) c.as_str.ensures c.place_of-at.ensures in
     let m2 = r c.in_ok-confirmed.confirmed.base in
     let news = shown r c.in_ok-confirmed.confirmed.rest.versions.items in
-    let olds = shown r c.self.inside.versions.items in
     subst (λ es. AreKept m2 (layers_of es) news) (sym c.shift_remove_index.ensures.entries)
-    (others_kept name named at place m2 m olds news c.self.invariant
+    (others_kept name named at place m2 news
     (subst (λ x. AreVersions x (entries_without at named) news) (sym c.in_ok-confirmed.ensures.base) c.in_ok-confirmed.ensures.versions))
 
 pub returns-clause-ok : goal.returns-clause-ok

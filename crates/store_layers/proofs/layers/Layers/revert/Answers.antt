@@ -44,9 +44,8 @@ invariant_of-self g c =
     let at = c.place_of-at.result in
     let place : IsPlaceOf name (layers_of named) at = subst (λ t. IsPlaceOf t (layers_of named) at) c.as_str.ensures c.place_of-at.ensures in
     let news = shown r c.in_ok-rebuilt.rebuilt.versions.items in
-    let olds = shown r c.self.inside.versions.items in
     subst (λ es. AreKept m (layers_of es) news) (sym c.shift_remove_index.ensures.entries)
-    (others_kept name named at place m m olds news c.self.invariant c.in_ok-rebuilt.ensures.versions)
+    (others_kept name named at place m news c.in_ok-rebuilt.ensures.versions)
 
 pub returns-clause-ok : goal.returns-clause-ok
 returns-clause-ok g c =

@@ -1,0 +1,101 @@
+-- The plans of operations and fragments mean what the machine asks of handles.
+use Rattle.std.proofs.Common.{◌≡◌, ℕ, true, List, Option, Some, None, is_some, IfOk, Ok, Err, Result, ap, sym, subst, ◌∙◌}
+use Rattle.gql_ast.specs.declared.document.Document.{Document}
+use Rattle.gql_ast.specs.declared.place.Placed.{Placed}
+use Rattle.gql_plain.specs.declared.memory.NoMemory.{NoMemory}
+use Rattle.plan_ir.specs.NormalMeaning.{plan_says}
+use Rattle.plan_ir.specs.ReaderMeaning.{plan_reads}
+use Rattle.plan_ir.specs.declared.normal.NormalPlan.{NormalPlan}
+use Rattle.plan_ir.specs.declared.reader.ReaderPlan.{ReaderPlan}
+use Rattle.plan_project.specs.Lookups.{IsOperation, KeepsFragment, ReadsFragment, fragment_in, operation_in}
+use Rattle.plan_project.specs.declared.operations.Compiled.{Compiled}
+use Rattle.plan_project.specs.declared.operations.CompiledFragment.{CompiledFragment}
+use Rattle.plan_read.specs.Laws.{AreLocals}
+use Rattle.relay_engine.specs.Handles.{held_as}
+use Rattle.relay_engine.specs.Kept.{HandleKept}
+use Rattle.relay_engine.specs.Parts.{IsProject}
+use Rattle.relay_engine.specs.Stands.{KeepsHandle}
+use Rattle.relay_engine.specs.declared.handles.Held.{Held}
+use Rattle.relay_machine.specs.Machine as machine
+use Rattle.relay_machine.specs.Machine.{Handle, documents_of, root_type}
+use Rattle.relay_model.specs.Readings.{fragment_reads, no_place, operation_reads, with_marked}
+use Rattle.relay_model.specs.Responses.{operation_says}
+use Rattle.schema_tables.specs.Types.{Text, Defs}
+use Rattle.schema_types.specs.Environments.{Values, environment}
+use Rattle.schema_types.specs.Sites.{FragmentAt, OperationAt}
+use Rattle.serde_json.specs.Data as J
+use Rattle.store_model.specs.Verdicts.{Verdict}
+use Rattle.store_model.specs.Walks.{Slots, reading, type_of_record}
+use Rattle.store_read.specs.Reading.{reading_of}
+use Rattle.store_read.specs.declared.snapshot.Snapshot.{Snapshot}
+
+-- ---- operations
+
+module _ (parts : Defs × List (Placed Document)) (p : machine.Project) (k : HandleKept) (h : Handle) (c : Compiled)
+    (is : IsProject parts p) (kept : KeepsHandle p k h)
+    (all : (o : OperationAt) → operation_in parts.0 parts.1 k.operation ≡ Some o → IsOperation parts.0 parts.1 k.operation o c) where
+  held_is : IsOperation p.defs p.documents k.operation h.operation c
+  held_is =
+      let there : operation_in parts.0 parts.1 k.operation ≡ Some h.operation =
+      ap (λ (ds : Defs). operation_in ds parts.1 k.operation) is.schema ∙ ap (λ (ps : List (Placed Document)). operation_in p.defs ps k.operation) is.documents ∙ kept.operation in
+      subst (λ (ps : List (Placed Document)). IsOperation p.defs ps k.operation h.operation c) is.documents
+      (subst (λ (ds : Defs). IsOperation ds parts.1 k.operation h.operation c) is.schema (all h.operation there))
+
+  -- the handle's root type is the operation's
+  same_root : k.root ≡ c.root
+  same_root = kept.root ∙ sym held_is.keeps.root
+
+  plan_says_held : (response : J.Data) → plan_says k.root k.values c.normal.value.steps response ≡ machine.said_to p h response
+  plan_says_held response =
+      ap (λ (T : Text). plan_says T k.values c.normal.value.steps response) same_root ∙ held_is.normalizes.says k.values response
+      ∙ ap (λ (vs : Values). operation_says (documents_of p) no_place h.operation vs response) kept.values
+
+  plan_reads_held : (owner : Text) (m : Slots) (id : Text)
+      → plan_reads (type_of_record k.root) owner m k.values c.reader.value.steps c.types id ≡ operation_reads (documents_of p) h.operation h.values owner m id
+  plan_reads_held owner m id =
+      ap (λ (T : Text). plan_reads (type_of_record T) owner m k.values c.reader.value.steps c.types id) same_root ∙ held_is.reads.reads k.values owner m id
+      ∙ ap (λ (vs : Values). operation_reads (documents_of p) h.operation vs owner m id) kept.values
+
+-- what the plans of an operation that is held say and read
+abbrev pub IsHeld : Defs × List (Placed Document) → Text → Compiled → Type 0
+IsHeld parts n c = (o : OperationAt) → operation_in parts.0 parts.1 n ≡ Some o → IsOperation parts.0 parts.1 n o c
+
+pub verdict_is_said : (parts : Defs × List (Placed Document)) (held : Held) (c : Compiled) → IsHeld parts held.operation c → (plan : NormalPlan) → plan ≡ c.normal.value
+    → (response : J.Data) (v : Verdict) → plan_says held.env.root held.env.values plan.steps response ≡ v
+    → (p : machine.Project) (h : Handle) → IsProject parts p → KeepsHandle p (held_as h.name held) h → v ≡ machine.said_to p h response
+verdict_is_said parts held c all plan same response v e p h is kept =
+    sym e ∙ ap (λ (x : NormalPlan). plan_says held.env.root held.env.values x.steps response) same ∙ plan_says_held parts p (held_as h.name held) h c is kept all response
+
+pub operation_is_read : (r : Result Snapshot NoMemory) (parts : Defs × List (Placed Document)) (held : Held) (c : Compiled) → IsHeld parts held.operation c
+    → (plan : ReaderPlan) → plan ≡ c.reader.value → (owner : Text) (m : Slots) (id root : Text) → id ≡ root
+    → IfOk r (λ s. reading_of s ≡ reading (plan_reads (type_of_record held.env.root) owner m held.env.values plan.steps c.types id))
+    → IfOk r (λ s. (p : machine.Project) (h : Handle) → IsProject parts p → KeepsHandle p (held_as h.name held) h
+    → reading_of s ≡ reading (operation_reads (documents_of p) h.operation h.values owner m root))
+operation_is_read (Ok s) parts held c all plan same owner m id root at e = λ p h is kept.
+    e ∙ ap (λ (x : ReaderPlan). reading (plan_reads (type_of_record held.env.root) owner m held.env.values x.steps c.types id)) same
+    ∙ ap reading (plan_reads_held parts p (held_as h.name held) h c is kept all owner m id)
+    ∙ ap (λ (i : Text). reading (operation_reads (documents_of p) h.operation h.values owner m i)) at
+operation_is_read (Err x) parts held c all plan same owner m id root at e = tt
+
+-- ---- fragments, in an environment that has the marked values of a scope beside the operation's own
+
+plan_reads_marked : (p : machine.Project) (k : HandleKept) (h : Handle) (f : FragmentAt) (n : Text) (c : CompiledFragment) → KeepsHandle p k h
+    → KeepsFragment p.defs n f c → ReadsFragment p.defs p.documents f c → (scope given : Values) → scope ≡ environment c.locals given
+    → (root : Text) (own : Values) → root ≡ k.root → own ≡ with_marked k.values scope → (owner : Text) (m : Slots) (id : Text)
+    → plan_reads (type_of_record root) owner m own c.reader.value.steps c.types id ≡ fragment_reads (documents_of p) f (root_type p h) h.values scope owner m id
+plan_reads_marked p k h f n c kept keeps reads scope given are root own at_root marked owner m id =
+    ap (λ (T : Text). plan_reads (type_of_record T) owner m own c.reader.value.steps c.types id) (at_root ∙ kept.root)
+    ∙ ap (λ (vs : Values). plan_reads (type_of_record (root_type p h)) owner m vs c.reader.value.steps c.types id) (marked ∙ ap (λ (vs : Values). with_marked vs scope) kept.values)
+    ∙ reads.reads (root_type p h) h.values scope (subst (λ (vs : Values). AreLocals f vs) (sym are) (keeps.scopes given)) owner m id
+
+pub fragment_is_read : (r : Result Snapshot NoMemory) (held : Held) (c : CompiledFragment) (plan : ReaderPlan) → plan ≡ c.reader.value
+    → (root : Text) (own scope : Values) → root ≡ held.env.root → own ≡ with_marked held.env.values scope → (owner : Text) (m : Slots) (id : Text)
+    → IfOk r (λ s. reading_of s ≡ reading (plan_reads (type_of_record root) owner m own plan.steps c.types id))
+    → IfOk r (λ s. (p : machine.Project) (h : Handle) (f : FragmentAt) (n : Text) → fragment_in p.defs p.documents n ≡ Some f
+    → KeepsFragment p.defs n f c → ReadsFragment p.defs p.documents f c → KeepsHandle p (held_as h.name held) h
+    → (given : Values) → scope ≡ environment c.locals given
+    → reading_of s ≡ reading (fragment_reads (documents_of p) f (root_type p h) h.values scope owner m id))
+fragment_is_read (Ok s) held c plan same root own scope at_root marked owner m id e = λ p h f n there keeps reads kept given are.
+    e ∙ ap (λ (x : ReaderPlan). reading (plan_reads (type_of_record root) owner m own x.steps c.types id)) same
+    ∙ ap reading (plan_reads_marked p (held_as h.name held) h f n c kept keeps reads scope given are root own at_root marked owner m id)
+fragment_is_read (Err x) held c plan same root own scope at_root marked owner m id e = tt

@@ -1,0 +1,17 @@
+-- The pairs under marked names stand before the own ones, which are in order.
+use Rattle.std.proofs.Common.{◌≡◌, ◌++◌, map, IfOk, ap, subst, ◌∙◌}
+use Rattle.gql_plain.specs.Shown.{shown_members}
+use Rattle.relay_engine.proofs.MarkedPairs.{marked_first}
+use Rattle.relay_engine.proofs.environments.with_marked.Goals as goal
+use Rattle.schema_types.specs.Environments.{Values}
+use Rattle.schema_values.specs.Listed.{first_of_each}
+use Rattle.relay_engine.specs.Marked.{marked}
+use Rattle.relay_model.specs.Readings.{with_marked}
+
+pub returns : goal.returns
+returns c =
+    let all : shown_members c.push_copies.new.copies.items ≡ map marked c.args.scope.now ++ shown_members c.own.inside.entries.items =
+    c.in_ok-push_copies.ensures ∙ ap (λ ms. ms ++ shown_members c.deref.result.now) c.in_ok-pairs.ensures
+    ∙ ap (λ es. map marked c.args.scope.now ++ shown_members es) c.deref.ensures.value in
+    subst (λ (ms : Values). IfOk c.first_of_each.result (λ sorted. sorted ≡ ms))
+    (ap first_of_each all ∙ marked_first c.own.inside.entries.items c.args.own.now c.args.scope.now c.own.view_is c.own.invariant) c.first_of_each.ensures

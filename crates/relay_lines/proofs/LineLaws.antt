@@ -1,0 +1,52 @@
+-- The tokens of a line, member by member.
+use Rattle.std.proofs.Common.{◌≡◌, List, [], ◌∷◌, ◌++◌, refl, sym, ap, ◌∙◌, append_assoc, append-nil, Result, IfOk}
+use Rattle.std.proofs.lemmas.Result.{IfOk-weaker}
+use Rattle.gql_plain.proofs.Tokens.{print-tree_tokens}
+use Rattle.gql_plain.specs.ToJson.{compact, members_tokens}
+use Rattle.gql_plain.specs.Tree.{Tree, members_of}
+use Rattle.gql_plain.specs.declared.memory.NoMemory.{NoMemory}
+use Rattle.json.specs.Print.{print}
+use Rattle.json.specs.Token as token
+use Rattle.json.specs.Token.{Token}
+use Rattle.relay_lines.specs.Members.{member_tokens}
+use Rattle.relay_machine.specs.Printed.{in_order, line}
+use Rattle.store_model.specs.Walks.{shown_object}
+use Rattle.store_record.specs.Keys.{Text}
+
+-- the tokens of members
+abbrev members_front : List (Text × Tree) → List Token
+members_front [] = []
+members_front (m ∷ ms) = member_tokens m.0 m.1 ++ members_front ms
+
+-- what is written of an object are these members
+pub record Holds (written : List Token) (members : List (Text × Tree)) : Type 0 where
+  is : written ≡ token.begin_object ∷ members_front members
+
+pub begun : {written : List Token} → written ≡ token.begin_object ∷ [] → Holds written []
+begun start = record { is = start }
+
+members_front-push : (ms : List (Text × Tree)) (key : Text) (value : Tree) → members_front ms ++ member_tokens key value ≡ members_front (ms ++ (key, value) ∷ [])
+members_front-push [] key value = sym (append-nil (member_tokens key value))
+members_front-push (m ∷ ms) key value = append_assoc (member_tokens m.0 m.1) (members_front ms) (member_tokens key value) ∙ ap (λ ts. member_tokens m.0 m.1 ++ ts) (members_front-push ms key value)
+
+-- one more member
+pub more : {old new : List Token} {ms : List (Text × Tree)} (key : Text) (value : Tree) → Holds old ms → new ≡ old ++ member_tokens key value → Holds new (ms ++ (key, value) ∷ [])
+more {ms = ms} key value before next = record {
+  is = next ∙ ap (λ ts. ts ++ member_tokens key value) before.is ∙ ap (λ ts. token.begin_object ∷ ts) (members_front-push ms key value);
+}
+
+members_front-end : (ms : List (Text × Tree)) → members_front ms ++ token.end_object ∷ [] ≡ members_tokens (members_of ms)
+members_front-end [] = refl
+members_front-end (m ∷ ms) = append_assoc (member_tokens m.0 m.1) (members_front ms) (token.end_object ∷ []) ∙ ap (λ ts. member_tokens m.0 m.1 ++ ts) (members_front-end ms)
+
+-- the text of a whole object is its line
+pub printed : (members : List (Text × Tree)) (r : Result Text NoMemory) {written : List Token} {ms : List (Text × Tree)}
+    → Holds written ms → ms ≡ in_order members → IfOk r (λ words. words ≡ print (written ++ token.end_object ∷ []))
+    → IfOk r (λ words. words ++ 10 ∷ [] ≡ line members)
+printed members r {written} {ms} whole order said =
+    IfOk-weaker r (λ words. words ≡ print (written ++ token.end_object ∷ [])) (λ words. words ++ 10 ∷ [] ≡ line members)
+    (λ words is.
+    ap (λ (ts : Text). ts ++ 10 ∷ [])
+    (is ∙ ap (λ ts. print (ts ++ token.end_object ∷ [])) whole.is ∙ ap (λ ts. print (token.begin_object ∷ ts)) (members_front-end ms) ∙ print-tree_tokens (shown_object ms)
+    ∙ ap (λ (fs : List (Text × Tree)). compact (shown_object fs)) order))
+    said

@@ -1,0 +1,119 @@
+//! The text of one line, written a member at a time.
+ghost use Rattle.std.specs.Prelude.{◌≡◌, ◌∷◌, ◌++◌, [], map, IfOk, OnOk};
+ghost use Rattle.gql_plain.specs.Shown.{tree_of};
+ghost use Rattle.gql_plain.specs.Tree.{truth, text, list, trees_of};
+ghost use Rattle.json.specs.Print.{print};
+ghost use Rattle.json.specs.Token.{begin_object, end_object};
+ghost use Rattle.relay_lines.specs.Members.{member_tokens};
+ghost use Rattle.relay_machine.specs.Printed.{number};
+ghost use Rattle.relay_machine.specs.Refusals.{shown_field, shown_step};
+
+use crate::values::{write_field, write_path, write_texts};
+use gql_plain::{Ids, NoMemory, Plain, Words, write_plain};
+use json::Writer;
+use std::alloc::Global;
+use std::marker::Model;
+use store_model::PathSteps;
+use store_record::Field;
+
+/// An object that is being written, seen as its tokens. Members are put in byte order of their keys.
+#[derive(Drop)]
+pub(crate) struct LineWriter {
+    out: Writer,
+}
+
+impl Model for LineWriter {
+    ghost use Rattle.std.specs.Prelude.{◌≡◌, List, []};
+    ghost use Rattle.json.specs.Token.{Token, tokens_code};
+
+    ghost Value = { List Token };
+
+    ghost coded = { tokens_code };
+
+    ghost view = { λ a. a.out.tokens };
+
+    ghost invariant = { λ a. a.out.before ≡ [] };
+}
+
+impl LineWriter {
+    /// An object without a member so far.
+    pub(crate) fn new(alloc: Global) -> Result<LineWriter, NoMemory>
+        ensures { IfOk result (λ line. line ≡ begin_object ∷ []) }
+    {
+        let mut out = Writer::new(Vec::new(alloc));
+        out.begin_object()?;
+        Ok(LineWriter { out })
+    }
+
+    /// Puts a text.
+    pub(crate) fn put_text(&mut self, key: &str, value: &str) -> Result<(), NoMemory>
+        ensures { OnOk result (self.new ≡ self.old ++ member_tokens key.now (text value.now)) }
+    {
+        self.out.key(key)?;
+        self.out.string(value)?;
+        Ok(())
+    }
+
+    /// Puts a number.
+    pub(crate) fn put_number(&mut self, key: &str, value: u64) -> Result<(), NoMemory>
+        ensures { OnOk result (self.new ≡ self.old ++ member_tokens key.now (number value)) }
+    {
+        self.out.key(key)?;
+        self.out.u64(value)?;
+        Ok(())
+    }
+
+    /// Puts a truth value.
+    pub(crate) fn put_truth(&mut self, key: &str, value: bool) -> Result<(), NoMemory>
+        ensures { OnOk result (self.new ≡ self.old ++ member_tokens key.now (truth value)) }
+    {
+        self.out.key(key)?;
+        self.out.boolean(value)?;
+        Ok(())
+    }
+
+    /// Puts a plain tree.
+    pub(crate) fn put_plain(&mut self, key: &str, value: &Plain) -> Result<(), NoMemory>
+        ensures { OnOk result (self.new ≡ self.old ++ member_tokens key.now (tree_of value.now)) }
+    {
+        self.out.key(key)?;
+        write_plain(&mut self.out, value)
+    }
+
+    /// Puts a list of texts.
+    pub(crate) fn put_texts(&mut self, key: &str, texts: &Ids) -> Result<(), NoMemory>
+        ensures { OnOk result
+            (self.new ≡ self.old ++ member_tokens key.now (list (trees_of (map text texts.now)))) }
+    {
+        self.out.key(key)?;
+        write_texts(&mut self.out, texts.as_slice())
+    }
+
+    /// Puts the steps of a path.
+    pub(crate) fn put_path(&mut self, key: &str, path: &PathSteps) -> Result<(), NoMemory>
+        ensures { OnOk result
+            (self.new ≡ self.old ++ member_tokens key.now (list (trees_of (map shown_step path.now)))) }
+    {
+        self.out.key(key)?;
+        write_path(&mut self.out, path.as_slice())
+    }
+
+    /// Puts a field.
+    pub(crate) fn put_field(&mut self, key: &str, field: &Field) -> Result<(), NoMemory>
+        ensures { OnOk result (self.new ≡ self.old ++ member_tokens key.now (shown_field field.now)) }
+    {
+        self.out.key(key)?;
+        write_field(&mut self.out, field)
+    }
+
+    /// The text of the whole object.
+    pub(crate) fn finish(self) -> Result<Words, NoMemory>
+        ensures { IfOk result (λ words. words ≡ print (self ++ end_object ∷ [])) }
+    {
+        let LineWriter { mut out } = self;
+        out.end_object()?;
+        // Safety: a writer's text is UTF-8, as its contract says.
+        let text = unsafe { String::from_utf8_unchecked(out.into_inner()) };
+        Ok(Words::from_string(text))
+    }
+}
