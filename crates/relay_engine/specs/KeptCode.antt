@@ -15,12 +15,12 @@ use Rattle.store_layers.specs.LayeredCode.{layered_code}
 
 abbrev pub handle_code : Coded HandleKept
 handle_code =
-    code_by (Text × Text × Text × Values) (coded× coded_text (coded× coded_text (coded× coded_text coded_members)))
-    (λ h. (h.name, h.operation, h.root, h.values)) (λ p. record { name = p.0; operation = p.1; root = p.2; values = p.3 }) (λ _. refl)
+    code_by (Text × (Text × (Text × Values))) (coded× coded_text (coded× coded_text (coded× coded_text coded_members)))
+    (λ h. (h.name, (h.operation, (h.root, h.values)))) (λ p. record { name = p.0; operation = p.1.0; root = p.1.1.0; values = p.1.1.1 }) (λ _. refl)
 
 abbrev pub kept_code : Coded Kept
 kept_code =
-    code_by (Defs × List (Placed Document) × ℕ × Layered × List HandleKept)
+    code_by (Defs × (List (Placed Document) × (ℕ × (Layered × List HandleKept))))
     (coded× (coded_list definition_row.the_row.coded) (coded× (coded_list (placed_row.the_row document_row.the_row).coded) (coded× coded_ℕ (coded× layered_code (coded_list handle_code)))))
-    (λ k. (k.defs, k.documents, k.buffer, k.layers, k.handles))
-    (λ p. record { defs = p.0; documents = p.1; buffer = p.2; layers = p.3; handles = p.4 }) (λ _. refl)
+    (λ k. (k.defs, (k.documents, (k.buffer, (k.layers, k.handles)))))
+    (λ p. record { defs = p.0; documents = p.1.0; buffer = p.1.1.0; layers = p.1.1.1.0; handles = p.1.1.1.1 }) (λ _. refl)

@@ -1,7 +1,10 @@
+pub mod Answered
 pub mod Handles
 pub mod Kept
 pub mod KeptCode
 pub mod Marked
+pub mod Operations
 pub mod Parts
+pub mod Retained
 pub mod Stands
 pub mod Steps

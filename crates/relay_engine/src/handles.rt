@@ -53,6 +53,13 @@ impl Handles {
         self.held.get(name)
     }
 
+    /// Whether a handle of the name is live; takes no memory.
+    pub fn is_live(&self, name: &str) -> bool
+        ensures { result ≡ is_some (handle_under self.now name.now) }
+    {
+        self.find(name).is_some()
+    }
+
     /// How many handles are live; takes no memory.
     pub fn count(&self) -> usize
         ensures { result ≡ length self.now }

@@ -1,0 +1,71 @@
+-- The answer of a line is the machine's.
+use Rattle.std.proofs.Common.{◌≡◌, ℕ, Bool, true, false, Option, Some, unwrap_or, Result, refl, sym, ap, subst, ◌∙◌}
+use Rattle.std.proofs.lemmas.Result.{IfOk-weaker}
+use Rattle.std.specs.Result.{IfOk}
+use Rattle.relay_engine.specs.Answered.{AreLines}
+use Rattle.relay_engine.specs.Kept.{Kept}
+use Rattle.relay_engine.specs.Stands.{StandsFor}
+use Rattle.relay_engine.specs.Steps.{HasStepped, IsStep}
+use Rattle.relay_engine.specs.declared.lines.Lines.{Lines}
+use Rattle.relay_machine.specs.Machine.{Project, State, Step, accept, refuse, step_line, unless}
+use Rattle.relay_machine.specs.Printed.{refusal_line}
+use Rattle.relay_machine.specs.Refusals.{Refusal, variables}
+use Rattle.schema_tables.specs.Types.{Text}
+use Rattle.schema_types.specs.Environments.{Failure}
+use Rattle.store_model.specs.Events.{Line}
+
+-- a refused line changes nothing
+pub refusing : (k : Kept) (p : Project) (s : State) (n : ℕ) (why : Refusal) (lines : Lines) → StandsFor k p s → AreLines (refusal_line n why) true lines
+    → IsStep p (refuse s n why) lines k
+refusing k p s n why lines stands are = record { text = are.text; refused = are.refused; stands = stands }
+
+pub accepting : (k : Kept) (p : Project) (s : State) (text : Text) (lines : Lines) → StandsFor k p s → AreLines text false lines → IsStep p (accept text s) lines k
+accepting k p s text lines stands are = record { text = are.text; refused = are.refused; stands = stands }
+
+-- the same step, written otherwise
+pub same_step : (k : Kept) (p : Project) (now other : Step) (lines : Lines) → other ≡ now → IsStep p now lines k → IsStep p other lines k
+same_step k p now other lines e is = subst (λ t. IsStep p t lines k) (sym e) is
+
+-- the same step, of another engine that keeps the same
+pub same_kept : (k other : Kept) (p : Project) (step : Step) (lines : Lines) → other ≡ k → IsStep p step lines k → IsStep p step lines other
+same_kept k other p step lines e is = subst (IsStep p step lines) (sym e) is
+
+-- ---- calls that give lines
+
+module _ {E : Type 0} (r : Result Lines E) where
+  -- the call refuses the line
+  pub on_refusal : (k : Kept) (n : ℕ) (why : Refusal) (step : Project → State → Step) → IfOk r (AreLines (refusal_line n why) true)
+      → ((p : Project) (s : State) → StandsFor k p s → step p s ≡ refuse s n why) → IfOk r (λ lines. HasStepped k k lines step)
+  on_refusal k n why step h e =
+      IfOk-weaker r (AreLines (refusal_line n why) true) (λ lines. HasStepped k k lines step)
+      (λ lines are p s stands. same_step k p (refuse s n why) (step p s) lines (e p s stands) (refusing k p s n why lines stands are)) h
+
+  -- the call takes the step, written otherwise
+  pub on_step : (old new : Kept) (step other : Project → State → Step) → IfOk r (λ lines. HasStepped old new lines step)
+      → ((p : Project) (s : State) → StandsFor old p s → other p s ≡ step p s) → IfOk r (λ lines. HasStepped old new lines other)
+  on_step old new step other h e =
+      IfOk-weaker r (λ lines. HasStepped old new lines step) (λ lines. HasStepped old new lines other)
+      (λ lines has p s stands. same_step new p (step p s) (other p s) lines (e p s stands) (has p s stands)) h
+
+  -- values of variables are refused, as this failure says
+  pub on_failure : (n : ℕ) (failure : Failure) → IfOk r (AreLines (refusal_line n (variables failure)) true)
+      → IfOk r (λ lines. (f : Failure) → ◌≡◌ {A = Option Failure} (Some f) (Some failure) → AreLines (refusal_line n (variables f)) true lines)
+  on_failure n failure h =
+      IfOk-weaker r (AreLines (refusal_line n (variables failure)) true)
+      (λ lines. (f : Failure) → ◌≡◌ {A = Option Failure} (Some f) (Some failure) → AreLines (refusal_line n (variables f)) true lines)
+      (λ lines are f e. subst (λ x. AreLines (refusal_line n (variables x)) true lines) (sym (ap (λ (o : Option Failure). unwrap_or o f) e)) are) h
+
+  -- a line that gives no event is refused
+  pub on_fault : (n : ℕ) (line : Line) (why : Refusal) → IfOk r (AreLines (refusal_line n why) true) → ((p : Project) (s : State) → step_line p s n line ≡ refuse s n why)
+      → IfOk r (λ lines. (l : Line) → l ≡ line → (k : Kept) → HasStepped k k lines (λ p s. step_line p s n l))
+  on_fault n line why h e =
+      IfOk-weaker r (AreLines (refusal_line n why) true) (λ lines. (l : Line) → l ≡ line → (k : Kept) → HasStepped k k lines (λ p s. step_line p s n l))
+      (λ lines are l same k p s stands. same_step k p (refuse s n why) (step_line p s n l) lines (ap (step_line p s n) same ∙ e p s) (refusing k p s n why lines stands are)) h
+
+-- ---- the first refusal
+
+pub unless-true : (s : State) (n : ℕ) (b : Bool) (why : Refusal) (step : Step) → b ≡ true → unless s n b why step ≡ refuse s n why
+unless-true s n b why step h = ap (λ c. unless s n c why step) h
+
+pub unless-false : (s : State) (n : ℕ) (b : Bool) (why : Refusal) (step : Step) → b ≡ false → unless s n b why step ≡ step
+unless-false s n b why step h = ap (λ c. unless s n c why step) h

@@ -1,0 +1,82 @@
+//! What lines are answered.
+ghost use Rattle.std.specs.Prelude.{◌≡◌, ◌<◌, ◌^◌, ◌++◌, [], ◌∷◌, true, false, IfOk};
+ghost use Rattle.relay_engine.specs.Answered.{AreLines, IsFaultOf, IsRefusalOf};
+ghost use Rattle.relay_lines.specs.RefusalShown.{refusal_shown};
+ghost use Rattle.relay_machine.specs.Printed as model;
+ghost use Rattle.store_read.specs.Reading.{reading_of};
+
+use crate::lines::Lines;
+use event_script::LineFault;
+use gql_plain::{NoMemory, Words};
+use relay_lines::{Refusal, event_line, read_line, refusal_line};
+use schema_values::VarFault;
+use std::alloc::Global;
+use store_read::Snapshot;
+
+/// The answer of an event that shows nothing, where it is taken.
+pub(crate) fn accept(alloc: Global, event: &str, n: u64) -> Result<Lines, NoMemory>
+    requires { n < 2 ^ 63 }
+    ensures { IfOk result (AreLines (model.event_line event.now n) false) }
+{
+    let text = event_line(alloc, event, n)?;
+    one_line(alloc, text, false)
+}
+
+/// The answer of a read.
+pub(crate) fn show(alloc: Global, snapshot: Snapshot, n: u64) -> Result<Lines, NoMemory>
+    requires { n < 2 ^ 63 }
+    ensures { IfOk result (AreLines (model.read_line n (reading_of snapshot)) false) }
+{
+    let text = read_line(alloc, snapshot, n)?;
+    one_line(alloc, text, false)
+}
+
+/// The answer of a line that is refused.
+pub(crate) fn refuse(alloc: Global, why: Refusal<'_>, n: u64) -> Result<Lines, NoMemory>
+    requires { n < 2 ^ 63 }
+    ensures { IfOk result (AreLines (model.refusal_line n (refusal_shown why.entry)) true) }
+{
+    let text = refusal_line(alloc, why, n)?;
+    one_line(alloc, text, true)
+}
+
+/// The answer of a line that is refused because values of variables are lacking or do not fit.
+pub(crate) fn refuse_variables(
+    alloc: Global,
+    fault: VarFault,
+    n: u64,
+) -> Result<Lines, NoMemory>
+    requires { n < 2 ^ 63 }
+    ensures { IfOk result (IsRefusalOf n fault) }
+{
+    match fault {
+        VarFault::Missing(name) => {
+            refuse(alloc, Refusal::MissingVariable(name.as_str()), n)
+        }
+        VarFault::Unfit(name) => refuse(alloc, Refusal::UnfitVariable(name.as_str()), n),
+        VarFault::NoMemory => Err(NoMemory),
+    }
+}
+
+/// The answer of a line that gives no event.
+pub(crate) fn refuse_fault(alloc: Global, fault: LineFault, n: u64) -> Result<Lines, NoMemory>
+    requires { n < 2 ^ 63 }
+    ensures { IfOk result (IsFaultOf n fault) }
+{
+    match fault {
+        LineFault::NotJson => refuse(alloc, Refusal::NotJson, n),
+        LineFault::EventShape => refuse(alloc, Refusal::EventShape, n),
+        LineFault::UpdateShape => refuse(alloc, Refusal::UpdateShape, n),
+        LineFault::LineTooLong => refuse(alloc, Refusal::LineTooLong, n),
+        LineFault::NoMemory => Err(NoMemory),
+    }
+}
+
+/// An answer of one text.
+fn one_line(alloc: Global, text: Words, refused: bool) -> Result<Lines, NoMemory>
+    ensures { IfOk result (AreLines (text ++ 10 ∷ []) refused) }
+{
+    let mut texts = Vec::new(alloc);
+    texts.push(text)?;
+    Ok(Lines { refused, texts })
+}

@@ -1,0 +1,58 @@
+//! Events that are confirmed at once: payloads and updates.
+ghost use Rattle.std.specs.Prelude.{◌≡◌, ◌+◌, ◌<◌, ◌≤◌, ◌^◌, true, length, option_map, IfOk, OnErr};
+ghost use Rattle.event_script.specs.Seen.{answer_seen};
+ghost use Rattle.relay_engine.specs.Steps.{HasStepped};
+ghost use Rattle.relay_machine.specs.Machine as machine;
+ghost use Rattle.relay_machine.specs.Printed as printed;
+
+use crate::answers::accept;
+use crate::engine::Engine;
+use crate::lines::Lines;
+use crate::taking::Taken;
+use gql_plain::NoMemory;
+use store_model::{Answer, Commands, Entry};
+use store_source::RecordSource;
+
+impl<S: RecordSource> Engine<S> {
+    /// Confirms what the response to a handle says, if there is one, and then the commands. The event
+    /// is answered by its name.
+    pub(crate) fn confirm(
+        &mut self,
+        event: &str,
+        answer: &Option<Answer>,
+        commands: Commands,
+        n: u64,
+        steps: &mut S::Count,
+    ) -> Result<Lines, NoMemory>
+        requires { n < 2 ^ 63 }
+        ensures step { IfOk result (λ lines. HasStepped self.old self.new lines (λ p s.
+            machine.result_of p s n (option_map answer_seen answer.now) commands (λ step. step) (λ entry. machine.accept (printed.event_line event.now n) (machine.confirm entry s)))) }
+        ensures refused { IfOk result (λ lines. lines.refused ≡ true → self.new ≡ self.old) }
+        ensures err { OnErr result (self.new ≡ self.old) }
+        ensures applies { S.Count.applies steps.new ≤ S.Count.applies steps.old + (length self.old.layers.live + 1) }
+    {
+        match self.take(answer, commands, false, n)? {
+            Taken::Entry(entry) => self.commit(event, entry, n, steps),
+            Taken::Refused(lines) => Ok(lines),
+        }
+    }
+
+    /// Confirms an entry.
+    fn commit(
+        &mut self,
+        event: &str,
+        entry: Entry,
+        n: u64,
+        steps: &mut S::Count,
+    ) -> Result<Lines, NoMemory>
+        requires { n < 2 ^ 63 }
+        ensures step { IfOk result (λ lines. HasStepped self.old self.new lines (λ p s. machine.accept (printed.event_line event.now n) (machine.confirm entry s))) }
+        ensures refused { IfOk result (λ lines. lines.refused ≡ true → self.new ≡ self.old) }
+        ensures err { OnErr result (self.new ≡ self.old) }
+        ensures applies { S.Count.applies steps.new ≤ S.Count.applies steps.old + (length self.old.layers.live + 1) }
+    {
+        let lines = accept(self.alloc, event, n)?;
+        drop(self.layers.commit(entry, steps)?);
+        Ok(lines)
+    }
+}

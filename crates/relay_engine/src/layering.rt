@@ -1,0 +1,132 @@
+//! Events of optimistic layers: their beginning, their end, and their revocation.
+ghost use Rattle.std.specs.Prelude.{◌≡◌, ◌+◌, ◌<◌, ◌≤◌, ◌^◌, codes, true, false, length, option_map, IfOk, OnErr};
+ghost use Rattle.event_script.specs.Seen.{answer_seen};
+ghost use Rattle.relay_engine.specs.Steps.{HasStepped};
+ghost use Rattle.relay_machine.specs.Machine as machine;
+ghost use Rattle.relay_machine.specs.Printed as printed;
+ghost use Rattle.store_layers.specs.Layered as layered;
+
+use crate::answers::{accept, refuse};
+use crate::engine::Engine;
+use crate::lines::Lines;
+use crate::taking::Taken;
+use gql_plain::{NoMemory, Words};
+use relay_lines::Refusal;
+use store_model::{Answer, Commands, Entry};
+use store_source::RecordSource;
+
+/// At most this many layers are live.
+const MAX_LAYERS: u64 = 1_000;
+
+impl<S: RecordSource> Engine<S> {
+    /// Starts a layer of what the response to a handle says, if there is one, and then the commands.
+    pub(crate) fn begin(
+        &mut self,
+        layer: Words,
+        answer: &Option<Answer>,
+        commands: Commands,
+        n: u64,
+        steps: &mut S::Count,
+    ) -> Result<Lines, NoMemory>
+        requires { n < 2 ^ 63 }
+        ensures step { IfOk result (λ lines. HasStepped self.old self.new lines (λ p s. machine.step_begin p s n layer (option_map answer_seen answer.now) commands)) }
+        ensures refused { IfOk result (λ lines. lines.refused ≡ true → self.new ≡ self.old) }
+        ensures err { OnErr result (self.new ≡ self.old) }
+        ensures applies { S.Count.applies steps.new ≤ S.Count.applies steps.old + (length self.old.layers.live + 1) }
+    {
+        if self.layers.is_live(layer.as_str()) {
+            return refuse(self.alloc, Refusal::LayerTaken(layer.as_str()), n);
+        }
+        let is_full = self.layers.count() == MAX_LAYERS;
+        match self.take(answer, commands, is_full, n)? {
+            Taken::Entry(entry) => self.start(layer, entry, n, steps),
+            Taken::Refused(lines) => Ok(lines),
+        }
+    }
+
+    /// Starts a layer under a name that is not live.
+    fn start(
+        &mut self,
+        layer: Words,
+        entry: Entry,
+        n: u64,
+        steps: &mut S::Count,
+    ) -> Result<Lines, NoMemory>
+        requires within { n < 2 ^ 63 }
+        requires free { layered.is_live self.old.layers.live layer ≡ false }
+        ensures step { IfOk result (λ lines. HasStepped self.old self.new lines (λ p s. machine.accept (printed.event_line (codes "begin") n) (machine.with_layer layer entry s))) }
+        ensures refused { IfOk result (λ lines. lines.refused ≡ true → self.new ≡ self.old) }
+        ensures err { OnErr result (self.new ≡ self.old) }
+        ensures applies { S.Count.applies steps.new ≤ S.Count.applies steps.old + (length self.old.layers.live + 1) }
+    {
+        let lines = accept(self.alloc, "begin", n)?;
+        drop(self.layers.begin(layer, entry, steps)?);
+        Ok(lines)
+    }
+
+    /// Drops a layer, and confirms what the response to a handle says, if there is one, and then the
+    /// commands.
+    pub(crate) fn finish(
+        &mut self,
+        layer: &Words,
+        answer: &Option<Answer>,
+        commands: Commands,
+        n: u64,
+        steps: &mut S::Count,
+    ) -> Result<Lines, NoMemory>
+        requires { n < 2 ^ 63 }
+        ensures step { IfOk result (λ lines. HasStepped self.old self.new lines (λ p s. machine.step_finish p s n layer.now (option_map answer_seen answer.now) commands)) }
+        ensures refused { IfOk result (λ lines. lines.refused ≡ true → self.new ≡ self.old) }
+        ensures err { OnErr result (self.new ≡ self.old) }
+        ensures applies { S.Count.applies steps.new ≤ S.Count.applies steps.old + (length self.old.layers.live + 1) }
+    {
+        if !self.layers.is_live(layer.as_str()) {
+            return refuse(self.alloc, Refusal::UnknownLayer(layer.as_str()), n);
+        }
+        match self.take(answer, commands, false, n)? {
+            Taken::Entry(entry) => self.replace(layer, entry, n, steps),
+            Taken::Refused(lines) => Ok(lines),
+        }
+    }
+
+    /// Drops a live layer, and confirms an entry.
+    fn replace(
+        &mut self,
+        layer: &Words,
+        entry: Entry,
+        n: u64,
+        steps: &mut S::Count,
+    ) -> Result<Lines, NoMemory>
+        requires within { n < 2 ^ 63 }
+        requires live { layered.is_live self.old.layers.live layer.now ≡ true }
+        ensures step { IfOk result (λ lines. HasStepped self.old self.new lines (λ p s. machine.accept (printed.event_line (codes "finish") n) (machine.confirm entry (machine.drop_layer layer.now s)))) }
+        ensures refused { IfOk result (λ lines. lines.refused ≡ true → self.new ≡ self.old) }
+        ensures err { OnErr result (self.new ≡ self.old) }
+        ensures applies { S.Count.applies steps.new ≤ S.Count.applies steps.old + (length self.old.layers.live + 1) }
+    {
+        let lines = accept(self.alloc, "finish", n)?;
+        drop(self.layers.finish(layer, entry, steps)?);
+        Ok(lines)
+    }
+
+    /// Drops a layer.
+    pub(crate) fn revert(
+        &mut self,
+        layer: &Words,
+        n: u64,
+        steps: &mut S::Count,
+    ) -> Result<Lines, NoMemory>
+        requires { n < 2 ^ 63 }
+        ensures step { IfOk result (λ lines. HasStepped self.old self.new lines (λ p s. machine.step_revert s n layer.now)) }
+        ensures refused { IfOk result (λ lines. lines.refused ≡ true → self.new ≡ self.old) }
+        ensures err { OnErr result (self.new ≡ self.old) }
+        ensures applies { S.Count.applies steps.new ≤ S.Count.applies steps.old + (length self.old.layers.live + 1) }
+    {
+        if !self.layers.is_live(layer.as_str()) {
+            return refuse(self.alloc, Refusal::UnknownLayer(layer.as_str()), n);
+        }
+        let lines = accept(self.alloc, "revert", n)?;
+        drop(self.layers.revert(layer, steps)?);
+        Ok(lines)
+    }
+}

@@ -1,0 +1,114 @@
+//! The event that starts an operation under a handle.
+ghost use Rattle.std.specs.Prelude.{◌≡◌, ◌<◌, ◌^◌, codes, true, false, Some, is_some, IfOk, OnErr};
+ghost use Rattle.plan_project.specs.Lookups.{KeepsOperation, operation_in};
+ghost use Rattle.relay_engine.specs.Handles.{handle_under, held_as};
+ghost use Rattle.relay_engine.specs.Retained.{IsPrepared, IsThere};
+ghost use Rattle.relay_engine.specs.Stands.{StandsFor, KeepsHandle};
+ghost use Rattle.relay_engine.specs.Steps.{HasStepped, IsStep};
+ghost use Rattle.relay_machine.specs.Machine as machine;
+ghost use Rattle.relay_machine.specs.Printed as printed;
+ghost use Rattle.schema_types.specs.Sites.{OperationAt};
+
+use crate::answers::{accept, refuse, refuse_variables};
+use crate::engine::Engine;
+use crate::handles::Held;
+use crate::lines::Lines;
+use gql_plain::{NoMemory, Pairs, Words};
+use plan_project::Compiled;
+use relay_lines::{Limited, Refusal};
+use schema_values::variables;
+use store_source::RecordSource;
+
+/// At most this many handles are live.
+const MAX_HANDLES: usize = 10_000;
+
+/// What is to be kept under a handle, or the answer that refuses it.
+#[derive(Drop)]
+pub(crate) enum Prepared {
+    Held(Held),
+    Refused(Lines),
+}
+
+impl<S: RecordSource> Engine<S> {
+    /// Starts an operation of the project under a handle, with these values of its variables.
+    pub(crate) fn retain(
+        &mut self,
+        handle: &Words,
+        operation: &Words,
+        given: &Pairs,
+        n: u64,
+    ) -> Result<Lines, NoMemory>
+        requires { n < 2 ^ 63 }
+        ensures step { IfOk result (λ lines. HasStepped self.old self.new lines (λ p s. machine.step_retain p s n handle.now operation.now given.now)) }
+        ensures refused { IfOk result (λ lines. lines.refused ≡ true → self.new ≡ self.old) }
+        ensures err { OnErr result (self.new ≡ self.old) }
+    {
+        if self.handles.is_live(handle.as_str()) {
+            return refuse(self.alloc, Refusal::HandleTaken(handle.as_str()), n);
+        }
+        match self.prepare(operation, given, n)? {
+            Prepared::Held(held) => self.hold(handle, held, n),
+            Prepared::Refused(lines) => Ok(lines),
+        }
+    }
+
+    /// An operation of the project with these values of its variables.
+    fn prepare(&self, operation: &Words, given: &Pairs, n: u64) -> Result<Prepared, NoMemory>
+        requires { n < 2 ^ 63 }
+        ensures there { IfOk result (IsThere self.now) }
+        ensures step { IfOk result (λ prepared. (p : machine.Project) (s : machine.State) → StandsFor self.now p s
+            → IsPrepared self.now p s n (λ name. machine.retain_named p s n name operation.now (operation_in p.defs p.documents operation.now) given.now) prepared) }
+    {
+        match self.project.operation(operation.as_str()) {
+            Some(compiled) => self.prepare_operation(compiled, given, n),
+            None => {
+                let why = Refusal::UnknownOperation(operation.as_str());
+                let lines = refuse(self.alloc, why, n)?;
+                Ok(Prepared::Refused(lines))
+            }
+        }
+    }
+
+    /// An operation with these values of its variables, where one more handle may start.
+    fn prepare_operation(
+        &self,
+        compiled: &Compiled,
+        given: &Pairs,
+        n: u64,
+    ) -> Result<Prepared, NoMemory>
+        requires within { n < 2 ^ 63 }
+        requires there { is_some (operation_in self.now.defs self.now.documents compiled.now.name) ≡ true }
+        ensures there { IfOk result (IsThere self.now) }
+        ensures step { IfOk result (λ prepared. (p : machine.Project) (s : machine.State) (o : OperationAt) → StandsFor self.now p s
+            → KeepsOperation p.defs compiled.now.name o compiled.now → operation_in p.defs p.documents compiled.now.name ≡ Some o
+            → IsPrepared self.now p s n (λ name. machine.retain_operation p s n name o given.now) prepared) }
+    {
+        if self.handles.count() == MAX_HANDLES {
+            let lines = refuse(self.alloc, Refusal::TooMany(Limited::Handles), n)?;
+            return Ok(Prepared::Refused(lines));
+        }
+        let schema = self.project.schema();
+        match variables(self.alloc, schema, &compiled.root, &compiled.variables, given) {
+            Ok(env) => Ok(Prepared::Held(Held {
+                operation: compiled.name.copy()?,
+                env,
+            })),
+            Err(fault) => Ok(Prepared::Refused(refuse_variables(self.alloc, fault, n)?)),
+        }
+    }
+
+    /// Keeps an operation under a handle that is not live.
+    fn hold(&mut self, handle: &Words, held: Held, n: u64) -> Result<Lines, NoMemory>
+        requires within { n < 2 ^ 63 }
+        requires free { is_some (handle_under self.old.handles handle.now) ≡ false }
+        requires there { is_some (operation_in self.old.defs self.old.documents held.operation) ≡ true }
+        ensures step { IfOk result (λ lines. (p : machine.Project) (s : machine.State) (h : machine.Handle) → StandsFor self.old p s → KeepsHandle p (held_as handle.now held) h
+            → IsStep p (machine.accept (printed.event_line (codes "retain") n) (machine.with_handle h s)) lines self.new) }
+        ensures refused { IfOk result (λ lines. lines.refused ≡ true → self.new ≡ self.old) }
+        ensures err { OnErr result (self.new ≡ self.old) }
+    {
+        let lines = accept(self.alloc, "retain", n)?;
+        self.handles.put(handle, held)?;
+        Ok(lines)
+    }
+}
