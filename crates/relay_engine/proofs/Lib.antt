@@ -1,3 +1,4 @@
+pub mod Beginnings
 mod HandleLaws
 mod LayerLaws
 mod LocalScopes

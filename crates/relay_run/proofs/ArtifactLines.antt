@@ -6,7 +6,7 @@ use Rattle.gql_ast.specs.declared.place.Placed.{Placed}
 use Rattle.gql_graph.specs.Rules.{each}
 use Rattle.plan_project.specs.Expansions.{line_lists, lines_at}
 use Rattle.plan_expand.specs.Answers.{definitions_in}
-use Rattle.relay_plain.specs.Keys.{Text}
+use Rattle.schema_tables.specs.Types.{Text}
 use Rattle.relay_run.specs.Answers.{EndsLine}
 use Rattle.relay_run.specs.Output.{artifacts_text, text_of_lines}
 use Rattle.relay_run.proofs.Written.{both_end}

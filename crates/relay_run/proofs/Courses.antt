@@ -3,19 +3,15 @@ use Rattle.std.proofs.Common.{◌≡◌, ◌⊎◌, ◌↔◌, ◌≤◌, ◌+�
 use Rattle.std.specs.Io.KnownBytes.{IsAtEnd}
 use Rattle.std.proofs.lemmas.Bool.{false≢true}
 use Rattle.std.proofs.lemmas.List.{take_all}
-use Rattle.gql_ast.specs.declared.document.Document.{Document}
-use Rattle.gql_ast.specs.declared.place.Placed.{Placed}
 use Rattle.relay_io.specs.Streams.{append, prepend}
 use Rattle.relay_io.proofs.Streaming.{append-none}
-use Rattle.relay_plain.specs.Keys.{Text}
-use Rattle.relay_plain.specs.Machine.{Project}
-use Rattle.relay_plain.specs.Printed.{project_fault}
+use Rattle.schema_tables.specs.Types.{Text}
+use Rattle.relay_machine.specs.Machine.{Project}
+use Rattle.relay_machine.specs.Printed.{project_fault}
 use Rattle.relay_run.specs.Answers.{unknown, refused, accepted, due, AnsweringBy, Ran, EndsLine, IsWhole}
-use Rattle.relay_run.specs.FormProjects as projects
 use Rattle.relay_run.specs.Output.{max_script, output_text, has_refusal, artifacts_text}
 use Rattle.relay_run.specs.Statuses.{IsDone}
 use Rattle.relay_run.specs.Words.{Form, run, compile}
-use Rattle.schema_tables.specs.Types.{Defs}
 use Rattle.relay_run.specs.declared.status.Status.{Status}
 use Rattle.relay_run.specs.declared.status.Status.TheVariants.{Done, DoneWithRefusals, ProjectRefused, ReadFault, WriteFault, NoMemory, ScriptTooLong}
 
@@ -29,7 +25,7 @@ pub ran_unanswered : (buffer : ℕ) (schema : Text) (documents : List Text) (p :
     → (length given ≡ max_script + 1 → (status ≡ ScriptTooLong) ⊎ ((status ≡ WriteFault) ⊎ (status ≡ NoMemory)))
     → (status ≡ ScriptTooLong → length given ≡ max_script + 1)
     → (IsWhole status → ⊥)
-    → Ran (run buffer schema documents) (accepted (projects.plain p)) status left left_now reads reads_now held held puts puts
+    → Ran (run buffer schema documents) (accepted p) status left left_now reads reads_now held held puts puts
 ran_unanswered buffer schema documents p status left left_now reads reads_now held puts given is most within over too_long partial = record {
   taken = given;
   ended = false;
@@ -50,7 +46,7 @@ ran_unanswered buffer schema documents p status left left_now reads reads_now he
   puts_most = omega arith;
   unwritten = tt;
   ends = inr (inl refl);
-  more = due (run buffer schema documents) (accepted (projects.plain p)) (take max_script given) false;
+  more = due (run buffer schema documents) (accepted p) (take max_script given) false;
   part = refl;
   whole = λ w. absurd (partial w);
   refusals = λ d. absurd (partial (inl d));
@@ -72,7 +68,7 @@ pub ran_answered : (buffer : ℕ) (schema : Text) (documents : List Text) (p : P
     → (added : Text) × (held_now ≡ append held added) × (puts_now ≤ puts + length added + 1) × ((status ≡ WriteFault) ⊎ EndsLine added)
     × (more : Text) × (added ++ more ≡ output_text p buffer given true) × (IsDone status → more ≡ [])
     → (IsDone status → (status ≡ DoneWithRefusals) ↔ IsTrue (has_refusal p buffer given))
-    → Ran (run buffer schema documents) (accepted (projects.plain p)) status left left_now reads reads_now held held_now puts puts_now
+    → Ran (run buffer schema documents) (accepted p) status left left_now reads reads_now held held_now puts puts_now
 ran_answered buffer schema documents p status left left_now reads reads_now held held_now puts puts_now given is most within at_end kind w refusals = record {
   taken = given;
   ended = true;
@@ -198,7 +194,7 @@ abbrev pub IsCompiled : Status → Type 0 → Type 0
 IsCompiled status sink = (status ≡ Done) ⊎ (((status ≡ WriteFault) × sink) ⊎ (status ≡ NoMemory))
 
 -- the artifact lines are put, as far as they are
-module _ (schema : Text) (documents : List Text) (defs : Defs) (ps : List (Placed Document)) (status : Status) (sink : Type 0) (kind : IsCompiled status sink) where
+module _ (schema : Text) (documents : List Text) (p : Project) (status : Status) (sink : Type 0) (kind : IsCompiled status sink) where
   pub compiled_answers : AnsweringBy (compile schema documents) status ⊥ sink
   compiled_answers = elim kind [ inl d ↦ inl (subst IsDone (sym d) tt) | inr f ↦ inr f ]
 
@@ -216,8 +212,8 @@ module _ (schema : Text) (documents : List Text) (defs : Defs) (ps : List (Place
 
   pub ran_compiled : (left : Option Text) (reads : ℕ) (held held_now : Option Text) (puts puts_now : ℕ)
       → (added : Text) × (held_now ≡ append held added) × (puts_now ≤ puts + length added + 1) × ((status ≡ WriteFault) ⊎ EndsLine added)
-      × (more : Text) × (added ++ more ≡ artifacts_text defs ps) × (status ≡ Done → more ≡ [])
-      → Ran (compile schema documents) (accepted (projects.whole defs ps)) status left left reads reads held held_now puts puts_now
+      × (more : Text) × (added ++ more ≡ artifacts_text p.defs p.documents) × (status ≡ Done → more ≡ [])
+      → Ran (compile schema documents) (accepted p) status left left reads reads held held_now puts puts_now
   ran_compiled left reads held held_now puts puts_now w = record {
     taken = [];
     ended = false;

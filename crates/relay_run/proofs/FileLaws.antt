@@ -5,7 +5,7 @@ use Rattle.std.proofs.lemmas.Bool.{leb-true, le-leb}
 use Rattle.std.proofs.lemmas.List.{length_push}
 use Rattle.plan_project.specs.Verdicts as plan
 use Rattle.relay_io.specs.Files.{file_of, GivesFile, IsAbsent, IsTooLong}
-use Rattle.relay_plain.specs.Keys.{Text}
+use Rattle.schema_tables.specs.Types.{Text}
 use Rattle.relay_run.specs.Files.{Files, Contents, absent, too_long, readable, within, take_file, documents_from, contents_under, max_file, max_all}
 use Rattle.relay_run.specs.Reads.{GivesDocuments, GivesFiles, IsDocumentAbsent, GoesOn, IsFileClosedBy, AreClosedBy, Hold, AreRead, IsFirstAbsentUnder, AreUnreadBy}
 use Rattle.relay_run.specs.declared.files.Closed.{Closed}
@@ -64,7 +64,6 @@ closed_here files left names before left_now name rest C.Unread rose later h x u
 ]
 closed_here files left names before left_now name rest (C.TooLong other) rose later h x up = over_here files left names before left_now name other.now rest h x.0 x.1
 closed_here files left names before left_now name rest (C.Fault f) rose later h x up = x
-closed_here files left names before left_now name rest (C.NotTaken n) rose later h x up = x
 closed_here files left names before left_now name rest C.NoMemory rose later h x up = tt
 
 -- ---- the names in a slice
@@ -161,7 +160,6 @@ module _ (name : Text) (names : List Text) where
   schema_closed files C.Unread rose x = elim x [ inl r ↦ inl r | inr a ↦ inr (absent_schema files a) ]
   schema_closed files (C.TooLong other) rose x = over_schema files other.now x.0 x.1
   schema_closed files (C.Fault f) rose x = x
-  schema_closed files (C.NotTaken n) rose x = x
   schema_closed files C.NoMemory rose x = tt
 
   -- the schema was read, and then the documents are
@@ -183,7 +181,6 @@ module _ (name : Text) (names : List Text) where
     closed_then files C.Unread rose later e h x up = elim x [ inl r ↦ inl (up r) | inr a ↦ inr (absent_documents files e h a) ]
     closed_then files (C.TooLong other) rose later e h x up = held_documents files (λ s. too_long other.now) e h x
     closed_then files (C.Fault f) rose later e h x up = x
-    closed_then files (C.NotTaken n) rose later e h x up = x
     closed_then files C.NoMemory rose later e h x up = tt
 
     pub documents_closed : (files fs : Option Files) (closed : Closed) (rose later : Type 0) → fs ≡ files → GivesFile files name schema.1 × (length schema.1 ≤ min max_file max_all)

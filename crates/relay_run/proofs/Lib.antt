@@ -4,17 +4,6 @@ pub mod FirstLine
 pub mod Written
 pub mod Courses
 pub mod Owed
-pub mod Storing
-pub mod LineLaws
-pub mod Saying
-pub mod Objects
-pub mod ReadingLaws
-pub mod PrintingLaws
-pub mod EngineLaws
-pub mod Truths
-pub mod PlainFields
-pub mod PlainDocuments
-pub mod ProjectLaws
 pub mod FileLaws
 pub mod Opening
 pub mod ArtifactLines

@@ -4,12 +4,11 @@ use Rattle.std.specs.Io.KnownBytes.{IsAtEnd}
 use Rattle.std.proofs.lemmas.Bool.{cases_eq}
 use Rattle.std.proofs.lemmas.List.{append-nil, take_all}
 use Rattle.relay_io.specs.Streams.{append, prepend}
-use Rattle.relay_plain.specs.Keys.{Text}
-use Rattle.relay_plain.specs.Printed.{project_fault}
+use Rattle.schema_tables.specs.Types.{Text}
+use Rattle.relay_machine.specs.Machine.{Project}
+use Rattle.relay_machine.specs.Printed.{project_fault}
 use Rattle.relay_run.specs.Answers.{Course, unknown, refused, accepted, IsCourse, IsTheProjectOf, IsTheFaultOf, Answering, AnsweringBy, IsCall, Ran, Took, output_of, has_refusal_in, due, refuses, left_over, IsReadWhole, IsReadBy, IsEndedFor, IsScriptFor, IsUntouched}
 use Rattle.relay_run.specs.Files.{Files, Contents, absent, contents_of, IsProject, IsFault, IsFirstAbsent}
-use Rattle.relay_run.specs.FormProjects as projects
-use Rattle.relay_run.specs.FormProjects.{Project}
 use Rattle.relay_run.specs.Output.{max_script, output_text}
 use Rattle.relay_run.specs.Statuses.{IsDone}
 use Rattle.relay_run.specs.Words.{Form, run, compile}
@@ -28,8 +27,8 @@ given_within bytes taken None is = absurd (cc)
 given_within bytes taken (Some xs) is =
     let joined : bytes ≡ taken ++ xs = cc in omega (arith, ap length joined, length-append taken xs)
 
-no_course : (form : Form) (given : Contents) (project : Project) → given ≡ absent → IsProject form given project → ⊥
-no_course form given project e is = let P : Contents → Type 0 = λ x. IsProject form x project in subst P e is
+no_course : (given : Contents) (project : Project) → given ≡ absent → IsProject given project → ⊥
+no_course given project e is = let P : Contents → Type 0 = λ x. IsProject x project in subst P e is
 
 no_faults : (form : Form) (given : Contents) (file : Text) (line column : ℕ) (rule : Text) → given ≡ absent → IsFault form given file line column rule → ⊥
 no_faults form given file line column rule e is = let P : Contents → Type 0 = λ x. IsFault form x file line column rule in subst P e is
@@ -41,11 +40,9 @@ read_whole (compile schema documents) taken after ended read end done within = r
 
 -- what was written is what is written of all of it
 written_whole : (form : Form) (p : Project) (taken : Text) (ended : Bool) → IsEndedFor form ended → length taken ≤ max_script → output_of form p (take max_script taken) ended ≡ output_of form p taken true
-written_whole (run buffer schema documents) (projects.plain p) taken ended done within =
+written_whole (run buffer schema documents) p taken ended done within =
     ap (λ e. output_text p buffer (take max_script taken) e) done ∙ ap (λ t. output_text p buffer t true) (take_all max_script taken within)
-written_whole (run buffer schema documents) (projects.whole defs ps) taken ended done within = refl
-written_whole (compile schema documents) (projects.plain p) taken ended done within = refl
-written_whole (compile schema documents) (projects.whole defs ps) taken ended done within = refl
+written_whole (compile schema documents) p taken ended done within = refl
 
 -- what was read of a script that is told: what the form leaves of it is left, and all of it would give no more
 abbrev AreAll : Form → Project → (bytes taken : Text) → (after : Option Text) → Type 0
@@ -59,8 +56,7 @@ all_read : (form : Form) (p : Project) (bytes taken : Text) (after : Option Text
 all_read (run buffer schema documents) p bytes taken after is read =
     let all = all_given bytes taken after is read.0 in
     (all.0, ap (λ t. output_of (run buffer schema documents) p t true) all.1, ap (λ t. has_refusal_in (run buffer schema documents) p t) all.1)
-all_read (compile schema documents) (projects.plain p) bytes taken after is read = (none_read bytes taken after is read, refl, refl)
-all_read (compile schema documents) (projects.whole defs ps) bytes taken after is read = (none_read bytes taken after is read, refl, refl)
+all_read (compile schema documents) p bytes taken after is read = (none_read bytes taken after is read, refl, refl)
 
 -- no more than a script may have is read of one that is not too long
 short_enough : (form : Form) (bytes taken : Text) (after : Option Text) → IsScriptFor form bytes → Some bytes ≡ prepend taken after → IsReadBy form taken → length taken ≤ max_script
@@ -137,7 +133,7 @@ module _ (status : Status) (script sink : Type 0) (left left_now : Option Text) 
 
   done_in : (files : Files) (form : Form) (vault : Type 0) (project : Project) (bytes : Text) (course : Course) → IsCourse (Some files) form course
       → Answering form course status (vault ⊎ IsFirstAbsent (Some files) form) script sink → Ran form course status left left_now reads reads_now held held_now puts puts_now
-      → IsProject form (contents_of form files) project → left ≡ Some bytes → IsDone status → IsDoneOf form project bytes
+      → IsProject (contents_of form files) project → left ≡ Some bytes → IsDone status → IsDoneOf form project bytes
   done_in files form vault project bytes unknown is answering r has told done = absurd (elim answering [
     | inl e ↦ let d : ⊥ = subst IsDone e.0 done in d
     | inr e ↦ let d : ⊥ = subst IsDone e done in d
@@ -148,7 +144,7 @@ module _ (status : Status) (script sink : Type 0) (left left_now : Option Text) 
       subst P (sym (is.1 project has)) (done_of form p bytes told r done)
 
   pub owed_done : (files : Files) (form : Form) (vault : Type 0) (project : Project) (bytes : Text) → Called (Some files) form vault
-      → IsProject form (contents_of form files) project → left ≡ Some bytes → IsDone status
+      → IsProject (contents_of form files) project → left ≡ Some bytes → IsDone status
       → (left_now ≡ Some (left_over form bytes)) × (held_now ≡ append held (due form (accepted project) bytes true)) × ((status ≡ DoneWithRefusals) ↔ IsTrue (refuses form (accepted project) bytes))
   owed_done files form vault project bytes w has told done = done_in files form vault project bytes w.0 w.1 w.2 w.3 has told done
 
@@ -157,9 +153,9 @@ module _ (status : Status) (script sink : Type 0) (left left_now : Option Text) 
 
   complete_in : (files : Files) (form : Form) (vault : Type 0) (project : Project) (bytes : Text) (course : Course) → IsCourse (Some files) form course
       → Answering form course status (vault ⊎ IsFirstAbsent (Some files) form) script sink → Ran form course status left left_now reads reads_now held held_now puts puts_now
-      → IsProject form (contents_of form files) project → left ≡ Some bytes → IsScriptFor form bytes → (vault → ⊥) → (script → ⊥) → (sink → ⊥) → IsComplete form project bytes
+      → IsProject (contents_of form files) project → left ≡ Some bytes → IsScriptFor form bytes → (vault → ⊥) → (script → ⊥) → (sink → ⊥) → IsComplete form project bytes
   complete_in files form vault project bytes unknown is answering r has told within a b c = elim answering [
-    | inl e ↦ absurd (elim e.1 [ inl v ↦ a v | inr none ↦ no_course form (contents_of form files) project none has ])
+    | inl e ↦ absurd (elim e.1 [ inl v ↦ a v | inr none ↦ no_course (contents_of form files) project none has ])
     | inr e ↦ inl e
   ]
   complete_in files form vault project bytes (refused f l k g) is answering r has told within a b c = absurd (is.2 project has)
@@ -180,7 +176,7 @@ module _ (status : Status) (script sink : Type 0) (left left_now : Option Text) 
   ]
 
   pub owed_complete : (files : Files) (form : Form) (vault : Type 0) (project : Project) (bytes : Text) → Called (Some files) form vault
-      → IsProject form (contents_of form files) project → left ≡ Some bytes → IsScriptFor form bytes → (vault → ⊥) → (script → ⊥) → (sink → ⊥) → IsComplete form project bytes
+      → IsProject (contents_of form files) project → left ≡ Some bytes → IsScriptFor form bytes → (vault → ⊥) → (script → ⊥) → (sink → ⊥) → IsComplete form project bytes
   owed_complete files form vault project bytes w has told within a b c = complete_in files form vault project bytes w.0 w.1 w.2 w.3 has told within a b c
 
   abbrev IsFaulty : (file : Text) → (line column : ℕ) → (rule : Text) → Type 0 → Type 0

@@ -2,11 +2,10 @@
 use Rattle.std.specs.Prelude.{◌≡◌, ◌⊎◌, ◌↔◌, ℕ, ◌+◌, ◌≤◌, [], ◌∷◌, ◌++◌, length, take, Bool, false, Option, Some, None, Result, Ok, Err, Vec, ⊤, IsTrue, IsFalse}
 use Rattle.std.specs.Io.KnownBytes.{IsAtEnd}
 use Rattle.relay_io.specs.Streams.{append, prepend}
-use Rattle.relay_plain.specs.Keys.{Text}
-use Rattle.relay_plain.specs.Printed.{project_fault}
+use Rattle.schema_tables.specs.Types.{Text}
+use Rattle.relay_machine.specs.Machine.{Project}
+use Rattle.relay_machine.specs.Printed.{project_fault}
 use Rattle.relay_run.specs.Files.{Files, contents_of, IsProject, IsFault, IsFirstAbsent}
-use Rattle.relay_run.specs.FormProjects as projects
-use Rattle.relay_run.specs.FormProjects.{Project}
 use Rattle.relay_run.specs.Output.{max_script, output_text, has_refusal, artifacts_text}
 use Rattle.relay_run.specs.Statuses.{IsDone}
 use Rattle.relay_run.specs.Words.{Form, run, compile}
@@ -21,7 +20,7 @@ use Rattle.relay_run.specs.declared.status.Status.TheVariants.{DoneWithRefusals,
 abbrev pub IsTheProjectOf : Option Files → Form → Project → Type 0
 IsTheProjectOf None form project = ⊤
 IsTheProjectOf (Some files) form project =
-    IsProject form (contents_of form files) project × ((other : Project) → IsProject form (contents_of form files) other → other ≡ project)
+    IsProject (contents_of form files) project × ((other : Project) → IsProject (contents_of form files) other → other ≡ project)
     × ((file : Text) (line column : ℕ) (rule : Text) → IsFault form (contents_of form files) file line column rule → ⊥)
 
 -- the fault of the files, where they are told: they have this one and no other, and are no project
@@ -30,7 +29,7 @@ IsTheFaultOf None form file line column rule = ⊤
 IsTheFaultOf (Some files) form file line column rule =
     IsFault form (contents_of form files) file line column rule
     × ((f : Text) (l c : ℕ) (r : Text) → IsFault form (contents_of form files) f l c r → ◌≡◌ {A = Text × ℕ × ℕ × Text} (f, l, c, r) (file, line, column, rule))
-    × ((project : Project) → IsProject form (contents_of form files) project → ⊥)
+    × ((project : Project) → IsProject (contents_of form files) project → ⊥)
 
 -- ---- the script
 
@@ -65,10 +64,8 @@ IsCourse files form (accepted project) = IsTheProjectOf files form project
 
 -- what a form writes for an accepted project, where the script gave these bytes and has ended or not
 abbrev pub output_of : Form → Project → Text → Bool → Text
-output_of (run buffer schema documents) (projects.plain project) taken ended = output_text project buffer taken ended
-output_of (run buffer schema documents) (projects.whole defs ps) taken ended = []
-output_of (compile schema documents) (projects.plain project) taken ended = []
-output_of (compile schema documents) (projects.whole defs ps) taken ended = artifacts_text defs ps
+output_of (run buffer schema documents) project taken ended = output_text project buffer taken ended
+output_of (compile schema documents) project taken ended = artifacts_text project.defs project.documents
 
 -- what is due of a form where the script gave these bytes and has ended or not
 abbrev pub due : Form → Course → Text → Bool → Text
@@ -78,8 +75,7 @@ due form (accepted project) taken ended = output_of form project taken ended
 
 -- whether a form refuses, for an accepted project, one of the lines of these bytes
 abbrev pub has_refusal_in : Form → Project → Text → Bool
-has_refusal_in (run buffer schema documents) (projects.plain project) taken = has_refusal project buffer taken
-has_refusal_in (run buffer schema documents) (projects.whole defs ps) taken = false
+has_refusal_in (run buffer schema documents) project taken = has_refusal project buffer taken
 has_refusal_in (compile schema documents) project taken = false
 
 -- the same in a course

@@ -1,12 +1,12 @@
 -- What the files that the words name hold, and what is at fault in them.
-use Rattle.std.specs.Prelude.{◌≡◌, ◌⊎◌, ℕ, ◌-◌, ◌^◌, List, [], ◌∷◌, ◌++◌, length, min, codes, cond, nat_le, slice_index_or, Option, Some, None}
+use Rattle.std.specs.Prelude.{◌≡◌, ℕ, ◌-◌, ◌^◌, List, [], ◌∷◌, ◌++◌, length, min, codes, cond, nat_le, slice_index_or, Option, Some, None}
 use Rattle.plan_project.specs.Projects.{IsFirstFault}
 use Rattle.relay_io.specs.Files.{file_of}
-use Rattle.relay_plain.specs.Keys.{Text}
-use Rattle.relay_run.specs.FormProjects.{Project, IsProjectOf}
-use Rattle.relay_run.specs.Projects.{IsNotTaken}
+use Rattle.schema_tables.specs.Types.{Text}
+use Rattle.relay_machine.specs.Machine.{Project}
+use Rattle.relay_run.specs.Projects.{IsProjectOf}
 use Rattle.relay_run.specs.Rules.{rule_text}
-use Rattle.relay_run.specs.Words.{Form, run, compile, file_names}
+use Rattle.relay_run.specs.Words.{Form, file_names}
 use Rattle.plan_project.specs.declared.fault.ProjectFault.{ProjectFault}
 
 abbrev pub Files : Type 0
@@ -55,11 +55,11 @@ abbrev pub IsFirstAbsent : Option Files → Form → Type 0
 IsFirstAbsent None form = ⊥
 IsFirstAbsent (Some files) form = contents_of form files ≡ absent
 
--- the project that the files of a form are
-abbrev pub IsProject : Form → Contents → Project → Type 0
-IsProject form absent project = ⊥
-IsProject form (too_long file) project = ⊥
-IsProject form (readable schema texts) project = IsProjectOf form schema texts project
+-- the project that the files are
+abbrev pub IsProject : Contents → Project → Type 0
+IsProject absent project = ⊥
+IsProject (too_long file) project = ⊥
+IsProject (readable schema texts) project = IsProjectOf schema texts project
 
 -- the name of a file by its number: the schema is 0, documents are numbered from 1
 abbrev pub name_under : (names : List Text) → ℕ → Text
@@ -68,7 +68,7 @@ name_under names n = slice_index_or names n []
 abbrev pub name_of : Form → ℕ → Text
 name_of form n = name_under (file_names form) n
 
--- a rule is not met at a place of a file; the first that is told of a text, else of the schema, else of the documents
+-- a rule is not met at a place of a file, by its number; the first that is told of a text, else of the schema, else of the documents
 pub record BreaksRule (schema : Text) (texts : List Text) (n line column : ℕ) (rule : Text) : Type 0 where
   pub fault : ProjectFault
   pub first : IsFirstFault schema texts fault
@@ -77,24 +77,8 @@ pub record BreaksRule (schema : Text) (texts : List Text) (n line column : ℕ) 
   pub column_is : column ≡ fault.column
   pub rule_is : rule ≡ rule_text fault.rule
 
--- a document is of no form that is taken, which is told at its beginning
-pub record IsOfNoForm (schema : Text) (texts : List Text) (n line column : ℕ) (rule : Text) : Type 0 where
-  pub first : IsNotTaken schema texts n
-  pub line_is : line ≡ 1
-  pub column_is : column ≡ 1
-  pub rule_is : rule ≡ codes "N1"
-
--- the fault of these texts where a script is run, by the number of the file
-abbrev pub IsRunFault : (schema : Text) → (texts : List Text) → (n line column : ℕ) → (rule : Text) → Type 0
-IsRunFault schema texts n line column rule = BreaksRule schema texts n line column rule ⊎ IsOfNoForm schema texts n line column rule
-
--- the fault of these texts under a form: to compile them, the rules alone count
-abbrev pub IsFaultIn : Form → (schema : Text) → (texts : List Text) → (n line column : ℕ) → (rule : Text) → Type 0
-IsFaultIn (run buffer name names) schema texts n line column rule = IsRunFault schema texts n line column rule
-IsFaultIn (compile name names) schema texts n line column rule = BreaksRule schema texts n line column rule
-
 -- the fault of the project: the name of the file, the line and the column in it, and the rule
 abbrev pub IsFault : Form → Contents → (file : Text) → (line column : ℕ) → (rule : Text) → Type 0
 IsFault form absent file line column rule = ⊥
 IsFault form (too_long name) file line column rule = (file ≡ name) × (line ≡ 1) × (column ≡ 1) × (rule ≡ codes "F1")
-IsFault form (readable schema texts) file line column rule = (n : ℕ) × (file ≡ name_of form n) × IsFaultIn form schema texts n line column rule
+IsFault form (readable schema texts) file line column rule = (n : ℕ) × (file ≡ name_of form n) × BreaksRule schema texts n line column rule

@@ -5,9 +5,9 @@ use Rattle.gql_ast.specs.declared.place.Placed.{Placed}
 use Rattle.gql_graph.specs.Rules.{each}
 use Rattle.plan_project.specs.Expansions.{artifact_lines}
 use Rattle.relay_io.specs.Streams.{append}
-use Rattle.relay_plain.specs.Keys.{Text}
-use Rattle.relay_plain.specs.Machine as machine
-use Rattle.relay_plain.specs.Script.{lines_of, cut}
+use Rattle.schema_tables.specs.Types.{Text}
+use Rattle.relay_machine.specs.Machine as machine
+use Rattle.relay_machine.specs.Script.{lines_of, cut}
 use Rattle.schema_tables.specs.Types.{Defs}
 
 -- a script has at most 1 GiB

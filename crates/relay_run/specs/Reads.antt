@@ -2,13 +2,13 @@
 use Rattle.std.specs.Prelude.{◌≡◌, ◌⊎◌, ℕ, ◌+◌, ◌-◌, List, [], ◌∷◌, length, min, codes, Option, Some, None, ⊤}
 use Rattle.plan_project.specs.Verdicts as plan
 use Rattle.relay_io.specs.Files.{IsAbsent, IsTooLong}
-use Rattle.relay_plain.specs.Keys.{Text}
+use Rattle.schema_tables.specs.Types.{Text}
 use Rattle.relay_run.specs.Answers.{IsTheFaultOf}
 use Rattle.relay_run.specs.Files.{Files, Contents, absent, too_long, readable, contents_under, documents_from, max_all, max_file, name_of, IsFirstAbsent}
 use Rattle.relay_run.specs.Rules.{rule_text}
 use Rattle.relay_run.specs.Words.{Form}
 use Rattle.relay_run.specs.declared.files.Closed.{Closed}
-use Rattle.relay_run.specs.declared.files.Closed.TheVariants.{Unread, TooLong, Fault, NotTaken, NoMemory}
+use Rattle.relay_run.specs.declared.files.Closed.TheVariants.{Unread, TooLong, Fault, NoMemory}
 
 -- the documents of these names, where files are told and so many bytes are left, are given so, whatever the schema is
 abbrev pub GivesDocuments : Option Files → (left : ℕ) → (names : List Text) → ((schema : Text) → Contents) → Type 0
@@ -37,7 +37,6 @@ abbrev pub IsFileClosedBy : Option Files → (left : ℕ) → (name : Text) → 
 IsFileClosedBy files left name Unread rose = rose ⊎ IsAbsent files name
 IsFileClosedBy files left name (TooLong other) rose = (other.now ≡ name) × IsTooLong files name (min max_file left)
 IsFileClosedBy files left name (Fault f) rose = ⊥
-IsFileClosedBy files left name (NotTaken n) rose = ⊥
 IsFileClosedBy files left name NoMemory rose = ⊤
 
 -- why documents are not read
@@ -45,7 +44,6 @@ abbrev pub AreClosedBy : Option Files → (left : ℕ) → (names : List Text) �
 AreClosedBy files left names Unread rose = rose ⊎ IsDocumentAbsent files left names
 AreClosedBy files left names (TooLong name) rose = GivesDocuments files left names (λ schema. too_long name.now)
 AreClosedBy files left names (Fault f) rose = ⊥
-AreClosedBy files left names (NotTaken n) rose = ⊥
 AreClosedBy files left names NoMemory rose = ⊤
 
 -- ---- all files
@@ -71,7 +69,6 @@ abbrev pub AreUnreadBy : Option Files → (names : List Text) → Closed → (ro
 AreUnreadBy files names Unread rose = rose ⊎ IsFirstAbsentUnder files names
 AreUnreadBy files names (TooLong name) rose = Hold files names (too_long name.now)
 AreUnreadBy files names (Fault f) rose = ⊥
-AreUnreadBy files names (NotTaken n) rose = ⊥
 AreUnreadBy files names NoMemory rose = ⊤
 
 -- why there is no project
@@ -79,5 +76,4 @@ abbrev pub IsClosedBy : Option Files → Form → Closed → (rose : Type 0) →
 IsClosedBy files form Unread rose = rose ⊎ IsFirstAbsent files form
 IsClosedBy files form (TooLong name) rose = IsTheFaultOf files form name.now 1 1 (codes "F1")
 IsClosedBy files form (Fault f) rose = IsTheFaultOf files form (name_of form f.file) f.line f.column (rule_text f.rule)
-IsClosedBy files form (NotTaken n) rose = IsTheFaultOf files form (name_of form n) 1 1 (codes "N1")
 IsClosedBy files form NoMemory rose = ⊤

@@ -1,6 +1,6 @@
 -- The names of rules, as they are printed.
 use Rattle.std.specs.Prelude.{codes}
-use Rattle.relay_plain.specs.Keys.{Text}
+use Rattle.schema_tables.specs.Types.{Text}
 use Rattle.schema_rules.specs.declared.fault.Rule.{Rule}
 use Rattle.schema_rules.specs.declared.fault.Rule.TheVariants as R
 

@@ -1,18 +1,17 @@
-//! Reading the files of the project.
-ghost use Rattle.std.specs.Prelude.{◌≡◌, ◌≤◌, ◌+◌, ◌-◌, ◌∷◌, ℕ, map, min, length, IfOk, IfErr};
+//! The project of files.
+ghost use Rattle.std.specs.Prelude.{◌≡◌, ◌≤◌, ◌+◌, ◌-◌, ◌∷◌, map, min, length, IfOk, IfErr};
 ghost use Rattle.gql_plain.specs.Counted.{next_count};
 ghost use Rattle.relay_io.specs.Causes.{Rose};
 ghost use Rattle.relay_io.specs.Files.{GivesFile};
 ghost use Rattle.relay_run.specs.Answers.{IsTheProjectOf};
 ghost use Rattle.relay_run.specs.Files.{max_all, max_file, name_under};
-ghost use Rattle.relay_run.specs.FormProjects as projects;
+ghost use Rattle.relay_run.specs.Projects.{project_shown};
 ghost use Rattle.relay_run.specs.Reads.{AreRead, AreUnreadBy, GivesFiles, IsClosedBy, AreClosedBy, IsFileClosedBy};
-ghost use Rattle.relay_run.specs.Shown.{project_shown};
-ghost use Rattle.relay_run.specs.Words.{max_documents, run};
+ghost use Rattle.relay_run.specs.Words as forms;
+ghost use Rattle.relay_run.specs.Words.{file_names, max_documents};
 
-use crate::interim::project::{Project, ProjectRefusal, read_project};
 use gql_plain::{NoMemory, Words};
-use plan_project::{ProjectFault, ProjectFile};
+use plan_project::{CompileFault, Project, ProjectFault, ProjectFile, compile};
 use relay_io::{Vault, VaultFault};
 use std::alloc::Global;
 
@@ -31,12 +30,10 @@ pub enum Closed<'a> {
     TooLong(&'a str),
     /// The project does not meet a rule.
     Fault(ProjectFault),
-    /// The document of this number, from 1, is of no form that is taken.
-    NotTaken(u32),
     NoMemory,
 }
 
-/// The project of the files of these names that a script is run against.
+/// The project of the files of these names.
 pub fn open_project<'a, V: Vault>(
     alloc: Global,
     vault: &mut V,
@@ -46,9 +43,10 @@ pub fn open_project<'a, V: Vault>(
     requires least { 1 ≤ length documents.now }
     requires most { length documents.now ≤ max_documents }
     ensures same { V.files vault.new ≡ V.files vault.old }
-    ensures project { IfOk result (λ p. (buffer : ℕ) → IsTheProjectOf (V.files vault.old) (run buffer schema.now (map (λ w. w.now) documents.now)) (projects.plain (project_shown p))) }
-    ensures closed { IfErr result (λ closed. (buffer : ℕ) → IsClosedBy (V.files vault.old) (run buffer schema.now (map (λ w. w.now) documents.now)) closed
-        (Rose (V.faults vault.old) (V.faults vault.new))) }
+    ensures project { IfOk result (λ p. (form : forms.Form) → file_names form ≡ schema.now ∷ map (λ w. w.now) documents.now
+        → IsTheProjectOf (V.files vault.old) form (project_shown p)) }
+    ensures closed { IfErr result (λ closed. (form : forms.Form) → file_names form ≡ schema.now ∷ map (λ w. w.now) documents.now
+        → IsClosedBy (V.files vault.old) form closed (Rose (V.faults vault.old) (V.faults vault.new))) }
     ensures later { V.faults vault.old ≤ V.faults vault.new }
     ensures calls { V.calls vault.new ≤ V.calls vault.old + (length documents.now + 1) }
 {
@@ -56,16 +54,15 @@ pub fn open_project<'a, V: Vault>(
         Ok(files) => files,
         Err(closed) => return Err(closed),
     };
-    match read_project(alloc, &files) {
+    match compile(alloc, &files) {
         Ok(project) => Ok(project),
-        Err(ProjectRefusal::Fault(fault)) => Err(Closed::Fault(fault)),
-        Err(ProjectRefusal::NotTaken(file)) => Err(Closed::NotTaken(file)),
-        Err(ProjectRefusal::NoMemory) => Err(Closed::NoMemory),
+        Err(CompileFault::Refused(fault)) => Err(Closed::Fault(fault)),
+        Err(CompileFault::NoMemory) => Err(Closed::NoMemory),
     }
 }
 
 /// The schema and the documents of these names, which are read in this order.
-pub fn read_files<'a, V: Vault>(
+fn read_files<'a, V: Vault>(
     alloc: Global,
     vault: &mut V,
     schema: &'a str,

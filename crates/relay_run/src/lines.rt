@@ -1,33 +1,26 @@
 //! Answering the lines of a script.
-ghost use Rattle.std.specs.Prelude.{◌≡◌, ◌⊎◌, ◌↔◌, ◌≤◌, ◌<◌, ◌+◌, ◌^◌, ◌++◌, ◌∷◌, ◌==◌, [], ℕ, List, true, length, take, IfOk, IfErr, OnErr, IsTrue};
+ghost use Rattle.std.specs.Prelude.{◌≡◌, ◌⊎◌, ◌↔◌, ◌≤◌, ◌<◌, ◌+◌, ◌^◌, ◌++◌, ◌∷◌, ◌==◌, [], ℕ, List, true, length, take, IfOk, IfErr, IsTrue};
 ghost use Rattle.std.specs.List.{position};
+ghost use Rattle.gql_plain.specs.Limits.{max_line};
+ghost use Rattle.relay_engine.specs.Stands.{StandsFor};
 ghost use Rattle.relay_io.specs.Causes.{Rose};
 ghost use Rattle.relay_io.specs.Streams.{append};
-ghost use Rattle.gql_plain.specs.Limits.{max_line};
-ghost use Rattle.relay_plain.specs.Machine as machine;
-ghost use Rattle.relay_plain.specs.Machine.{State};
-ghost use Rattle.relay_plain.specs.Script.{lines_of};
+ghost use Rattle.relay_machine.specs.Machine as machine;
+ghost use Rattle.relay_machine.specs.Machine.{State};
+ghost use Rattle.relay_machine.specs.Script.{lines_of};
 ghost use Rattle.relay_run.specs.Answers.{EndsLine};
 ghost use Rattle.relay_run.specs.Output.{max_script, output_text, has_refusal};
+ghost use Rattle.relay_run.specs.Projects.{project_shown};
 ghost use Rattle.relay_run.specs.Statuses.{IsDone};
-ghost use Rattle.relay_run.specs.Shown.{project_shown};
-ghost use Rattle.relay_run.specs.Stands.{StandsFor};
 
-use crate::interim::engine::Engine;
-use crate::interim::project::Project;
-use crate::put::put_all;
+use crate::put::{Stop, put_lines};
 use crate::status::Status;
-use gql_plain::MAX_LINE;
+use gql_plain::{Counts, MAX_LINE};
+use plan_project::Project;
+use relay_engine::Engine;
 use relay_io::Sink;
 use std::alloc::Global;
-
-/// Why the answering stops before the last line.
-#[derive(Clone, Copy, Debug, Drop)]
-pub enum Stop {
-    /// An answer could not be written whole.
-    WriteFault,
-    NoMemory,
-}
+use store_source::Versions;
 
 /// Answers the lines of a script one after the other, and puts each answer as one piece.
 pub fn answer_lines<K: Sink>(
@@ -36,8 +29,11 @@ pub fn answer_lines<K: Sink>(
     buffer: u64,
     script: &[u8],
     out: &mut K,
+    steps: &mut Counts,
 ) -> Status
-    requires { length script.now ≤ max_script }
+    requires least { 1 ≤ buffer }
+    requires most { buffer ≤ 100 }
+    requires within { length script.now ≤ max_script }
     ensures added { (added : List ℕ) × (K.contents out.new ≡ append (K.contents out.old) added)
         × (K.calls out.new ≤ K.calls out.old + length added + 1)
         × ((result ≡ Status.WriteFault) ⊎ EndsLine added)
@@ -47,13 +43,15 @@ pub fn answer_lines<K: Sink>(
     ensures write_fault { result ≡ Status.WriteFault → Rose (K.faults out.old) (K.faults out.new) }
     ensures later { K.faults out.old ≤ K.faults out.new }
 {
-    let mut engine = Engine::new(alloc, project, buffer);
+    let Ok(mut engine) = Engine::new(alloc, project, buffer, Versions::new(alloc)) else {
+        return Status::NoMemory;
+    };
     let mut rest = script;
     let mut n = 1;
     let mut refused = false;
     'lines: while !rest.is_empty() {
         let (line, after) = first_line(rest);
-        match answer_line(alloc, &mut engine, line, n, out) {
+        match answer_line(alloc, &mut engine, line, n, out, steps) {
             Ok(line_refused) => refused |= line_refused,
             Err(Stop::WriteFault) => return Status::WriteFault,
             Err(Stop::NoMemory) => return Status::NoMemory,
@@ -71,15 +69,16 @@ pub fn answer_lines<K: Sink>(
 /// Answers the line with the number `n`, and tells whether it was refused.
 fn answer_line<K: Sink>(
     alloc: Global,
-    engine: &mut Engine,
+    engine: &mut Engine<Versions>,
     line: &[u8],
     n: u64,
     out: &mut K,
+    steps: &mut Counts,
 ) -> Result<bool, Stop>
     requires { n < 2 ^ 63 }
     ensures ok { IfOk result (λ refused. (p : machine.Project) (s : State) → StandsFor engine.old p s
         → let step = machine.step p s n (take (max_line + 1) line.now) in
-        (refused ≡ step.refused) × StandsFor engine.new p step.state
+        (refused ≡ step.refused) × StandsFor engine.new p step.state × EndsLine step.text
         × (K.contents out.new ≡ append (K.contents out.old) step.text) × (K.calls out.new ≤ K.calls out.old + length step.text)) }
     ensures err { IfErr result (λ stop. (p : machine.Project) (s : State) → StandsFor engine.old p s
         → let step = machine.step p s n (take (max_line + 1) line.now) in
@@ -88,13 +87,13 @@ fn answer_line<K: Sink>(
     ensures write_fault { result ≡ Err Stop.WriteFault → Rose (K.faults out.old) (K.faults out.new) }
     ensures later { K.faults out.old ≤ K.faults out.new }
 {
-    let Ok(answer) = engine.step(alloc, cut(line), n) else {
+    let Ok(lines) = engine.step(cut(line), n, steps) else {
         return Err(Stop::NoMemory);
     };
-    let Ok(()) = put_all(out, answer.text.as_str().as_bytes()) else {
-        return Err(Stop::WriteFault);
-    };
-    Ok(answer.refused)
+    match put_lines(alloc, &lines.texts, out) {
+        Ok(()) => Ok(lines.refused),
+        Err(stop) => Err(stop),
+    }
 }
 
 /// As much of a line as is looked at: of one that is too long, a byte more than the most.

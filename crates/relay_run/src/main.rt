@@ -5,12 +5,9 @@ ghost use Rattle.std.specs.Prelude.{◌≡◌, ◌⊎◌, IfErr};
 
 mod compiling;
 mod files;
-mod interim;
 mod lines;
-mod printed;
 mod project_fault;
 mod put;
-mod refusal;
 mod rules;
 mod script;
 mod status;

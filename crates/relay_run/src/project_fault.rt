@@ -2,13 +2,13 @@
 ghost use Rattle.std.specs.Prelude.{◌≡◌, ◌⊎◌, ◌≤◌, ◌+◌, ◌++◌, [], ℕ, List, length};
 ghost use Rattle.relay_io.specs.Causes.{Rose};
 ghost use Rattle.relay_io.specs.Streams.{append};
-ghost use Rattle.relay_plain.specs.Printed.{project_fault};
+ghost use Rattle.relay_machine.specs.Printed.{project_fault};
 ghost use Rattle.relay_run.specs.Answers.{EndsLine};
 
-use crate::printed::fault_line;
-use crate::put::put_all;
+use crate::put::{Stop, put_line};
 use crate::status::Status;
 use relay_io::Sink;
+use relay_lines::fault_line;
 use std::alloc::Global;
 
 /// Puts the line of a project that is refused: the file at fault with the line and the column, and
@@ -30,8 +30,9 @@ pub fn refuse<K: Sink>(
     let Ok(text) = fault_line(alloc, file, line, column, rule) else {
         return Status::NoMemory;
     };
-    let Ok(()) = put_all(out, text.as_str().as_bytes()) else {
-        return Status::WriteFault;
-    };
-    Status::ProjectRefused
+    match put_line(text, out) {
+        Ok(()) => Status::ProjectRefused,
+        Err(Stop::WriteFault) => Status::WriteFault,
+        Err(Stop::NoMemory) => Status::NoMemory,
+    }
 }

@@ -2,21 +2,20 @@
 ghost use Rattle.std.specs.Prelude.{◌≡◌, ◌⊎◌, ◌↔◌, ℕ, ◌+◌, ◌≤◌, ◌∷◌, List, length, map, take, Bool, true, Option, None, Some, IsTrue};
 ghost use Rattle.relay_io.specs.Causes.{Rose};
 ghost use Rattle.relay_io.specs.Streams.{append, prepend};
-ghost use Rattle.relay_plain.specs.Printed.{project_fault};
+ghost use Rattle.relay_machine.specs.Machine as machine;
+ghost use Rattle.relay_machine.specs.Printed.{project_fault};
 ghost use Rattle.relay_run.specs.Answers.{Course, IsCourse, IsTheProjectOf, IsTheFaultOf, IsCall, Took, Ran, Answering, EndsLine, accepted, due, refuses, left_over, IsReadWhole, IsScriptFor};
 ghost use Rattle.relay_run.specs.Files.{Files, contents_of, IsProject, IsFault, IsFirstAbsent};
-ghost use Rattle.relay_run.specs.FormProjects as projects;
 ghost use Rattle.relay_run.specs.FormShown.{form_shown};
 ghost use Rattle.relay_run.specs.Output.{max_script, AddsPartOf};
+ghost use Rattle.relay_run.specs.Projects.{project_shown};
 ghost use Rattle.relay_run.specs.Reads.{IsClosedBy};
-ghost use Rattle.relay_run.specs.Shown.{project_shown};
 ghost use Rattle.relay_run.specs.Statuses.{IsDone};
 ghost use Rattle.relay_run.specs.Words as forms;
 ghost use Rattle.relay_run.specs.Words.{form_of, file_names, max_documents, IsWithin};
 
-use crate::compiling::{compile_project, put_artifacts};
+use crate::compiling::put_artifacts;
 use crate::files::{Closed, name_at, open_project};
-use crate::interim::project::Project;
 use crate::lines::answer_lines;
 use crate::project_fault::refuse;
 use crate::rules::rule_text;
@@ -24,6 +23,7 @@ use crate::script::{ScriptFault, read_script};
 use crate::status::Status;
 use crate::words::{Form, form_of};
 use gql_plain::Counts;
+use plan_project::Project;
 use relay_io::{Sink, Source, Vault};
 use std::alloc::Global;
 
@@ -43,21 +43,21 @@ pub fn relay_top<V: Vault, S: Source, K: Sink>(
         × (S.left script.new ≡ S.left script.old) × (K.contents out.new ≡ K.contents out.old) }
     // What is written is what is due of the form: for `run` what the machine writes, line by line, for
     // `compile` the artifact lines.
-    ensures done { (files : Files) (form : forms.Form) (project : projects.Project) (bytes : List ℕ)
+    ensures done { (files : Files) (form : forms.Form) (project : machine.Project) (bytes : List ℕ)
         → form_of (map (λ w. w.now) words.now) ≡ Some form
-        → V.files vault.old ≡ Some files → IsProject form (contents_of form files) project
+        → V.files vault.old ≡ Some files → IsProject (contents_of form files) project
         → S.left script.old ≡ Some bytes → IsDone result
         → (S.left script.new ≡ Some (left_over form bytes)) × (K.contents out.new ≡ append (K.contents out.old) (due form (accepted project) bytes true))
         × ((result ≡ Status.DoneWithRefusals) ↔ IsTrue (refuses form (accepted project) bytes)) }
     ensures whole { (form : forms.Form) → form_of (map (λ w. w.now) words.now) ≡ Some form → IsDone result
-        → (project : projects.Project) × IsTheProjectOf (V.files vault.old) form project
+        → (project : machine.Project) × IsTheProjectOf (V.files vault.old) form project
         × (taken : List ℕ) × (S.left script.old ≡ prepend taken (S.left script.new)) × IsReadWhole form taken (S.left script.new)
         × (K.contents out.new ≡ append (K.contents out.old) (due form (accepted project) taken true))
         × ((result ≡ Status.DoneWithRefusals) ↔ IsTrue (refuses form (accepted project) taken)) }
     // Where nothing fails and memory is had, all is written.
-    ensures complete { (files : Files) (form : forms.Form) (project : projects.Project) (bytes : List ℕ)
+    ensures complete { (files : Files) (form : forms.Form) (project : machine.Project) (bytes : List ℕ)
         → form_of (map (λ w. w.now) words.now) ≡ Some form
-        → V.files vault.old ≡ Some files → IsProject form (contents_of form files) project
+        → V.files vault.old ≡ Some files → IsProject (contents_of form files) project
         → S.left script.old ≡ Some bytes → IsScriptFor form bytes
         → ¬ Rose (V.faults vault.old) (V.faults vault.new) → ¬ Rose (S.faults script.old) (S.faults script.new) → ¬ Rose (K.faults out.old) (K.faults out.new)
         → (result ≡ Status.NoMemory)
@@ -97,9 +97,8 @@ pub fn relay_top<V: Vault, S: Source, K: Sink>(
         ⊎ IsFirstAbsent (V.files vault.old) form }
     ensures write_fault { result ≡ Status.WriteFault → Rose (K.faults out.old) (K.faults out.new) }
 {
-    let _ = steps;
     match form_of(words) {
-        Some(form) => answer_form(alloc, form, vault, script, out),
+        Some(form) => answer_form(alloc, form, vault, script, out, steps),
         None => Status::Usage,
     }
 }
@@ -111,6 +110,7 @@ fn answer_form<V: Vault, S: Source, K: Sink>(
     vault: &mut V,
     script: &mut S,
     out: &mut K,
+    steps: &mut Counts,
 ) -> Status
     requires { IsWithin (form_shown form) }
     ensures ran { IsCall (V.files vault.old) (form_shown form.entry) result
@@ -125,7 +125,7 @@ fn answer_form<V: Vault, S: Source, K: Sink>(
             buffer,
             schema,
             documents,
-        } => run(alloc, buffer, schema, documents, vault, script, out),
+        } => run(alloc, buffer, schema, documents, vault, script, out, steps),
         Form::Compile { schema, documents } => compile(alloc, schema, documents, vault, out),
     }
 }
@@ -139,9 +139,12 @@ fn run<V: Vault, S: Source, K: Sink>(
     vault: &mut V,
     script: &mut S,
     out: &mut K,
+    steps: &mut Counts,
 ) -> Status
-    requires least { 1 ≤ length documents.now }
-    requires most { length documents.now ≤ max_documents }
+    requires least { 1 ≤ buffer }
+    requires most { buffer ≤ 100 }
+    requires some { 1 ≤ length documents.now }
+    requires few { length documents.now ≤ max_documents }
     ensures ran { IsCall (V.files vault.old) (forms.run buffer schema.now (map (λ w. w.now) documents.now)) result
         (Rose (V.faults vault.old) (V.faults vault.new)) (Rose (S.faults script.old) (S.faults script.new)) (Rose (K.faults out.old) (K.faults out.new))
         (S.left script.old) (S.left script.new) (S.calls script.old) (S.calls script.new)
@@ -150,7 +153,7 @@ fn run<V: Vault, S: Source, K: Sink>(
     ensures vault_calls { V.calls vault.new ≤ V.calls vault.old + (length documents.now + 1) }
 {
     match open_project(alloc, vault, schema, documents) {
-        Ok(project) => run_project(alloc, project, buffer, script, out),
+        Ok(project) => run_project(alloc, project, buffer, script, out, steps),
         Err(closed) => answer_closed(alloc, schema, documents, closed, out),
     }
 }
@@ -171,7 +174,7 @@ fn compile<V: Vault, K: Sink>(
     ensures files { V.files vault.new ≡ V.files vault.old }
     ensures vault_calls { V.calls vault.new ≤ V.calls vault.old + (length documents.now + 1) }
 {
-    match compile_project(alloc, vault, schema, documents) {
+    match open_project(alloc, vault, schema, documents) {
         Ok(project) => put_artifacts(alloc, &project, out),
         Err(closed) => answer_closed(alloc, schema, documents, closed, out),
     }
@@ -197,7 +200,6 @@ fn answer_closed<K: Sink>(
             let rule = rule_text(fault.rule);
             refuse(alloc, name, fault.line, fault.column, rule, out)
         }
-        Closed::NotTaken(file) => refuse(alloc, name_at(schema, documents, file), 1, 1, "N1", out),
         Closed::Unread => Status::ReadFault,
         Closed::NoMemory => Status::NoMemory,
     }
@@ -210,15 +212,18 @@ fn run_project<S: Source, K: Sink>(
     buffer: u64,
     script: &mut S,
     out: &mut K,
+    steps: &mut Counts,
 ) -> Status
-    ensures answering { (schema : List ℕ) (documents : List (List ℕ)) → Answering (forms.run buffer schema documents) (accepted (projects.plain (project_shown project))) result ⊥
+    requires least { 1 ≤ buffer }
+    requires most { buffer ≤ 100 }
+    ensures answering { (schema : List ℕ) (documents : List (List ℕ)) → Answering (forms.run buffer schema documents) (accepted (project_shown project)) result ⊥
         (Rose (S.faults script.old) (S.faults script.new)) (Rose (K.faults out.old) (K.faults out.new)) }
     ensures ran { (schema : List ℕ) (documents : List (List ℕ))
-        → Ran (forms.run buffer schema documents) (accepted (projects.plain (project_shown project))) result (S.left script.old) (S.left script.new) (S.calls script.old) (S.calls script.new)
+        → Ran (forms.run buffer schema documents) (accepted (project_shown project)) result (S.left script.old) (S.left script.new) (S.calls script.old) (S.calls script.new)
         (K.contents out.old) (K.contents out.new) (K.calls out.old) (K.calls out.new) }
 {
     match read_script(alloc, script) {
-        Ok(bytes) => answer_lines(alloc, project, buffer, &bytes, out),
+        Ok(bytes) => answer_lines(alloc, project, buffer, &bytes, out, steps),
         Err(ScriptFault::Failed) => Status::ReadFault,
         Err(ScriptFault::TooLong) => Status::ScriptTooLong,
         Err(ScriptFault::NoMemory) => Status::NoMemory,

@@ -1,21 +1,27 @@
-use Rattle.std.proofs.Common.{◌≡◌, ◌+◌, ◌++◌, ◌||◌, true, [], length, refl, sym, ap, inl, inr, ◌∙◌, arith, take, length-append, length-take}
+use Rattle.std.proofs.Common.{◌≡◌, ◌+◌, ◌++◌, ◌||◌, true, [], length, refl, sym, ap, subst, inl, inr, ◌∙◌, arith, take, length-append, length-take}
 use Rattle.std.proofs.lemmas.Bool.{true≢false, eqb-true}
 use Rattle.relay_io.specs.Streams.{append}
 use Rattle.relay_io.proofs.Streaming.{append-none}
 use Rattle.gql_plain.specs.Limits.{max_line}
-use Rattle.relay_plain.specs.Machine.{beginning, step, refused_from}
-use Rattle.relay_plain.specs.Script.{lines_of, cut}
-use Rattle.relay_run.specs.Shown.{project_shown}
+use Rattle.relay_engine.specs.Stands.{StandsFor}
+use Rattle.relay_machine.specs.Machine.{beginning, step, refused_from}
+use Rattle.relay_machine.specs.Script.{lines_of, cut}
+use Rattle.relay_run.specs.Output.{output_text}
+use Rattle.relay_run.specs.Projects.{project_shown}
+use Rattle.relay_engine.proofs.Beginnings.{begun_stands}
 use Rattle.relay_run.proofs.Pieces.{added_more}
-use Rattle.relay_run.proofs.Written.{written_next, refused_next, part_then, no_lines, written_all, refused_all, step_ends, both_end}
+use Rattle.relay_run.proofs.Written.{written_next, refused_next, part_then, no_lines, written_all, refused_all, both_end}
 use Rattle.relay_run.proofs.lines.answer_lines.Goals as goal
 
 pub lines-init : goal.lines-init
 lines-init g c = record {
-  so_far = (beginning, c.new-engine.ensures.stands, [], sym (append-none _), refl, refl, inl refl, omega arith);
+  so_far = (beginning, subst (λ k. StandsFor k (project_shown c.args.project) beginning) (sym c.in-Ok.ensures) (begun_stands c.args.project c.args.buffer), [], sym (append-none _), refl, refl, inl refl, omega arith);
   numbered = omega arith;
   later = omega arith;
 }
+
+pub returns-in_default-clause-added : goal.returns-in_default-clause-added
+returns-in_default-clause-added g c = ([], sym (append-none _), omega arith, inr (inl refl), output_text (project_shown c.args.project) c.args.buffer c.args.script.now true, refl, λ e. absurd e)
 
 pub returns-in-Err-WriteFault-clause-added : goal.returns-in-Err-WriteFault-clause-added
 returns-in-Err-WriteFault-clause-added g c =
@@ -52,19 +58,19 @@ pub lines-preserved : goal.lines-preserved
 lines-preserved g c =
     let inv = c.lines.invariant.so_far in
     let p = project_shown c.args.project in
-    let w = c.in-Ok.ensures.ok p inv.0 inv.1 in
+    let w = c.in-Ok-answer_line.ensures.ok p inv.0 inv.1 in
     let now = step p inv.0 c.lines.n (take (max_line + 1) c.first_line.result.0.now) in
     record {
       so_far = (
         now.state,
         w.1,
         inv.2 ++ now.text,
-        added_more (g.K.Sink.contents c.args.out.now) (g.K.Sink.contents c.lines.out) (g.K.Sink.contents c.answer_line.new.out) inv.2 now.text inv.3 w.2,
+        added_more (g.K.Sink.contents c.args.out.now) (g.K.Sink.contents c.lines.out) (g.K.Sink.contents c.answer_line.new.out) inv.2 now.text inv.3 w.3,
         written_next p inv.0 c.lines.n _ inv.2 c.first_line.result.0.now (lines_of c.lines.rest.now true) (lines_of c.first_line.result.1.now true) c.first_line.ensures.lines inv.4,
         refused_next p inv.0 c.lines.n _ c.lines.refused c.first_line.result.0.now (lines_of c.lines.rest.now true) (lines_of c.first_line.result.1.now true) c.first_line.ensures.lines inv.5
             ∙ ap (λ r. (c.lines.refused || r) || refused_from p now.state (c.lines.n + 1) (cut (lines_of c.first_line.result.1.now true))) (sym w.0),
-        both_end inv.2 now.text inv.6 (step_ends p inv.0 c.lines.n _),
-        omega (arith, inv.7, w.3, length-append inv.2 now.text),
+        both_end inv.2 now.text inv.6 w.2,
+        omega (arith, inv.7, w.4, length-append inv.2 now.text),
       );
       numbered = omega (arith, c.lines.invariant.numbered, c.first_line.ensures.shorter);
       later = omega (arith, c.lines.invariant.later, c.answer_line.ensures.later);

@@ -1,11 +1,11 @@
 use Rattle.std.proofs.Common.{◌≡◌, ◌≤◌, ◌+◌, ◌++◌, ◌||◌, true, ℕ, List, length}
 use Rattle.relay_io.specs.Streams.{append}
-use Rattle.relay_plain.specs.Machine.{State, output_from, refused_from}
-use Rattle.relay_plain.specs.Script.{lines_of, cut}
+use Rattle.relay_engine.specs.Stands.{StandsFor}
+use Rattle.relay_machine.specs.Machine.{State, output_from, refused_from}
+use Rattle.relay_machine.specs.Script.{lines_of, cut}
 use Rattle.relay_run.specs.Answers.{EndsLine}
 use Rattle.relay_run.specs.Output.{output_text, has_refusal}
-use Rattle.relay_run.specs.Shown.{project_shown}
-use Rattle.relay_run.specs.Stands.{StandsFor}
+use Rattle.relay_run.specs.Projects.{project_shown}
 use Rattle.relay_run.proofs.lines.answer_lines.Given as goal
 
 abbrev pub invariant-lines : goal.invariant-lines

@@ -47,16 +47,3 @@ returns-in-Fault g c = λ files form faults faults_now misses misses_now left re
       ran_refused form c.name_at-name.result.now f.line f.column c.rule_text-rule.result.now step.result (Rose (g.K.Sink.faults c.args.out.now) (g.K.Sink.faults step.new.out)) left reads
           (g.K.Sink.contents c.args.out.now) (g.K.Sink.contents step.new.out) (g.K.Sink.calls c.args.out.now) (g.K.Sink.calls step.new.out) step.ensures.form step.ensures.added,
     )
-
-pub returns-in-NotTaken : goal.returns-in-NotTaken
-returns-in-NotTaken g c = λ files form faults faults_now misses misses_now left reads names_are closed.
-    let n = c.in-NotTaken.file in
-    let told : IsTheFaultOf files form (name_of form n) 1 1 (codes "N1") = subst (λ x. IsClosedBy files form x (Rose faults faults_now)) c.in-NotTaken.is closed in
-    let named : name_of form n ≡ c.name_at.result.now = ap (λ names. name_under names n) names_are ∙ sym c.name_at.ensures in
-    let step = c.refuse-in-NotTaken in (
-      refused c.name_at.result.now 1 1 (codes "N1"),
-      subst (λ name. IsTheFaultOf files form name 1 1 (codes "N1")) named told,
-      step.ensures.form,
-      ran_refused form c.name_at.result.now 1 1 (codes "N1") step.result (Rose (g.K.Sink.faults c.args.out.now) (g.K.Sink.faults step.new.out)) left reads
-          (g.K.Sink.contents c.args.out.now) (g.K.Sink.contents step.new.out) (g.K.Sink.calls c.args.out.now) (g.K.Sink.calls step.new.out) step.ensures.form step.ensures.added,
-    )

@@ -1,10 +1,10 @@
 use Rattle.std.proofs.Common.{◌≡◌, ◌⊎◌, ◌↔◌, ◌≤◌, ◌+◌, ◌++◌, [], length, true, IsTrue, refl, subst, inl, inr, ◌∙◌, arith}
 use Rattle.relay_io.specs.Streams.{append}
-use Rattle.relay_plain.specs.Keys.{Text}
+use Rattle.schema_tables.specs.Types.{Text}
 use Rattle.relay_run.specs.Answers.{EndsLine, GivesNoScript}
 use Rattle.relay_run.specs.Output.{max_script, output_text, has_refusal}
 use Rattle.relay_run.specs.Statuses.{IsDone}
-use Rattle.relay_run.specs.Shown.{project_shown}
+use Rattle.relay_run.specs.Projects.{project_shown}
 use Rattle.relay_run.specs.declared.status.Status.TheVariants.{DoneWithRefusals, ReadFault, WriteFault, NoMemory, ScriptTooLong}
 use Rattle.relay_run.proofs.Courses.{ran_unanswered, ran_answered}
 use Rattle.relay_run.proofs.top.run_project.Goals as goal
