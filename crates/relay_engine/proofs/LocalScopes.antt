@@ -10,7 +10,7 @@ use Rattle.relay_dirs.specs.View.{local_view}
 use Rattle.relay_machine.specs.Machine as machine
 use Rattle.schema_tables.specs.Fits.{is_non_null}
 use Rattle.schema_tables.specs.Types.{Defs}
-use Rattle.schema_types.specs.Environments.{Failure, Values, environment, evaluation, failure_of, first_failure, first_of, missing, value_or_default, with_pair}
+use Rattle.schema_types.specs.Environments.{Failure, Values, environment, failure_of, first_failure, first_of, missing, value_or_default, with_pair}
 
 -- ---- failures
 

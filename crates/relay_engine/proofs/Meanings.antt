@@ -1,5 +1,5 @@
 -- The plans of operations and fragments mean what the machine asks of handles.
-use Rattle.std.proofs.Common.{◌≡◌, ℕ, true, List, Option, Some, None, is_some, IfOk, Ok, Err, Result, ap, sym, subst, ◌∙◌}
+use Rattle.std.proofs.Common.{◌≡◌, List, Some, IfOk, Ok, Err, Result, ap, sym, subst, ◌∙◌}
 use Rattle.gql_ast.specs.declared.document.Document.{Document}
 use Rattle.gql_ast.specs.declared.place.Placed.{Placed}
 use Rattle.gql_plain.specs.declared.memory.NoMemory.{NoMemory}

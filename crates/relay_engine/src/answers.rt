@@ -41,18 +41,12 @@ pub(crate) fn refuse(alloc: Global, why: Refusal<'_>, n: u64) -> Result<Lines, N
 }
 
 /// The answer of a line that is refused because values of variables are lacking or do not fit.
-pub(crate) fn refuse_variables(
-    alloc: Global,
-    fault: VarFault,
-    n: u64,
-) -> Result<Lines, NoMemory>
+pub(crate) fn refuse_variables(alloc: Global, fault: VarFault, n: u64) -> Result<Lines, NoMemory>
     requires { n < 2 ^ 63 }
     ensures { IfOk result (IsRefusalOf n fault) }
 {
     match fault {
-        VarFault::Missing(name) => {
-            refuse(alloc, Refusal::MissingVariable(name.as_str()), n)
-        }
+        VarFault::Missing(name) => { refuse(alloc, Refusal::MissingVariable(name.as_str()), n) }
         VarFault::Unfit(name) => refuse(alloc, Refusal::UnfitVariable(name.as_str()), n),
         VarFault::NoMemory => Err(NoMemory),
     }

@@ -77,12 +77,7 @@ impl<S: RecordSource> Engine<S> {
 
     /// Answers the line with the number `n`, which is given without its line end. What is looked at of
     /// a line of more than 8 MiB is that it is too long.
-    pub fn step(
-        &mut self,
-        line: &[u8],
-        n: u64,
-        steps: &mut S::Count,
-    ) -> Result<Lines, NoMemory>
+    pub fn step(&mut self, line: &[u8], n: u64, steps: &mut S::Count) -> Result<Lines, NoMemory>
         requires { n < 2 ^ 63 }
         ensures step { IfOk result (λ lines. HasStepped self.old self.new lines (λ p s. machine.step p s n line.now)) }
         ensures refused { IfOk result (λ lines. lines.refused ≡ true → self.new ≡ self.old) }
@@ -96,12 +91,7 @@ impl<S: RecordSource> Engine<S> {
     }
 
     /// Answers a line that is this event.
-    fn step_event(
-        &mut self,
-        event: Event,
-        n: u64,
-        steps: &mut S::Count,
-    ) -> Result<Lines, NoMemory>
+    fn step_event(&mut self, event: Event, n: u64, steps: &mut S::Count) -> Result<Lines, NoMemory>
         requires { n < 2 ^ 63 }
         ensures step { IfOk result (λ lines. HasStepped self.old self.new lines (λ p s. machine.step_event p s n (event_seen event))) }
         ensures refused { IfOk result (λ lines. lines.refused ≡ true → self.new ≡ self.old) }

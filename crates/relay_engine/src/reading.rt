@@ -83,7 +83,13 @@ impl<S: RecordSource> Engine<S> {
             return refuse(self.alloc, Refusal::UnknownFragment(name), n);
         };
         let schema = self.project.schema();
-        match scope_given(self.alloc, schema, &held.env.root, &fragment.locals, &part.args) {
+        match scope_given(
+            self.alloc,
+            schema,
+            &held.env.root,
+            &fragment.locals,
+            &part.args,
+        ) {
             Ok(scope) => self.read_under(handle, held, fragment, &scope, &part.id, n, steps),
             Err(fault) => refuse_variables(self.alloc, fault, n),
         }

@@ -88,7 +88,13 @@ impl<S: RecordSource> Engine<S> {
             return Ok(Prepared::Refused(lines));
         }
         let schema = self.project.schema();
-        match variables(self.alloc, schema, &compiled.root, &compiled.variables, given) {
+        match variables(
+            self.alloc,
+            schema,
+            &compiled.root,
+            &compiled.variables,
+            given,
+        ) {
             Ok(env) => Ok(Prepared::Held(Held {
                 operation: compiled.name.copy()?,
                 env,

@@ -95,12 +95,7 @@ impl<S: RecordSource> Engine<S> {
     }
 
     /// The entry of commands alone.
-    fn take_commands(
-        &self,
-        commands: Commands,
-        is_full: bool,
-        n: u64,
-    ) -> Result<Taken, NoMemory>
+    fn take_commands(&self, commands: Commands, is_full: bool, n: u64) -> Result<Taken, NoMemory>
         requires { n < 2 ^ 63 }
         ensures { IfOk result (λ taken. (p : machine.Project) (s : machine.State) → StandsFor self.now p s → (take : E.Entry → machine.Step)
             → Gives self.now p (machine.result_of p s n None commands (λ step. machine.unless s n is_full (model.too_many model.layers) step) take) take taken) }

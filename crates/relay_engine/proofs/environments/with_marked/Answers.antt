@@ -3,10 +3,9 @@ use Rattle.std.proofs.Common.{◌≡◌, ◌++◌, map, IfOk, ap, subst, ◌∙�
 use Rattle.gql_plain.specs.Shown.{shown_members}
 use Rattle.relay_engine.proofs.MarkedPairs.{marked_first}
 use Rattle.relay_engine.proofs.environments.with_marked.Goals as goal
+use Rattle.relay_engine.specs.Marked.{marked}
 use Rattle.schema_types.specs.Environments.{Values}
 use Rattle.schema_values.specs.Listed.{first_of_each}
-use Rattle.relay_engine.specs.Marked.{marked}
-use Rattle.relay_model.specs.Readings.{with_marked}
 
 pub returns : goal.returns
 returns c =

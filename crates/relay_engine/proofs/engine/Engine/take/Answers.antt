@@ -10,5 +10,5 @@ use Rattle.store_model.specs.declared.entry.Entry as E
 pub returns-in-Some : goal.returns-in-Some
 returns-in-Some g c =
     subst (λ o. IfOk c.take_answer.result (λ taken. (p : machine.Project) (s : machine.State) → StandsFor c.args.self.now p s → (take : E.Entry → machine.Step)
-        → Gives c.args.self.now p (machine.result_of p s c.args.n (option_map answer_seen o) c.args.commands (λ step. machine.unless s c.args.n c.args.is_full (model.too_many model.layers) step) take) take taken))
+    → Gives c.args.self.now p (machine.result_of p s c.args.n (option_map answer_seen o) c.args.commands (λ step. machine.unless s c.args.n c.args.is_full (model.too_many model.layers) step) take) take taken))
     (sym c.in-Some.is) c.take_answer.ensures

@@ -62,9 +62,9 @@ returns-in-None g c =
     let called = c.args.answer.now.handle in
     IfOk-weaker c.take_response.result
     (λ taken. (p : Project) (s : State) (h : Handle) → StandsFor k p s → KeepsHandle p (held_as h.name held) h
-        → (take : Entry → Step) → Gives k p (of_verdict s n (said_to p h (view c.args.answer.now.response)) cs take) take taken)
+    → (take : Entry → Step) → Gives k p (of_verdict s n (said_to p h (view c.args.answer.now.response)) cs take) take taken)
     (λ taken. (p : Project) (s : State) → StandsFor k p s → (take : Entry → Step)
-        → Gives k p (answer_to p s n (handle_named s.handles called) (answer_seen c.args.answer.now) cs (λ step. unless s n c.args.is_full (too_many layers) step) take) take taken)
+    → Gives k p (answer_to p s n (handle_named s.handles called) (answer_seen c.args.answer.now) cs (λ step. unless s n c.args.is_full (too_many layers) step) take) take taken)
     (λ taken has p s stands take.
     let h : (h : Handle) × (handle_named s.handles called ≡ Some h) × KeepsHandle p (held_as name held) h =
     the_handle k p s stands c.self.inside.handles name called (option_map (held_as name) (option_copied c.find.result)) (held_as name held) (ap (λ (x : Kept). x.handles) c.self.view_is) c.as_str-handle.ensures c.find.ensures
