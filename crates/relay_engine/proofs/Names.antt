@@ -1,5 +1,6 @@
--- Texts that are compared either way round, and two look-ups that agree.
-use Rattle.std.proofs.Common.{◌≡◌, Bool, true, false, bytes_eq, Option, Some, None, is_some, refl, sym, subst}
+-- Texts that are compared either way round, numbers that are compared, and two look-ups that agree.
+use Rattle.std.proofs.Common.{◌≡◌, ℕ, ◌==◌, Bool, true, false, bytes_eq, Option, Some, None, is_some, refl, sym, subst}
+use Rattle.std.proofs.lemmas.Bool.Decides.{Decides-eqb}
 use Rattle.std.proofs.lemmas.Slice.Eq.{bytes_eq-Decides}
 use Rattle.plan_project.specs.Lookups.{Agree}
 use Rattle.schema_tables.specs.Types.{Text}
@@ -12,6 +13,18 @@ same_answer false false f g = refl
 pub bytes_eq-sym : (xs ys : Text) → bytes_eq xs ys ≡ bytes_eq ys xs
 bytes_eq-sym xs ys =
     same_answer _ _ (λ h. (bytes_eq-Decides ys xs).1 (sym ((bytes_eq-Decides xs ys).0 h))) (λ h. (bytes_eq-Decides xs ys).1 (sym ((bytes_eq-Decides ys xs).0 h)))
+
+-- ---- numbers
+
+not_true : (b : Bool) → (b ≡ true → ⊥) → b ≡ false
+not_true true h = absurd (h refl)
+not_true false h = refl
+
+pub equal : (a b : ℕ) → a ≡ b → (a == b) ≡ true
+equal a b h = (Decides-eqb a b).1 h
+
+pub unequal : (a b : ℕ) → (a ≡ b → ⊥) → (a == b) ≡ false
+unequal a b h = not_true (a == b) (λ e. h ((Decides-eqb a b).0 e))
 
 -- what holds of two look-ups, where one of them is known
 module _ {X Y : Type 0} (P : X → Y → Type 0) where

@@ -1,18 +1,23 @@
 -- The answer of a line is the machine's.
-use Rattle.std.proofs.Common.{◌≡◌, ℕ, Bool, true, false, Option, Some, unwrap_or, Result, refl, sym, ap, subst, ◌∙◌}
+use Rattle.std.proofs.Common.{◌≡◌, ℕ, Bool, true, false, Option, Some, Result, refl, sym, ap, subst, ◌∙◌}
 use Rattle.std.proofs.lemmas.Result.{IfOk-weaker}
 use Rattle.std.specs.Result.{IfOk}
-use Rattle.relay_engine.specs.Answered.{AreLines}
+use Rattle.relay_engine.specs.Answered.{AreLines, Gives, IsRefusalOf}
 use Rattle.relay_engine.specs.Kept.{Kept}
 use Rattle.relay_engine.specs.Stands.{StandsFor}
 use Rattle.relay_engine.specs.Steps.{HasStepped, IsStep}
 use Rattle.relay_engine.specs.declared.lines.Lines.{Lines}
-use Rattle.relay_machine.specs.Machine.{Project, State, Step, accept, refuse, step_line, unless}
+use Rattle.relay_engine.specs.declared.taking.Taken.{Taken}
+use Rattle.relay_engine.specs.declared.taking.Taken.TheVariants as T
+use Rattle.relay_machine.specs.Machine.{Project, State, Step, accept, refuse, step_line, unless, unless_failure}
 use Rattle.relay_machine.specs.Printed.{refusal_line}
 use Rattle.relay_machine.specs.Refusals.{Refusal, variables}
 use Rattle.schema_tables.specs.Types.{Text}
 use Rattle.schema_types.specs.Environments.{Failure}
+use Rattle.schema_values.specs.Failures.{Tells}
+use Rattle.schema_values.specs.declared.env.VarFault.{VarFault}
 use Rattle.store_model.specs.Events.{Line}
+use Rattle.store_model.specs.declared.entry.Entry.{Entry}
 
 -- a refused line changes nothing
 pub refusing : (k : Kept) (p : Project) (s : State) (n : ℕ) (why : Refusal) (lines : Lines) → StandsFor k p s → AreLines (refusal_line n why) true lines
@@ -21,6 +26,13 @@ refusing k p s n why lines stands are = record { text = are.text; refused = are.
 
 pub accepting : (k : Kept) (p : Project) (s : State) (text : Text) (lines : Lines) → StandsFor k p s → AreLines text false lines → IsStep p (accept text s) lines k
 accepting k p s text lines stands are = record { text = are.text; refused = are.refused; stands = stands }
+
+-- values of variables are refused
+pub failing : (k : Kept) (p : Project) (s : State) (n : ℕ) (found : Option Failure) (fault : VarFault) (lines : Lines) (last : Step) → StandsFor k p s → Tells found fault → IsRefusalOf n fault lines
+    → IsStep p (unless_failure s n found last) lines k
+failing k p s n found fault lines last stands tells told =
+    let f : (f : Failure) × (found ≡ Some f) × AreLines (refusal_line n (variables f)) true lines = told found tells in
+    subst (λ t. IsStep p t lines k) (sym (ap (λ o. unless_failure s n o last) f.1)) (refusing k p s n (variables f.0) lines stands f.2)
 
 -- the same step, written otherwise
 pub same_step : (k : Kept) (p : Project) (now other : Step) (lines : Lines) → other ≡ now → IsStep p now lines k → IsStep p other lines k
@@ -47,13 +59,13 @@ module _ {E : Type 0} (r : Result Lines E) where
       IfOk-weaker r (λ lines. HasStepped old new lines step) (λ lines. HasStepped old new lines other)
       (λ lines has p s stands. same_step new p (step p s) (other p s) lines (e p s stands) (has p s stands)) h
 
-  -- values of variables are refused, as this failure says
+  -- values of variables are refused for this failure
   pub on_failure : (n : ℕ) (failure : Failure) → IfOk r (AreLines (refusal_line n (variables failure)) true)
-      → IfOk r (λ lines. (f : Failure) → ◌≡◌ {A = Option Failure} (Some f) (Some failure) → AreLines (refusal_line n (variables f)) true lines)
+      → IfOk r (λ lines. (found : Option Failure) → found ≡ Some failure → (f : Failure) × (found ≡ Some f) × AreLines (refusal_line n (variables f)) true lines)
   on_failure n failure h =
       IfOk-weaker r (AreLines (refusal_line n (variables failure)) true)
-      (λ lines. (f : Failure) → ◌≡◌ {A = Option Failure} (Some f) (Some failure) → AreLines (refusal_line n (variables f)) true lines)
-      (λ lines are f e. subst (λ x. AreLines (refusal_line n (variables x)) true lines) (sym (ap (λ (o : Option Failure). unwrap_or o f) e)) are) h
+      (λ lines. (found : Option Failure) → found ≡ Some failure → (f : Failure) × (found ≡ Some f) × AreLines (refusal_line n (variables f)) true lines)
+      (λ lines are found e. (failure, e, are)) h
 
   -- a line that gives no event is refused
   pub on_fault : (n : ℕ) (line : Line) (why : Refusal) → IfOk r (AreLines (refusal_line n why) true) → ((p : Project) (s : State) → step_line p s n line ≡ refuse s n why)
@@ -61,6 +73,18 @@ module _ {E : Type 0} (r : Result Lines E) where
   on_fault n line why h e =
       IfOk-weaker r (AreLines (refusal_line n why) true) (λ lines. (l : Line) → l ≡ line → (k : Kept) → HasStepped k k lines (λ p s. step_line p s n l))
       (λ lines are l same k p s stands. same_step k p (refuse s n why) (step_line p s n l) lines (ap (step_line p s n) same ∙ e p s) (refusing k p s n why lines stands are)) h
+
+-- ---- what an event gives
+
+module _ (k : Kept) (step : Project → State → (Entry → Step) → Step) (taken : Taken)
+    (gives : (p : Project) (s : State) → StandsFor k p s → (take : Entry → Step) → Gives k p (step p s take) take taken) where
+  -- it is refused
+  pub is_refused : (take : State → Entry → Step) (lines : Lines) → taken ≡ T.Refused lines → HasStepped k k lines (λ p s. step p s (take s))
+  is_refused take lines is p s stands = subst (Gives k p (step p s (take s)) (take s)) is (gives p s stands (take s))
+
+  -- the step is what is made of the entry
+  pub is_entry : (take : State → Entry → Step) (e : Entry) → taken ≡ T.Entry e → (p : Project) (s : State) → StandsFor k p s → step p s (take s) ≡ take s e
+  is_entry take e is p s stands = subst (Gives k p (step p s (take s)) (take s)) is (gives p s stands (take s))
 
 -- ---- the first refusal
 

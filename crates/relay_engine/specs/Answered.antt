@@ -22,9 +22,9 @@ pub record AreLines (what : Text) (whether : Bool) (lines : Lines) : Type 0 wher
   pub text : written lines.texts.items ≡ what
   pub refused : lines.refused ≡ whether
 
--- the lines refuse values of variables for this failure
+-- the lines refuse values of variables, for the failure that was found
 abbrev pub IsRefusalOf : ℕ → VarFault → Lines → Type 0
-IsRefusalOf n fault lines = (f : Failure) → Tells (Some f) fault → AreLines (refusal_line n (variables f)) true lines
+IsRefusalOf n fault lines = (found : Option Failure) → Tells found fault → (f : Failure) × (found ≡ Some f) × AreLines (refusal_line n (variables f)) true lines
 
 -- the lines refuse a line that gives no event for this fault
 abbrev pub IsFaultOf : ℕ → LineFault → Lines → Type 0

@@ -1,0 +1,68 @@
+use Rattle.std.proofs.Common.{◌≡◌, Bool, true, false, codes, is_some, ap, sym, subst, ◌∙◌}
+use Rattle.std.proofs.lemmas.Result.{IfOk-weaker}
+use Rattle.plan_project.specs.Lookups.{operation_in}
+use Rattle.relay_engine.proofs.StandingLaws.{whether_handle}
+use Rattle.relay_engine.proofs.StepLaws.{on_refusal, same_step, unless-false, unless-true}
+use Rattle.relay_engine.proofs.engine.Engine.retain.Goals as goal
+use Rattle.relay_engine.specs.Handles.{held_as}
+use Rattle.relay_engine.specs.Kept.{Kept}
+use Rattle.relay_engine.specs.Retained.{IsPrepared}
+use Rattle.relay_engine.specs.Stands.{KeepsHandle, StandsFor}
+use Rattle.relay_engine.specs.Steps.{HasStepped, IsStep}
+use Rattle.relay_engine.specs.declared.retaining.Prepared.TheVariants as P
+use Rattle.relay_machine.specs.Machine.{Handle, Project, State, Step, accept, handle_named, refuse, retain_named, step_retain, with_handle}
+use Rattle.relay_machine.specs.Printed.{event_line}
+use Rattle.relay_machine.specs.Refusals.{handle_taken}
+use Rattle.schema_tables.specs.Types.{Text}
+
+pub returns-then-is_live-clause-step : goal.returns-then-is_live-clause-step
+returns-then-is_live-clause-step g c =
+    let k : Kept = c.args.self.now in
+    let n = c.args.n in
+    let name = c.args.handle.now in
+    let told = c.as_str-then-is_live.result.now in
+    let op = c.args.operation.now in
+    let given = c.args.given.now in
+    on_refusal c.refuse.result k n (handle_taken told) (λ p s. step_retain p s n name op given) c.refuse.ensures (λ p s stands.
+    let live : is_some (handle_named s.handles name) ≡ true =
+    whether_handle k p s stands c.self.inside.handles c.as_str.result.now name c.is_live.result (ap (λ (x : Kept). x.handles) c.self.view_is) c.as_str.ensures c.is_live.ensures ∙ c.if-is_live.true in
+    unless-true s n (is_some (handle_named s.handles name)) (handle_taken name) (retain_named p s n name op (operation_in p.defs p.documents op) given) live
+    ∙ ap (λ t. refuse s n (handle_taken t)) (sym c.as_str-then-is_live.ensures))
+
+pub returns-in-Held-clause-step : goal.returns-in-Held-clause-step
+returns-in-Held-clause-step g c =
+    let k : Kept = c.args.self.now in
+    let new : Kept = c.hold.new.self in
+    let n = c.args.n in
+    let name = c.args.handle.now in
+    let op = c.args.operation.now in
+    let given = c.args.given.now in
+    let held = c.in-Held.held in
+    IfOk-weaker c.hold.result
+    (λ lines. (p : Project) (s : State) (h : Handle) → StandsFor k p s → KeepsHandle p (held_as name held) h → IsStep p (accept (event_line (codes "retain") n) (with_handle h s)) lines new)
+    (λ lines. HasStepped k new lines (λ p s. step_retain p s n name op given))
+    (λ lines has p s stands.
+    let live : is_some (handle_named s.handles name) ≡ false =
+    whether_handle k p s stands c.self.inside.handles c.as_str.result.now name c.is_live.result (ap (λ (x : Kept). x.handles) c.self.view_is) c.as_str.ensures c.is_live.ensures ∙ c.if-is_live.false in
+    let prepared : IsPrepared k p s n (λ t. retain_named p s n t op (operation_in p.defs p.documents op) given) (P.Held held) =
+    subst (IsPrepared k p s n (λ t. retain_named p s n t op (operation_in p.defs p.documents op) given)) c.in-Held.is (c.in_ok-held.ensures.step p s stands) in
+    let made : (h : Handle) × (retain_named p s n name op (operation_in p.defs p.documents op) given ≡ accept (event_line (codes "retain") n) (with_handle h s)) × KeepsHandle p (held_as name held) h = prepared name in
+    same_step new p (accept (event_line (codes "retain") n) (with_handle made.0 s)) (step_retain p s n name op given) lines
+    (unless-false s n (is_some (handle_named s.handles name)) (handle_taken name) (retain_named p s n name op (operation_in p.defs p.documents op) given) live ∙ made.1)
+    (has p s made.0 stands made.2))
+    c.hold.ensures.step
+
+pub returns-in-Refused-clause-step : goal.returns-in-Refused-clause-step
+returns-in-Refused-clause-step g c = λ p s stands.
+    let k : Kept = c.args.self.now in
+    let n = c.args.n in
+    let name = c.args.handle.now in
+    let op = c.args.operation.now in
+    let given = c.args.given.now in
+    let live : is_some (handle_named s.handles name) ≡ false =
+    whether_handle k p s stands c.self.inside.handles c.as_str.result.now name c.is_live.result (ap (λ (x : Kept). x.handles) c.self.view_is) c.as_str.ensures c.is_live.ensures ∙ c.if-is_live.false in
+    let prepared : IsPrepared k p s n (λ t. retain_named p s n t op (operation_in p.defs p.documents op) given) (P.Refused c.in-Refused.lines) =
+    subst (IsPrepared k p s n (λ t. retain_named p s n t op (operation_in p.defs p.documents op) given)) c.in-Refused.is (c.in_ok-held.ensures.step p s stands) in
+    same_step k p (retain_named p s n name op (operation_in p.defs p.documents op) given) (step_retain p s n name op given) c.in-Refused.lines
+    (unless-false s n (is_some (handle_named s.handles name)) (handle_taken name) (retain_named p s n name op (operation_in p.defs p.documents op) given) live)
+    (prepared name)
