@@ -1,7 +1,6 @@
-use Rattle.std.proofs.Common.{◌≡◌, ◌⊎◌, ◌≤◌, ◌+◌, ◌++◌, ℕ, [], ◌∷◌, length, take, drop, Option, refl, sym, ap, inl, inr, ◌∙◌, arith, length-take}
+use Rattle.std.proofs.Common.{◌≡◌, ◌⊎◌, ◌≤◌, ◌+◌, ◌++◌, ℕ, [], ◌∷◌, length, take, drop, Option, refl, ap, inl, inr, ◌∙◌, arith, length-take}
 use Rattle.std.proofs.lemmas.List.{append-nil, take-append-drop}
 use Rattle.relay_io.specs.Streams.{append}
-use Rattle.relay_io.proofs.Streaming.{append-none}
 use Rattle.relay_machine.specs.Printed.{project_fault}
 use Rattle.relay_run.proofs.project_fault.refuse.Goals as goal
 use Rattle.relay_run.specs.Answers.{EndsLine}
