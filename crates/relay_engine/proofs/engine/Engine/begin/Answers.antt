@@ -27,11 +27,11 @@ returns-in-Entry-clause-step g c =
     let n = c.args.n in
     let name = c.args.layer in
     let line = event_line (codes "begin") n in
-    let full : Bool = c.count.result == most layers in
+    let full : Bool = c.count-is_full.result == most layers in
     let answer = option_map answer_seen c.args.answer.now in
     on_step c.start.result k c.start.new.self (λ p s. accept line (with_layer name c.in-Entry.entry s)) (λ p s. step_begin p s n name answer c.args.commands) c.start.ensures.step (λ p s stands.
     let live : is_layer s.layers name ≡ false = whether_layer k p s stands c.self.inside.layers.live c.as_str.result.now name c.is_live.result (ap (λ (x : Kept). x.layers.live) c.self.view_is) c.as_str.ensures c.is_live.ensures ∙ c.if-is_live.false in
-    let count : length s.layers ≡ c.count.result = layers_count k p s stands c.self.inside.layers.live c.count.result (ap (λ (x : Kept). x.layers.live) c.self.view_is) c.count.ensures in
+    let count : length s.layers ≡ c.count-is_full.result = layers_count k p s stands c.self.inside.layers.live c.count-is_full.result (ap (λ (x : Kept). x.layers.live) c.self.view_is) c.count-is_full.ensures in
     let take : State → Entry → Step = λ s e. accept line (with_layer name e s) in
     unless-false s n (is_layer s.layers name) (layer_taken name) (result_of p s n answer c.args.commands (λ step. unless s n (length s.layers == most layers) (too_many layers) step) (take s)) live
     ∙ ap (λ m. result_of p s n answer c.args.commands (λ step. unless s n (m == most layers) (too_many layers) step) (take s)) count
@@ -44,10 +44,10 @@ returns-in-Refused-clause-step g c = λ p s stands.
     let n = c.args.n in
     let name = c.args.layer in
     let line = event_line (codes "begin") n in
-    let full : Bool = c.count.result == most layers in
+    let full : Bool = c.count-is_full.result == most layers in
     let answer = option_map answer_seen c.args.answer.now in
     let live : is_layer s.layers name ≡ false = whether_layer k p s stands c.self.inside.layers.live c.as_str.result.now name c.is_live.result (ap (λ (x : Kept). x.layers.live) c.self.view_is) c.as_str.ensures c.is_live.ensures ∙ c.if-is_live.false in
-    let count : length s.layers ≡ c.count.result = layers_count k p s stands c.self.inside.layers.live c.count.result (ap (λ (x : Kept). x.layers.live) c.self.view_is) c.count.ensures in
+    let count : length s.layers ≡ c.count-is_full.result = layers_count k p s stands c.self.inside.layers.live c.count-is_full.result (ap (λ (x : Kept). x.layers.live) c.self.view_is) c.count-is_full.ensures in
     let take : State → Entry → Step = λ s e. accept line (with_layer name e s) in
     let whole : Step = result_of p s n answer c.args.commands (λ step. unless s n full (too_many layers) step) (take s) in
     same_step k p whole (step_begin p s n name answer c.args.commands) c.in-Refused.lines

@@ -9,6 +9,8 @@ use Rattle.store_model.specs.Events.{line_of}
 
 pub returns-in-Err-clause-step : goal.returns-in-Err-clause-step
 returns-in-Err-clause-step g c =
-    let k : Kept = c.args.self.now in
-    IfOk-weaker c.refuse_fault.result (IsFaultOf c.args.n c.in-Err.fault) (λ lines. HasStepped k k lines (λ p s. step p s c.args.n c.args.line.now))
-    (λ lines is. is (line_of c.args.line.now) c.in-Err.ensures k) c.refuse_fault.ensures
+    let old : Kept = c.args.self.now in
+    let line = c.args.line.now in
+    let new : Kept = record { defs = c.self.inside.project.0; documents = c.self.inside.project.1; buffer = c.self.inside.buffer; layers = c.self.inside.layers; handles = c.self.inside.handles } in
+    IfOk-weaker c.refuse_fault.result (IsFaultOf c.args.n c.in-Err.fault) (λ lines. HasStepped old new lines (λ p s. step p s c.args.n line))
+    (λ lines is. subst (λ k. HasStepped old k lines (λ p s. step p s c.args.n line)) (sym c.self.view_is) (is (line_of line) c.in-Err.ensures old)) c.refuse_fault.ensures
