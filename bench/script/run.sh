@@ -1,6 +1,6 @@
 #!/bin/bash
 # Runs the built program on a script of 2^30 bytes and on one of a byte more, each a single line. The
-# first is a line of more than 8 MiB, which is answered NotYet. The second is too long: the status is 7,
+# first is a line of more than 8 MiB, which is answered LineTooLong. The second is too long: the status is 7,
 # and nothing is printed. Takes seconds, and up to 3 GiB of memory. Build the program first:
 # cd crates/relay_run && rt run -- run 10 data/schema.graphql data/q.graphql < stdin
 set -eu
@@ -21,5 +21,5 @@ run() {
     echo "a script of $1 bytes: status $status, as is due"
 }
 
-run 1073741824 1 '{"code":90,"error":"NotYet","n":1}'
+run 1073741824 1 '{"code":4,"error":"LineTooLong","n":1}'
 run 1073741825 7 ''
