@@ -130,8 +130,8 @@ def fault(rule, line, column):
     """The line that a project with a fault in its document is refused by."""
     return f'{{"column":{column},"file":"d.graphql","line":{line},"rule":"{rule}"}}\n'
 
-# Where every rule holds, the answer is that forms of the document are not taken yet.
-NOT_TAKEN = fault("N1", 1, 1)
+# Where every rule holds, a script of no line has no answer.
+TAKEN = ""
 
 def last_spread(count):
     return fault("V5", count + 1, len(f"fragment F{count - 1} on User {{ ...") + 1)
@@ -162,8 +162,8 @@ BROKEN_AT_LAST = [
 ]
 
 PROJECTS = [
-    ("operations", plain, operations, [1_000, 2_000, 4_000], lambda count: NOT_TAKEN),
-    ("late common types", kinds, conditions, [2_000, 4_000, 8_000], lambda count: NOT_TAKEN),
+    ("operations", plain, operations, [1_000, 2_000, 4_000], lambda count: TAKEN),
+    ("late common types", kinds, conditions, [2_000, 4_000, 8_000], lambda count: TAKEN),
     ("a cycle at the end", plain, cycle, [10_000, 20_000, 40_000], last_spread),
     ("without a variable", plain, without_variable, [1_000, 2_000, 4_000], last_use),
     *((name, schema, make, counts, last_connection(make)) for name, schema, make, counts in BROKEN_AT_LAST),
