@@ -1,0 +1,7 @@
+pub mod Codes
+pub mod Lists
+pub mod Numbers
+pub mod Places
+pub mod Reads
+pub mod Rows
+pub mod Watching
