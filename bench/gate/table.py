@@ -15,7 +15,7 @@ for path in sys.argv[1:]:
             edits[crate][edit] += float(seconds) / 60
 
 phases = ("proof", "tests", "seed", "edit")
-print("| crate | proof | tests | check before the edits | edits | the dearest edit | peak MiB |")
+print("| crate | proof | tests | check after the edits | edits | the dearest edit | peak MiB |")
 print("|---|---|---|---|---|---|---|")
 for crate in sorted(took):
     row = [f"{took[crate][phase]:.1f}" if phase in took[crate] else "" for phase in phases]

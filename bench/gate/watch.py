@@ -1,10 +1,10 @@
-"""watch.py RECORDS ci [NAME..]: runs `rt ci` as it is, and writes a line into RECORDS for each prover
+"""watch.py RECORDS ci: runs `rt ci` as it is, and writes a line into RECORDS for each prover
 that it started.
 
 A line: crate, phase (proof, tests, seed, edit), edit, processor seconds, peak memory in MiB; tabs
-between them. The seed is the check that a crate's must-fail edits begin with, and the short one after
-them. The numbers come from wait4(2): they hold what the process and all its own children used,
-whatever ran beside it.
+between them. The seed is the check of the crate as it stands, which follows on its must-fail edits;
+the first of these is checked from nothing. The numbers come from wait4(2): they hold what the process
+and all its own children used, whatever ran beside it.
 """
 
 import importlib.machinery
