@@ -1,5 +1,9 @@
-//! Tests of record maps, over what store_source offers.
+//! Tests of the persistent tree, of record maps, and of sweeps of them through layers.
 #![tactic(auto)]
 
 #[cfg(test)]
 mod sources;
+#[cfg(test)]
+mod sweeps;
+#[cfg(test)]
+mod trees;

@@ -11,6 +11,3 @@ mod leaves;
 pub mod tree;
 
 pub use tree::Tree;
-
-#[cfg(test)]
-mod tests;

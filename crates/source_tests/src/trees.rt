@@ -1,10 +1,30 @@
-use crate::Tree;
-use crate::item::digest;
-use crate::leaf::MOST;
+//! Tests of the persistent tree, over what store_tree offers.
+ghost use Rattle.std.specs.Prelude.{◌≡◌};
+ghost use Rattle.store_tree.specs.KeyOrder.{digest_of};
+
 use gql_plain::{Counts, NoMemory, Words};
 use std::alloc::Global;
 use std::rc::Rc;
 use std::test::Fail;
+use store_tree::Tree;
+
+/// The most entries that a leaf of a tree has.
+const MOST: u64 = 31;
+
+const FACTOR: u64 = 11_400_714_819_323_198_485;
+
+/// The number by which a tree orders a key first.
+#[tactic(auto, unfolding(store_tree::specs::KeyOrder::digest_of))]
+fn digest(key: &str) -> u64
+    ensures { result ≡ digest_of key.now }
+{
+    let mut digest: u64 = 0;
+    let bytes = key.as_bytes();
+    'bytes: for byte in bytes {
+        digest = digest.wrapping_add(u64::from(*byte)).wrapping_mul(FACTOR);
+    }
+    digest
+}
 
 /// A text that stands among such texts where the number stands among those below 100,000.
 fn key_of(alloc: Global, number: u64) -> Result<Words, NoMemory> {
@@ -240,9 +260,9 @@ fn fill_but(alloc: Global, count: u64, last: u64) -> Result<Tree<u64>, NoMemory>
 
 /// Whether a full leaf is parted when the last number comes, and so many leaves and nodes are made.
 fn parts(alloc: Global, in_place: bool, last: u64, nodes: u64) -> Result<bool, NoMemory> {
-    let count = MOST as u64 + 1;
+    let count = MOST + 1;
     let full = fill_but(alloc, count, last)?;
-    if full.len() != MOST as u64 {
+    if full.len() != MOST {
         return Ok(false);
     }
     let mut steps = Counts::new();
@@ -257,7 +277,7 @@ fn parts(alloc: Global, in_place: bool, last: u64, nodes: u64) -> Result<bool, N
 fn a_full_leaf_is_parted_at_each_place(rt: HostRuntime) -> Result<(), Fail> {
     let alloc = rt.alloc();
     // Each number is the last one once, so that it comes to each place of the full leaf.
-    for last in 0..MOST as u64 + 1 {
+    for last in 0..MOST + 1 {
         // A later leaf, and a node over both.
         assert!(rt; parts(alloc, true, last, 2)?, "put {last}");
         // A copy of the leaf too.
