@@ -1,3 +1,4 @@
 pub mod Collection
 pub mod Responses
 pub mod Readings
+pub mod Reaches

@@ -13,6 +13,7 @@ pub mod Items
 pub mod Walks
 pub mod Reaches
 pub mod Retention
+pub mod Sweeps
 pub mod Agree
 pub mod Alike
 pub mod Says
