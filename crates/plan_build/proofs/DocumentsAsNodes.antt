@@ -119,15 +119,15 @@ always_holds gather T fs = record {
 
 -- ---- the law
 
-abbrev AllCome : Around → Related Part Set
+abbrev pub AllCome : Around → Related Part Set
 AllCome w types fs gs = Always types fs × AllZip (Comes w) fs gs
 
-kept : (w : Around) → Keeps (AllCome w) (AllCome w) (collect (setting w)) (collect_nodes w.project.defs)
+pub kept : (w : Around) → Keeps (AllCome w) (AllCome w) (collect (setting w)) (collect_nodes w.project.defs)
 kept w =
     items_keep (collect (setting w)) (collect_nodes w.project.defs) Always (Comes w) (Comes w)
     (λ T types fs here always. always_holds (collect (setting w)) T fs) (λ T types fs gs here always h. parts_items w T fs gs h)
 
-operation_comes : (w : Around) (o : OperationAt) → Comes w (part_of (setting w) o) (record { environment = w.own; nodes = (whole_operation w.project o).expanded.selections })
+pub operation_comes : (w : Around) (o : OperationAt) → Comes w (part_of (setting w) o) (record { environment = w.own; nodes = (whole_operation w.project o).expanded.selections })
 operation_comes w o =
     inl (record {
       scope = operation_scope;

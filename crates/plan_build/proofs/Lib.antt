@@ -15,8 +15,11 @@ pub mod ItemsAsNodes
 pub mod KeptSteps
 pub mod Meaning
 pub mod OrderLaws
+pub mod PartDepths
 pub mod PartLaws
 pub mod Parts
+pub mod ReachDepths
+pub mod Reaches
 pub mod SoundTypes
 pub mod StepLaws
 pub mod StepRows

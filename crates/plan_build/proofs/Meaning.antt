@@ -159,7 +159,7 @@ plan_items defs sound T types differ own (p ∷ ps) h =
     (λ i. step_items defs sound T p.set.environment types p.around p.type p.set.nodes differ own h.0.there h.0.suited i ++ plan_items defs sound T types differ own ps h.1 i)
     ∙ sym (map-append (step_item defs) (gather defs T p) (gather_all defs T ps))
 
-plans_keep : (defs : Defs) → AreSound defs → Keeps (ArePlans defs) (ArePlans defs) (collect_nodes defs) collect_plan
+pub plans_keep : (defs : Defs) → AreSound defs → Keeps (ArePlans defs) (ArePlans defs) (collect_nodes defs) collect_plan
 plans_keep defs sound T types fs gs own h =
     let k : RelatedAt defs T types fs gs = h T own in
     let us : List (Asked Part) = gather_all defs T k.parts in
@@ -192,7 +192,7 @@ merge_root defs own e none p q (inr f) g s u h k = absurd f
 pub root_has : (defs : Defs) → IsSound defs → (t : Text) → is_object defs t ≡ true → has_text (possible defs t) t ≡ true
 root_has defs sound t e = ap (λ (ts : List Text). has_text ts t) (object_alone defs (sound_meets defs sound) t e) ∙ ap (λ (b : Bool). b || false) (same_self t)
 
-root_plans : (defs : Defs) (own : Values) (e : Expanded) → IsSound defs → IsSuited defs e → field_differences defs e ≡ []
+pub root_plans : (defs : Defs) (own : Values) (e : Expanded) → IsSound defs → IsSuited defs e → field_differences defs e ≡ []
     → ArePlans defs (e.root ∷ []) (record { environment = own; nodes = e.selections } ∷ []) (record { environment = own; steps = plan_of defs e } ∷ [])
 root_plans defs own e sound suited none T h =
     let is : T ≡ e.root = only_one e.root T h in

@@ -1,17 +1,20 @@
 -- What holds of expanded operations and of their plans.
-use Rattle.std.specs.Prelude.{◌≡◌, ℕ, List, [], ◌++◌, Some, None}
+use Rattle.std.specs.Prelude.{◌≡◌, ℕ, List, [], ◌∷◌, ◌++◌, Some, None}
 use Rattle.gql_ast.specs.declared.document.Document.{Document}
 use Rattle.gql_ast.specs.declared.place.FilePlace.{FilePlace}
 use Rattle.gql_ast.specs.declared.place.Placed.{Placed}
 use Rattle.gql_graph.specs.Rules.{first_broken}
+use Rattle.gql_plain.specs.Order.{has_text}
 use Rattle.doc_merge.specs.Faults.{field_differences}
 use Rattle.plan_build.specs.NodesMeaning.{nodes_say}
-use Rattle.plan_build.specs.Plans.{MeansTheSame}
+use Rattle.plan_build.specs.Plans.{MeansTheSame, ReachesTheSame}
 use Rattle.plan_build.specs.Suited.{IsSuited}
 use Rattle.plan_ir.specs.Expansion.{Project, operation_named, project_of, whole_operation}
 use Rattle.plan_ir.specs.Normal.{Normal}
 use Rattle.plan_ir.specs.NormalMeaning.{plan_says}
+use Rattle.plan_ir.specs.NormalReach.{plan_reaches}
 use Rattle.relay_dirs.specs.RelayRules.{relay_rules}
+use Rattle.relay_model.specs.Reaches.{operation_reaches}
 use Rattle.relay_model.specs.Responses.{operation_says}
 use Rattle.schema_rules.specs.Checked.{IsSound}
 use Rattle.schema_tables.specs.Types.{Text, Defs}
@@ -20,6 +23,7 @@ use Rattle.schema_types.specs.Environments.{Values}
 use Rattle.schema_types.specs.NameRules.{operations}
 use Rattle.schema_types.specs.Sites.{DefinitionAt, OperationAt, all_definitions}
 use Rattle.serde_json.specs.Data as J
+use Rattle.store_model.specs.Walks.{Slots, type_of_record}
 
 -- a response says to an operation of the documents what it says to the operation's expansion
 abbrev pub DocumentsAreNodes : Type 0
@@ -50,3 +54,14 @@ PlansMeanDocuments = (defs : Defs) (ps : List (Placed Document)) (place : ℕ �
     → (own : Values) (response : J.Data)
     → plan_says (whole_operation (project_of defs place (definitions defs ps)) o).expanded.root own plan response
     ≡ operation_says (project_of defs place (definitions defs ps)) added o own response
+
+-- and in each map of records the walk by its plan stands at the same ids as the walk of the operation
+abbrev pub PlansReachDocuments : Type 0
+PlansReachDocuments = (defs : Defs) (ps : List (Placed Document)) (place : ℕ → FilePlace) (added : FilePlace) (name : Text) (o : OperationAt) (plan : Normal)
+    → IsSound defs → MeetsRules defs ps → operation_named (operations (definitions defs ps)) name ≡ Some o
+    → field_differences defs (whole_operation (project_of defs place (definitions defs ps)) o).expanded ≡ []
+    → ReachesTheSame defs (whole_operation (project_of defs place (definitions defs ps)) o).expanded plan
+    → (own : Values) (m : Slots) (id j : Text)
+    → has_text (plan_reaches (type_of_record (whole_operation (project_of defs place (definitions defs ps)) o).expanded.root) m own plan
+    ((whole_operation (project_of defs place (definitions defs ps)) o).expanded.root ∷ []) id) j
+    ≡ has_text (operation_reaches (project_of defs place (definitions defs ps)) added o own m id) j

@@ -1,4 +1,5 @@
 pub mod NodesMeaning
+pub mod NodesReach
 pub mod Suited
 pub mod Plans
 pub mod Laws

@@ -1,15 +1,19 @@
 -- What the plan of an expanded operation is held to.
-use Rattle.std.specs.Prelude.{◌≡◌, true, []}
+use Rattle.std.specs.Prelude.{◌≡◌, true, [], ◌∷◌}
 use Rattle.doc_merge.specs.Faults.{field_differences}
+use Rattle.gql_plain.specs.Order.{has_text}
 use Rattle.plan_build.specs.NodesMeaning.{nodes_say}
+use Rattle.plan_build.specs.NodesReach.{nodes_reach}
 use Rattle.plan_build.specs.Suited.{IsSuited}
 use Rattle.plan_ir.specs.Normal.{Normal}
 use Rattle.plan_ir.specs.NormalMeaning.{are_names, is_formed, plan_says}
+use Rattle.plan_ir.specs.NormalReach.{plan_reaches}
 use Rattle.plan_ir.specs.declared.expanded.Expanded.{Expanded}
 use Rattle.schema_rules.specs.Checked.{IsSound}
 use Rattle.schema_tables.specs.Types.{Text, Defs, possible}
 use Rattle.schema_types.specs.Environments.{Values}
 use Rattle.serde_json.specs.Data as J
+use Rattle.store_model.specs.Walks.{Slots, type_of_record}
 
 -- the object types of a schema that was read from a text have Names
 abbrev pub HaveNames : Defs → Type 0
@@ -23,3 +27,9 @@ abbrev pub MeansTheSame : Defs → Expanded → Normal → Type 0
 MeansTheSame defs e plan =
     IsSound defs → IsSuited defs e → field_differences defs e ≡ [] → (own : Values) (response : J.Data)
     → plan_says e.root own plan response ≡ nodes_say defs e own response
+
+-- and for each environment and map of records the walks by the plan and by the expanded operation stand at the same ids
+abbrev pub ReachesTheSame : Defs → Expanded → Normal → Type 0
+ReachesTheSame defs e plan =
+    IsSound defs → IsSuited defs e → field_differences defs e ≡ [] → (own : Values) (m : Slots) (id j : Text)
+    → has_text (plan_reaches (type_of_record e.root) m own plan (e.root ∷ []) id) j ≡ has_text (nodes_reach defs e own m id) j

@@ -1,5 +1,5 @@
 //! What plans mean.
-ghost use Rattle.plan_build.specs.Laws.{DocumentsAreNodes, OperationsAreSuited, PlansMeanDocuments};
+ghost use Rattle.plan_build.specs.Laws.{DocumentsAreNodes, OperationsAreSuited, PlansMeanDocuments, PlansReachDocuments};
 
 /// Law: a response says to an operation of the documents what it says to the operation's expansion.
 pub fn documents_are_nodes()
@@ -15,4 +15,10 @@ pub fn operations_are_suited()
 /// operation along the documents, with the fields that are added.
 pub fn plans_mean_documents()
     ensures { PlansMeanDocuments }
+{}
+
+/// Law: in each map of records the walk by the plan of an operation of an accepted project stands at
+/// the same ids as the walk of the operation along the documents, with the fields that are added.
+pub fn plans_reach_documents()
+    ensures { PlansReachDocuments }
 {}

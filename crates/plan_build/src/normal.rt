@@ -1,6 +1,6 @@
 //! The plan by which the responses to an operation are normalized.
 ghost use Rattle.std.specs.Prelude.{◌≡◌, [], ◌∷◌, IfOk};
-ghost use Rattle.plan_build.specs.Plans.{IsWellFormed, MeansTheSame};
+ghost use Rattle.plan_build.specs.Plans.{IsWellFormed, MeansTheSame, ReachesTheSame};
 ghost use Rattle.plan_build.specs.Steps.{plan_of};
 
 use crate::kept::Kept;
@@ -39,6 +39,7 @@ pub fn normal_plan(
 ) -> Result<NormalPlan, NoMemory>
     ensures formed { IfOk result (λ plan. IsWellFormed schema.now plan.steps) }
     ensures means { IfOk result (λ plan. MeansTheSame schema.now expanded.now plan.steps) }
+    ensures reaches { IfOk result (λ plan. ReachesTheSame schema.now expanded.now plan.steps) }
 {
     let plan = plan_of(alloc, schema, expanded)?;
     Ok(plan)

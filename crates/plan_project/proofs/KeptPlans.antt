@@ -4,13 +4,17 @@ use Rattle.gql_ast.specs.declared.document.Document.{Document}
 use Rattle.gql_ast.specs.declared.document.Fragment.{Fragment}
 use Rattle.gql_ast.specs.declared.document.Operation.{Operation}
 use Rattle.gql_ast.specs.declared.place.Placed.{Placed}
+use Rattle.gql_plain.specs.Order.{has_text}
 use Rattle.plan_build.proofs.DocumentsAsNodes.{documents_are_nodes}
+use Rattle.plan_build.proofs.Reaches.{documents_reach_nodes}
 use Rattle.plan_build.proofs.SuitedOperations.{operations_are_suited}
-use Rattle.plan_build.specs.Plans.{IsWellFormed, MeansTheSame}
+use Rattle.plan_build.specs.Plans.{IsWellFormed, MeansTheSame, ReachesTheSame}
+use Rattle.plan_build.specs.Suited.{IsSuited}
 use Rattle.plan_expand.specs.Answers.{project, whole_in}
 use Rattle.plan_expand.specs.Places.{place_in}
 use Rattle.plan_ir.specs.Expansion.{Whole, name_or, whole_operation}
 use Rattle.plan_ir.specs.NormalMeaning.{is_formed, plan_says}
+use Rattle.plan_ir.specs.NormalReach.{plan_reaches}
 use Rattle.plan_ir.specs.declared.expanded.Expanded.{Expanded}
 use Rattle.plan_ir.specs.declared.form.Form.TheVariants as F
 use Rattle.plan_project.proofs.Accepting.{fragment_is_on_composite, have_names, operation_has_root, operation_merges}
@@ -33,6 +37,7 @@ use Rattle.schema_types.specs.DocumentRules.{places_of}
 use Rattle.schema_types.specs.Environments.{Values}
 use Rattle.schema_types.specs.Sites.{FragmentAt, OperationAt}
 use Rattle.serde_json.specs.Data as J
+use Rattle.store_model.specs.Walks.{type_of_record}
 
 -- what holds of both, where both are there
 pub agree_so : {X Y : Type 0} (P Q : X → Y → Type 0) → ((x : X) (y : Y) → P x y → Q x y) → (a : Option X) (b : Option Y) → Agree P a b → Agree Q a b
@@ -45,22 +50,30 @@ module _ (defs : Defs) (ps : List (Placed Document)) (a : IsAcceptedProject defs
   -- ---- operations
 
   module _ (n : Text) (o : OperationAt) (there : operation_in defs ps n ≡ Some o) where
+    suited : IsSuited defs (whole_operation (project defs ps) o).expanded
+    suited = operations_are_suited defs ps (place_in (places_of ps)) n o a.accepted.sound a.accepted.meet there
+
     -- a plan of the operation's expansion means the operation
     normalizes : (c : Compiled) → c.root ≡ name_or (root defs o.kind) → IsWellFormed defs c.normal.value.steps
-        → MeansTheSame defs (whole_operation (project defs ps) o).expanded c.normal.value.steps → Normalizes defs ps o c
-    normalizes c at_root formed means = record {
+        → MeansTheSame defs (whole_operation (project defs ps) o).expanded c.normal.value.steps
+        → ReachesTheSame defs (whole_operation (project defs ps) o).expanded c.normal.value.steps → Normalizes defs ps o c
+    normalizes c at_root formed means reaches = record {
       formed = formed (have_names defs ps a);
       says = λ own response.
           ap (λ (r : Text). plan_says r own c.normal.value.steps response) at_root
-          ∙ means a.accepted.sound (operations_are_suited defs ps (place_in (places_of ps)) n o a.accepted.sound a.accepted.meet there) (operation_merges defs ps a n o there) own response
+          ∙ means a.accepted.sound suited (operation_merges defs ps a n o there) own response
           ∙ sym (documents_are_nodes (project defs ps) no_place o own response);
+      reaches = λ own m id j.
+          ap (λ (r : Text). has_text (plan_reaches (type_of_record r) m own c.normal.value.steps (r ∷ []) id) j) at_root
+          ∙ reaches a.accepted.sound suited (operation_merges defs ps a n o there) own m id j
+          ∙ sym (documents_reach_nodes (project defs ps) no_place o own m id j);
     }
 
   -- what is made of the expansion of the operation of a name
   pub operation_planned : (n : Text) (e : Expanded) (c : Compiled) → Some e ≡ option_map (λ (w : Whole). w.expanded) (whole_in defs ps F.Operation n)
       → c.name ≡ n → e.kind ≡ Some c.kind → c.root ≡ e.root → c.types ≡ e.root ∷ [] → c.variables ≡ e.variables
-      → IsWellFormed defs c.normal.value.steps → MeansTheSame defs e c.normal.value.steps → Some c.reader.value.steps ≡ reader_in defs ps F.Operation n → IsNamedOperation defs ps n c
-  operation_planned n e c whole name kind at_root types variables formed means planned = on (operation_in defs ps n) refl whole
+      → IsWellFormed defs c.normal.value.steps → MeansTheSame defs e c.normal.value.steps → ReachesTheSame defs e c.normal.value.steps → Some c.reader.value.steps ≡ reader_in defs ps F.Operation n → IsNamedOperation defs ps n c
+  operation_planned n e c whole name kind at_root types variables formed means reaches planned = on (operation_in defs ps n) refl whole
     where
       on : (x : Option OperationAt) → operation_in defs ps n ≡ x → Some e ≡ option_map (λ (w : Whole). w.expanded) (option_map (whole_operation (project defs ps)) x) → IsNamedOperation defs ps n c
       on None d w = absurd cc
@@ -81,7 +94,8 @@ module _ (defs : Defs) (ps : List (Placed Document)) (a : IsAcceptedProject defs
                 types = typed;
                 variables = variables ∙ ap (λ (x : Expanded). x.variables) same;
               };
-              normalizes = normalizes n o d c is_root formed (subst (λ (x : Expanded). MeansTheSame defs x c.normal.value.steps) same means);
+              normalizes = normalizes n o d c is_root formed (subst (λ (x : Expanded). MeansTheSame defs x c.normal.value.steps) same means)
+                  (subst (λ (x : Expanded). ReachesTheSame defs x c.normal.value.steps) same reaches);
               reads = reads_operation defs ps a n o c d is_root typed planned;
             };
           }

@@ -2,15 +2,18 @@
 use Rattle.std.specs.Prelude.{◌≡◌, true, List, [], ◌∷◌, map, Option, Some, None}
 use Rattle.gql_ast.specs.declared.document.Document.{Document}
 use Rattle.gql_ast.specs.declared.place.Placed.{Placed}
+use Rattle.gql_plain.specs.Order.{has_text}
 use Rattle.plan_expand.specs.Answers.{definitions_in, project}
 use Rattle.plan_ir.specs.Expansion.{name_or, operation_named, variable_trees}
 use Rattle.plan_ir.specs.NormalMeaning.{is_formed, plan_says}
+use Rattle.plan_ir.specs.NormalReach.{plan_reaches}
 use Rattle.plan_ir.specs.ReaderMeaning.{plan_reads}
 use Rattle.plan_project.specs.declared.operations.Compiled.{Compiled}
 use Rattle.plan_project.specs.declared.operations.CompiledFragment.{CompiledFragment}
 use Rattle.plan_read.specs.Laws.{AreLocals}
 use Rattle.relay_dirs.specs.Locals.{locals_of}
 use Rattle.relay_dirs.specs.View.{directives_of_all, local_view}
+use Rattle.relay_model.specs.Reaches.{operation_reaches}
 use Rattle.relay_model.specs.Readings.{fragment_reads, no_place, operation_reads, with_marked}
 use Rattle.relay_model.specs.Responses.{operation_says}
 use Rattle.schema_tables.specs.Types as schema
@@ -43,10 +46,13 @@ pub record KeepsOperation (defs : Defs) (n : Text) (o : OperationAt) (c : Compil
   pub types : c.types ≡ c.root ∷ []
   pub variables : c.variables ≡ variable_trees o.variables
 
--- under each environment, each response says to the plan what it says to the operation along the documents, with the fields that are added
+-- under each environment, each response says to the plan what it says to the operation along the documents, with the fields that are added,
+-- and in each map of records the walk by the plan stands at the same ids as the walk of the operation
 pub record Normalizes (defs : Defs) (ps : List (Placed Document)) (o : OperationAt) (c : Compiled) : Type 0 where
   pub formed : is_formed c.normal.value.steps ≡ true
   pub says : (own : Values) (response : J.Data) → plan_says c.root own c.normal.value.steps response ≡ operation_says (project defs ps) no_place o own response
+  pub reaches : (own : Values) (m : Slots) (id j : Text) → has_text (plan_reaches (type_of_record c.root) m own c.normal.value.steps (c.root ∷ []) id) j
+      ≡ has_text (operation_reaches (project defs ps) no_place o own m id) j
 
 -- ---- fragments
 

@@ -1,6 +1,6 @@
 -- What is made of the expansion is what the documents have.
 use Rattle.std.proofs.Common.{sym, refl, subst}
-use Rattle.plan_build.specs.Plans.{IsWellFormed, MeansTheSame}
+use Rattle.plan_build.specs.Plans.{IsWellFormed, MeansTheSame, ReachesTheSame}
 use Rattle.plan_ir.specs.declared.normal.NormalPlan.{NormalPlan}
 use Rattle.plan_project.proofs.KeptPlans.{operation_planned}
 use Rattle.plan_project.proofs.KeptReaders.{whole_has_reader}
@@ -17,4 +17,5 @@ returns c =
     operation_planned e.schema.now e.documents.now c.requires.ready.accepted c.args.name.now c.args.expanded _ c.requires.whole c.in_ok-copy.ensures c.in-Some.is refl c.in_ok-types.ensures refl
     (subst (λ (p : NormalPlan). IsWellFormed e.schema.now p.steps) (sym c.in_ok-normal.ensures.ok) c.in_ok-plan.ensures.formed)
     (subst (λ (p : NormalPlan). MeansTheSame e.schema.now c.args.expanded p.steps) (sym c.in_ok-normal.ensures.ok) c.in_ok-plan.ensures.means)
+    (subst (λ (p : NormalPlan). ReachesTheSame e.schema.now c.args.expanded p.steps) (sym c.in_ok-normal.ensures.ok) c.in_ok-plan.ensures.reaches)
     c.in_ok-reader.ensures
