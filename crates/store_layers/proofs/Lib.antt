@@ -4,4 +4,5 @@ pub mod Places
 pub mod Rebuilt
 pub mod Removed
 pub mod Steps
+pub mod Swept
 pub mod Versions

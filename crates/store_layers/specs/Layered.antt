@@ -1,9 +1,11 @@
 -- A base of records with layers over it, and what the calls make of them (this project's own).
 use Rattle.std.specs.Prelude.{List, [], ◌∷◌, ◌++◌, map, Bool, cond, bytes_eq}
 use Rattle.std.specs.List.{list_any}
+use Rattle.gql_plain.specs.Order.{has_text}
 use Rattle.store_record.specs.Keys.{Text}
 use Rattle.store_model.specs.Entries.{apply, fold_entries}
 use Rattle.store_model.specs.Records.{Records}
+use Rattle.store_model.specs.Sweeps.{sweep}
 use Rattle.store_model.specs.declared.entry.Entry.{Entry}
 
 -- the name of a layer, and its entry
@@ -64,3 +66,7 @@ finished name e s = record { base = apply e s.base; live = without name s.live }
 -- a layer is dropped
 abbrev pub reverted : Text → Layered → Layered
 reverted name s = record { base = s.base; live = without name s.live }
+
+-- the base without the ids that are not kept
+abbrev pub swept : List Text → Layered → Layered
+swept keep s = record { base = sweep (has_text keep) s.base; live = s.live }

@@ -1,16 +1,19 @@
 //! The layers.
 ghost use Rattle.std.specs.Prelude.{◌≡◌, ◌+◌, ◌*◌, ◌≤◌, ◌++◌, [], ◌∷◌, true, false, length, IfOk, OnOk, OnErr};
 ghost use Rattle.gql_plain.specs.Counted.{next_count};
+ghost use Rattle.gql_plain.specs.Order.{has_text};
 ghost use Rattle.store_model.specs.Entries.{weight, fold_entries};
 ghost use Rattle.store_model.specs.Records.{no_records};
+ghost use Rattle.store_model.specs.Sweeps.{dropped};
 ghost use Rattle.store_layers.specs.Changed.{AreChanged};
 ghost use Rattle.store_layers.specs.Layered as spec;
-ghost use Rattle.store_layers.specs.Layered.{entries_of, view_of, below, from_on, above, without, committed, begun, finished, reverted};
+ghost use Rattle.store_layers.specs.Layered.{entries_of, view_of, below, from_on, above, without, committed, begun, finished, reverted, swept};
 ghost use Rattle.store_layers.specs.Work.{counted, weights};
 
 use crate::fold::{Entries, copy_versions, newest};
 use crate::names::{copy_entries, count_of, is_named, place_of, put_layer};
 use crate::rebuild::{confirm, finish, revert};
+use crate::sweep::{ids_to_drop, without_ids};
 use gql_plain::{Ids, NoMemory, Words};
 use indexmap::IndexMap;
 use std::alloc::Global;
@@ -151,6 +154,26 @@ impl<S: RecordSource> Layers<S> {
         drop(self.entries.shift_remove_index(at));
         self.versions = rebuilt.versions;
         Ok(rebuilt.ids)
+    }
+
+    /// Takes each id that is not in `keep` out of the base, and gives those that were taken out, in
+    /// byte order. Where nothing goes, the base stays the same version.
+    pub fn sweep_base(&mut self, keep: &Ids, steps: &mut S::Count) -> Result<Ids, NoMemory>
+        requires alone { self.old.live ≡ [] }
+        ensures ok { OnOk result (self.new ≡ swept keep.now self.old) }
+        ensures err { OnErr result (self.new ≡ self.old) }
+        ensures dropped { IfOk result (λ ids. ids ≡ dropped (has_text keep.now) self.old.base) }
+        ensures applies { S.Count.applies steps.new ≡ S.Count.applies steps.old }
+        ensures looks { S.Count.looks steps.new ≡ S.Count.looks steps.old }
+    {
+        let alloc = *self.versions.allocator();
+        let gone = ids_to_drop(alloc, &self.base, keep)?;
+        if gone.is_empty() {
+            return Ok(gone);
+        }
+        let left = without_ids(&self.base, &gone, steps)?;
+        self.base = left;
+        Ok(gone)
     }
 
     /// The base with each live layer applied to it, in order of start; takes no memory.

@@ -6,5 +6,6 @@ mod ids;
 pub mod layers;
 mod names;
 mod rebuild;
+mod sweep;
 
 pub use layers::Layers;

@@ -1,0 +1,7 @@
+use Rattle.std.proofs.Common.{◌≡◌, not, take}
+use Rattle.std.specs.List.{filter}
+use Rattle.gql_plain.specs.Order.{has_text}
+use Rattle.store_layers.proofs.sweep.ids_to_drop.Given as goal
+
+abbrev pub invariant-ids : goal.invariant-ids
+invariant-ids g l = l.gone.items ≡ filter (λ id. not (has_text l.keep id)) (take l.id-index l.id-items)
