@@ -1,0 +1,11 @@
+pub mod Bools
+pub mod Follow
+pub mod CommonSteps
+pub mod Rounds
+pub mod Sets
+pub mod PutSteps
+pub mod Reaching
+pub mod TableSteps
+pub mod LevelSteps
+pub mod KeptSteps
+pub mod MarkSteps

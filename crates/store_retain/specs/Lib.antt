@@ -1,0 +1,10 @@
+pub mod Ways
+pub mod Steps
+pub mod Reach
+pub mod TrailView
+pub mod RoadView
+pub mod FoundView
+pub mod Stands
+pub mod Kept
+pub mod KeptCode
+pub mod KeptView

@@ -1,0 +1,281 @@
+//! The walk from record to record.
+//!
+//! It goes in rounds: a round takes the records where the walk goes on, each with its parts, one
+//! step further. Where it goes on next is a set, so a record is opened once for the same parts at
+//! the same depth, however many ways lead to it.
+ghost use Rattle.std.specs.Prelude.{◌≡◌, ◌||◌, [], ◌∷◌, map, Some, option_copied, OnOk};
+ghost use Rattle.gql_plain.specs.Order.{has_text};
+ghost use Rattle.store_model.specs.Entries.{some_id, some_ids};
+ghost use Rattle.store_model.specs.Reaches.{links_of, links_under};
+ghost use Rattle.store_model.specs.Walks.{field_of, type_of_record};
+ghost use Rattle.store_record.specs.Keys.{Text};
+ghost use Rattle.store_record.specs.declared.record.Slot.TheVariants.{Alive};
+ghost use Rattle.store_retain.specs.FoundView.{stand_of};
+ghost use Rattle.store_retain.specs.Reach.{reach_step};
+ghost use Rattle.store_retain.specs.RoadView.{road_of, table_of};
+ghost use Rattle.store_retain.specs.Steps.{Follows, road_steps, roads_steps, slots_of, stand_steps, stands_steps, steps_to, way_steps};
+ghost use Rattle.store_retain.specs.Steps as step;
+ghost use Rattle.store_retain.specs.TrailView.{way_of};
+
+use crate::found::{Found, Stands};
+use crate::roads::{Road, numbers_below, roads_from};
+use crate::trail::Trail;
+use gql_plain::{Id, Ids, NoMemory, OptIds, Words};
+use std::alloc::Global;
+use store_record::{Field, Record, Slot};
+use store_source::RecordSource;
+
+/// Where records are looked up, and the root type of the operation.
+#[derive(Drop)]
+pub(crate) struct Store<'s, S: RecordSource> {
+    pub(crate) source: &'s S,
+    pub(crate) root: &'s str,
+}
+
+/// Walks from an id along the part of a number, at most so many records one below another, the first
+/// one not counted. The record at the id may be of these types.
+pub(crate) fn walk<'s, S: RecordSource>(
+    alloc: Global,
+    store: &Store<'s, S>,
+    parts: &[Vec<Trail>],
+    types: &Ids,
+    numbers: &[usize],
+    id: &'s str,
+    rounds: usize,
+    found: &mut Found<'s>,
+    steps: &mut S::Count,
+) -> Result<(), NoMemory>
+    ensures ids { (j : Text) → OnOk result (has_text found.new.ids j ≡ (has_text found.old.ids j || has_text (reach_step (slots_of (S.records store.now.source.now)) store.now.root.now (table_of parts.now) rounds (record { id = id.now; types = types.now; parts = numbers.now })) j)) }
+    ensures applies { S.Count.applies steps.new ≡ S.Count.applies steps.old }
+{
+    drop(found.take_next(alloc));
+    stand(alloc, store, types, numbers, id, found, steps)?;
+    'rounds: for _ in 0..rounds {
+        let stands = found.take_next(alloc);
+        go_on(alloc, store, parts, &stands, found, steps)?;
+    }
+    Ok(())
+}
+
+/// Goes on from each record, one step further.
+fn go_on<'s, S: RecordSource>(
+    alloc: Global,
+    store: &Store<'s, S>,
+    parts: &[Vec<Trail>],
+    stands: &Stands<'s>,
+    found: &mut Found<'s>,
+    steps: &mut S::Count,
+) -> Result<(), NoMemory>
+    ensures follows { OnOk result (Follows (slots_of (S.records store.now.source.now)) store.now.root.now found.old found.new (stands_steps (slots_of (S.records store.now.source.now)) store.now.root.now (table_of parts.now) (map stand_of stands.now.keys))) }
+    ensures applies { S.Count.applies steps.new ≡ S.Count.applies steps.old }
+{
+    'stands: for (id, numbers) in stands {
+        go_on_from(alloc, store, parts, *id, numbers, found, steps)?;
+    }
+    Ok(())
+}
+
+/// Goes on from the record at an id, one step further.
+fn go_on_from<'s, S: RecordSource>(
+    alloc: Global,
+    store: &Store<'s, S>,
+    parts: &[Vec<Trail>],
+    id: &'s str,
+    numbers: &[usize],
+    found: &mut Found<'s>,
+    steps: &mut S::Count,
+) -> Result<(), NoMemory>
+    ensures follows { OnOk result (Follows (slots_of (S.records store.now.source.now)) store.now.root.now found.old found.new (stand_steps (slots_of (S.records store.now.source.now)) store.now.root.now (table_of parts.now) (id.now, numbers.now))) }
+    ensures applies { S.Count.applies steps.new ≡ S.Count.applies steps.old }
+{
+    let source = store.source;
+    match source.get(id, steps) {
+        Some(Slot::Alive(shared)) => {
+            let row = shared.get();
+            let object = type_of(store.root, row);
+            let roads = roads_from(alloc, parts, object, numbers)?;
+            follow_roads(alloc, store, row, &roads, found, steps)
+        }
+        Some(Slot::Deleted) => Ok(()),
+        None => Ok(()),
+    }
+}
+
+/// The type of a record, by the name of its type: the root record has the root type of the operation.
+fn type_of<'s>(root: &'s str, row: &'s Record) -> &'s str
+    ensures { result.now ≡ type_of_record root.now row.now.type_name }
+{
+    let name = row.type_name.as_str();
+    if name == "__Root" {
+        return root;
+    }
+    name
+}
+
+/// Follows each road from a record.
+fn follow_roads<'s, S: RecordSource>(
+    alloc: Global,
+    store: &Store<'s, S>,
+    row: &'s Record,
+    roads: &[Road<'_>],
+    found: &mut Found<'s>,
+    steps: &mut S::Count,
+) -> Result<(), NoMemory>
+    ensures follows { OnOk result (Follows (slots_of (S.records store.now.source.now)) store.now.root.now found.old found.new (roads_steps (field_of (Some (Alive row.now))) (map road_of roads.now))) }
+    ensures applies { S.Count.applies steps.new ≡ S.Count.applies steps.old }
+{
+    'roads: for road in roads {
+        follow_road(alloc, store, row, road, found, steps)?;
+    }
+    Ok(())
+}
+
+/// Follows the trails of a road from a record.
+fn follow_road<'s, S: RecordSource>(
+    alloc: Global,
+    store: &Store<'s, S>,
+    row: &'s Record,
+    road: &Road<'_>,
+    found: &mut Found<'s>,
+    steps: &mut S::Count,
+) -> Result<(), NoMemory>
+    ensures follows { OnOk result (Follows (slots_of (S.records store.now.source.now)) store.now.root.now found.old found.new (road_steps (field_of (Some (Alive row.now))) (road_of road.now))) }
+    ensures applies { S.Count.applies steps.new ≡ S.Count.applies steps.old }
+{
+    let numbers = numbers_below(alloc, &road.trails)?;
+    'trails: for at in &road.trails {
+        follow_trail(alloc, store, row, at.trail, &numbers, found, steps)?;
+    }
+    Ok(())
+}
+
+/// Follows a trail from a record.
+fn follow_trail<'s, S: RecordSource>(
+    alloc: Global,
+    store: &Store<'s, S>,
+    row: &'s Record,
+    trail: &Trail,
+    numbers: &[usize],
+    found: &mut Found<'s>,
+    steps: &mut S::Count,
+) -> Result<(), NoMemory>
+    ensures follows { OnOk result (Follows (slots_of (S.records store.now.source.now)) store.now.root.now found.old found.new (way_steps (field_of (Some (Alive row.now))) numbers.now (way_of trail.now))) }
+    ensures applies { S.Count.applies steps.new ≡ S.Count.applies steps.old }
+{
+    let field = row.fields.get(trail.key.as_str());
+    follow_field(alloc, store, &trail.types, numbers, field, found, steps)?;
+    let page = under_handle(row, &trail.handle);
+    follow_field(alloc, store, &trail.types, numbers, page, found, steps)
+}
+
+/// The field under the key of a connection, where there is one; takes no memory.
+fn under_handle<'s>(row: &'s Record, handle: &Option<Words>) -> Option<&'s Field>
+    ensures { links_of (option_copied result) ≡ links_under (field_of (Some (Alive row.now))) handle.now }
+{
+    match handle {
+        Some(handle) => row.fields.get(handle.as_str()),
+        None => None,
+    }
+}
+
+/// Stands at each id that a field links to.
+fn follow_field<'s, S: RecordSource>(
+    alloc: Global,
+    store: &Store<'s, S>,
+    types: &Ids,
+    numbers: &[usize],
+    field: Option<&'s Field>,
+    found: &mut Found<'s>,
+    steps: &mut S::Count,
+) -> Result<(), NoMemory>
+    ensures follows { OnOk result (Follows (slots_of (S.records store.now.source.now)) store.now.root.now found.old found.new (steps_to types.now numbers.now (links_of (option_copied field.entry)))) }
+    ensures applies { S.Count.applies steps.new ≡ S.Count.applies steps.old }
+{
+    match field {
+        Some(Field::Leaf(_)) => Ok(()),
+        Some(Field::Link(id)) => stand(alloc, store, types, numbers, id.as_str(), found, steps),
+        Some(Field::Links(ids)) => follow_ids(alloc, store, types, numbers, ids, found, steps),
+        None => Ok(()),
+    }
+}
+
+/// Stands at each of the ids of a list.
+fn follow_ids<'s, S: RecordSource>(
+    alloc: Global,
+    store: &Store<'s, S>,
+    types: &Ids,
+    numbers: &[usize],
+    ids: &'s OptIds,
+    found: &mut Found<'s>,
+    steps: &mut S::Count,
+) -> Result<(), NoMemory>
+    ensures follows { OnOk result (Follows (slots_of (S.records store.now.source.now)) store.now.root.now found.old found.new (steps_to types.now numbers.now (some_ids ids.now))) }
+    ensures applies { S.Count.applies steps.new ≡ S.Count.applies steps.old }
+{
+    'ids: for id in ids.as_slice() {
+        follow_id(alloc, store, types, numbers, id, found, steps)?;
+    }
+    Ok(())
+}
+
+/// Stands at an id, where there is one.
+fn follow_id<'s, S: RecordSource>(
+    alloc: Global,
+    store: &Store<'s, S>,
+    types: &Ids,
+    numbers: &[usize],
+    id: &'s Option<Id>,
+    found: &mut Found<'s>,
+    steps: &mut S::Count,
+) -> Result<(), NoMemory>
+    ensures follows { OnOk result (Follows (slots_of (S.records store.now.source.now)) store.now.root.now found.old found.new (steps_to types.now numbers.now (some_id id.now))) }
+    ensures applies { S.Count.applies steps.new ≡ S.Count.applies steps.old }
+{
+    match id {
+        Some(id) => stand(alloc, store, types, numbers, id.as_str(), found, steps),
+        None => Ok(()),
+    }
+}
+
+/// Stands at an id. The walk goes on from there with these parts where the record is live and of one
+/// of these types.
+fn stand<'s, S: RecordSource>(
+    alloc: Global,
+    store: &Store<'s, S>,
+    types: &Ids,
+    numbers: &[usize],
+    id: &'s str,
+    found: &mut Found<'s>,
+    steps: &mut S::Count,
+) -> Result<(), NoMemory>
+    ensures follows { OnOk result (Follows (slots_of (S.records store.now.source.now)) store.now.root.now found.old found.new (record { id = id.now; types = types.now; parts = numbers.now } ∷ [])) }
+    ensures applies { S.Count.applies steps.new ≡ S.Count.applies steps.old }
+{
+    found.see(id)?;
+    if !is_possible(store, types, id, steps) {
+        return Ok(());
+    }
+    found.go_on(alloc, id, numbers)?;
+    Ok(())
+}
+
+/// Whether the record at an id is live and of one of these types.
+fn is_possible<S: RecordSource>(
+    store: &Store<'_, S>,
+    types: &Ids,
+    id: &str,
+    steps: &mut S::Count,
+) -> bool
+    ensures possible { result ≡ step.is_possible store.now.root.now types.now (slots_of (S.records store.now.source.now) id.now) }
+    ensures applies { S.Count.applies steps.new ≡ S.Count.applies steps.old }
+{
+    let source = store.source;
+    match source.get(id, steps) {
+        Some(Slot::Alive(shared)) => {
+            let object = type_of(store.root, shared.get());
+            types.contains(object)
+        }
+        Some(Slot::Deleted) => false,
+        None => false,
+    }
+}
