@@ -22,15 +22,16 @@ use Rattle.gql_lex.specs.Sources.{read as read_text}
 use Rattle.gql_plain.specs.Tree as t
 use Rattle.plan_ir.specs.Expansion.{operation_named}
 use Rattle.gql_plain.specs.declared.plain.Plain.TheVariants.{Null, Int, Text as Words}
-use Rattle.relay_machine.specs.Machine.{Project, State, Step, accept, answer_read, beginning, definitions_in, documents_of, refuse, slots_of, step_event, step_line, view}
-use Rattle.relay_machine.specs.Refusals.{handles, layers, too_many}
+use Rattle.relay_machine.specs.Machine.{Handle, Project, State, Step, Watch, accept, beginning, confirmed, definitions_in, documents_of, refuse, slots_of, step_event, step_line, view}
+use Rattle.relay_machine.specs.Printed.{notice_line, read_line}
+use Rattle.relay_machine.specs.Refusals.{handles, layers, watches, too_many}
 use Rattle.relay_model.specs.Readings.{operation_reads}
 use Rattle.schema_tables.specs.Types.{Text, Defs}
 use Rattle.schema_types.specs.NameRules.{operations}
 use Rattle.schema_types.specs.Sites.{OperationAt}
 use Rattle.serde_json.proofs.OnLiterals.{serde_json_on_literals}
 use Rattle.serde_json.specs.Data as J
-use Rattle.store_model.specs.Events.{Answer, Event, retain, release, payload, update, begin, finish, revert, read, collect, Line, event, too_long, not_json, no_event, no_commands}
+use Rattle.store_model.specs.Events.{Answer, Event, retain, release, payload, update, begin, finish, revert, read, watch, unwatch, collect, Line, event, too_long, not_json, no_event, no_commands}
 use Rattle.store_model.specs.declared.command.Command.{Command}
 use Rattle.store_model.specs.declared.command.Command.TheVariants as C
 use Rattle.store_model.specs.declared.entry.Entry.{Entry}
@@ -39,7 +40,7 @@ use Rattle.store_record.specs.declared.field.Field.{Field}
 use Rattle.store_record.specs.declared.field.Field.TheVariants.{Leaf, Link, Links}
 use Rattle.store_record.specs.declared.record.Slot.{Slot}
 use Rattle.store_record.specs.declared.record.Slot.TheVariants.{Alive}
-use Rattle.store_model.specs.Walks.{Slots}
+use Rattle.store_model.specs.Walks.{Reading, Slots, reading}
 
 -- ---- the schema: `type Query{me:User node(id:ID!):User} type User{id:ID! name:String age:Int friend:User}`
 
@@ -118,14 +119,14 @@ ann = object_in (codes "me") (text (codes "id") (codes "4") (text (codes "name")
 -- the state after events, from the first line on
 abbrev after : State → ℕ → List Event → State
 after s n [] = s
-after s n (e ∷ es) = after (step_event project s n e).state n es
+after s n (e ∷ es) = after (step_event project 10 s n e).state n es
 
 abbrev retained : Text → Event
 retained op = retain (codes "h") op []
 
 -- what the last event writes
 abbrev writes : List Event → ℕ → Event → Step
-writes es n e = step_event project (after beginning 1 es) n e
+writes es n e = step_event project 10 (after beginning 1 es) n e
 
 abbrev read_h : Event
 read_h = read (record { handle = codes "h"; part = None })
@@ -157,12 +158,12 @@ ann_entry = record {
   commands = [];
 }
 
-pub a_payload_is_an_entry : (after beginning 1 (retained (codes "Q") ∷ paid ann ∷ [])).entries ≡ ann_entry ∷ []
+pub a_payload_is_an_entry : (after beginning 1 (retained (codes "Q") ∷ paid ann ∷ [])).entries ≡ confirmed ann_entry ∷ []
 unfolding serde_json_on_literals digits read_text head
 a_payload_is_an_entry = refl
 
 abbrev ann_state : State
-ann_state = record { entries = ann_entry ∷ []; layers = []; handles = [] }
+ann_state = record { entries = confirmed ann_entry ∷ []; layers = []; handles = []; released = []; watches = [] }
 
 abbrev root_row : Slot
 root_row = Alive (record { type_name = codes "__Root"; fields = (codes "me", Link (codes "4")) ∷ [] })
@@ -170,10 +171,10 @@ root_row = Alive (record { type_name = codes "__Root"; fields = (codes "me", Lin
 abbrev ann_row : Slot
 ann_row = Alive (record { type_name = codes "User"; fields = (codes "id", Leaf (Words (codes "4"))) ∷ (codes "name", Leaf (Words (codes "Ann"))) ∷ [] })
 
-pub a_root_is_seen : slots_of (view ann_state) (codes "client:root") ≡ Some root_row
+pub a_root_is_seen : slots_of (view project ann_state) (codes "client:root") ≡ Some root_row
 a_root_is_seen = simp (gets) refl
 
-pub a_user_is_seen : slots_of (view ann_state) (codes "4") ≡ Some ann_row
+pub a_user_is_seen : slots_of (view project ann_state) (codes "4") ≡ Some ann_row
 a_user_is_seen = simp (gets) refl
 
 -- what is read of them
@@ -184,13 +185,16 @@ paid_slots id = cond (bytes_eq id (codes "client:root")) (Some root_row) (cond (
 abbrev no_slots : Slots
 no_slots id = None
 
--- the text of a read of the operation of a name
-abbrev reads_of : Text → Slots → ℕ → Option OperationAt → Text
-reads_of name m n None = []
-reads_of name m n (Some o) = (answer_read beginning n (operation_reads (documents_of project) o [] (codes "h") m (codes "client:root"))).text
+-- the line of what the operation of a name shows
+abbrev line_of_read : (Reading → Text) → Slots → Option OperationAt → Text
+line_of_read line m None = []
+line_of_read line m (Some o) = line (reading (operation_reads (documents_of project) o [] (codes "h") m (codes "client:root")))
+
+abbrev shows : (Reading → Text) → Text → Slots → Text
+shows line name m = line_of_read line m (operation_named (operations (definitions_in project)) name)
 
 abbrev reads : Text → Slots → ℕ → Text
-reads name m n = reads_of name m n (operation_named (operations (definitions_in project)) name)
+reads name m n = shows (read_line n) name m
 
 pub an_operation_is_read : reads (codes "Q") paid_slots 3
     ≡ codes "{\"data\":{\"me\":{\"name\":\"Ann\"}},\"missing\":false,\"n\":3,\"ok\":\"read\",\"seen\":[\"4\",\"client:root\"]}\n"
@@ -215,7 +219,7 @@ refused_with line s = record { text = line; refused = true; state = s }
 abbrev of_h : Text → State
 of_h op = after beginning 1 (retained op ∷ [])
 
-pub two_names_conflict : step_event project (of_h (codes "C")) 2
+pub two_names_conflict : step_event project 10 (of_h (codes "C")) 2
     (paid (object_in (codes "me") (text (codes "id") (codes "4") (text (codes "name") (codes "Ann")
     (object_in (codes "friend") (text (codes "id") (codes "4") (text (codes "name") (codes "Eve") J.no_members)) J.no_members))) J.no_members))
     ≡ refused_with (codes "{\"cause\":\"Conflict\",\"code\":16,\"error\":\"Payload\",\"first\":\"Eve\",\"id\":\"4\",\"key\":\"name\",\"n\":2,\"path\":[\"me\",\"name\"],\"second\":\"Ann\"}\n") (of_h (codes "C"))
@@ -226,13 +230,13 @@ two_names_conflict = refl
 abbrev great_age : J.Members
 great_age = object_in (codes "me") (text (codes "id") (codes "4") (J.member (codes "age") (J.number (J.unsigned 9223372036854775808)) J.no_members)) J.no_members
 
-pub a_number_is_not_whole : step_event project (of_h (codes "N")) 2 (paid great_age)
+pub a_number_is_not_whole : step_event project 10 (of_h (codes "N")) 2 (paid great_age)
     ≡ refused_with (codes "{\"cause\":\"NotWhole\",\"code\":16,\"error\":\"Payload\",\"n\":2,\"path\":[\"me\",\"age\"]}\n") (of_h (codes "N"))
 unfolding serde_json_on_literals digits read_text head
 a_number_is_not_whole = refl
 
 -- what is not selected is not looked at
-pub another_number_is_not_looked_at : (step_event project (of_h (codes "N")) 2 (payload (record {
+pub another_number_is_not_looked_at : (step_event project 10 (of_h (codes "N")) 2 (payload (record {
   handle = codes "h";
   response = J.object (J.member (codes "data") (J.object (object_in (codes "me") (text (codes "id") (codes "4") J.no_members) J.no_members)) (object_in (codes "extensions") great_age J.no_members));
 }) [])).text ≡ codes "{\"n\":2,\"ok\":\"payload\"}\n"
@@ -242,22 +246,22 @@ another_number_is_not_looked_at = refl
 abbrev with_id : Text → J.Members
 with_id i = object_in (codes "me") (text (codes "id") i J.no_members) J.no_members
 
-pub an_id_is_reserved : step_event project (of_h (codes "Q")) 2 (paid (with_id (codes "client:root")))
+pub an_id_is_reserved : step_event project 10 (of_h (codes "Q")) 2 (paid (with_id (codes "client:root")))
     ≡ refused_with (codes "{\"cause\":\"ReservedId\",\"code\":16,\"error\":\"Payload\",\"n\":2,\"path\":[\"me\",\"id\"]}\n") (of_h (codes "Q"))
 unfolding serde_json_on_literals digits read_text head
 an_id_is_reserved = refl
 
-pub an_id_is_empty : step_event project (of_h (codes "Q")) 2 (paid (with_id []))
+pub an_id_is_empty : step_event project 10 (of_h (codes "Q")) 2 (paid (with_id []))
     ≡ refused_with (codes "{\"cause\":\"IdShape\",\"code\":16,\"error\":\"Payload\",\"n\":2,\"path\":[\"me\",\"id\"]}\n") (of_h (codes "Q"))
 unfolding serde_json_on_literals digits read_text head
 an_id_is_empty = refl
 
-pub a_list_is_no_object : step_event project (of_h (codes "Q")) 2 (paid (J.member (codes "me") (J.array J.no_items) J.no_members))
+pub a_list_is_no_object : step_event project 10 (of_h (codes "Q")) 2 (paid (J.member (codes "me") (J.array J.no_items) J.no_members))
     ≡ refused_with (codes "{\"cause\":\"Shape\",\"code\":16,\"error\":\"Payload\",\"n\":2,\"path\":[\"me\"]}\n") (of_h (codes "Q"))
 unfolding serde_json_on_literals digits read_text head
 a_list_is_no_object = refl
 
-pub data_is_null : step_event project (of_h (codes "Q")) 2 (payload (record { handle = codes "h"; response = data_of J.null }) [])
+pub data_is_null : step_event project 10 (of_h (codes "Q")) 2 (payload (record { handle = codes "h"; response = data_of J.null }) [])
     ≡ refused_with (codes "{\"cause\":\"NoData\",\"code\":16,\"error\":\"Payload\",\"n\":2,\"path\":[]}\n") (of_h (codes "Q"))
 unfolding serde_json_on_literals digits read_text head
 data_is_null = refl
@@ -265,21 +269,21 @@ data_is_null = refl
 -- ---- each other refusal
 
 abbrev refuses : State → ℕ → Event → List ℕ → Type 0
-refuses s n e line = step_event project s n e ≡ refused_with line s
+refuses s n e line = step_event project 10 s n e ≡ refused_with line s
 
-pub no_json : step_line project beginning 1 not_json ≡ refused_with (codes "{\"code\":1,\"error\":\"NotJson\",\"n\":1}\n") beginning
+pub no_json : step_line project 10 beginning 1 not_json ≡ refused_with (codes "{\"code\":1,\"error\":\"NotJson\",\"n\":1}\n") beginning
 unfolding serde_json_on_literals digits
 no_json = refl
 
-pub no_event_is_it : step_line project beginning 1 no_event ≡ refused_with (codes "{\"code\":2,\"error\":\"EventShape\",\"n\":1}\n") beginning
+pub no_event_is_it : step_line project 10 beginning 1 no_event ≡ refused_with (codes "{\"code\":2,\"error\":\"EventShape\",\"n\":1}\n") beginning
 unfolding serde_json_on_literals digits
 no_event_is_it = refl
 
-pub its_updates_are_none : step_line project beginning 1 no_commands ≡ refused_with (codes "{\"code\":3,\"error\":\"UpdateShape\",\"n\":1}\n") beginning
+pub its_updates_are_none : step_line project 10 beginning 1 no_commands ≡ refused_with (codes "{\"code\":3,\"error\":\"UpdateShape\",\"n\":1}\n") beginning
 unfolding serde_json_on_literals digits
 its_updates_are_none = refl
 
-pub a_line_is_too_long : step_line project beginning 3 too_long ≡ refused_with (codes "{\"code\":4,\"error\":\"LineTooLong\",\"n\":3}\n") beginning
+pub a_line_is_too_long : step_line project 10 beginning 3 too_long ≡ refused_with (codes "{\"code\":4,\"error\":\"LineTooLong\",\"n\":3}\n") beginning
 unfolding serde_json_on_literals digits
 a_line_is_too_long = refl
 
@@ -314,15 +318,17 @@ pub a_layer_is_taken : refuses begun 2 (begin (codes "a") None []) (codes "{\"co
 unfolding serde_json_on_literals digits
 a_layer_is_taken = refl
 
-pub a_layer_is_reverted : step_event project begun 2 (revert (codes "a")) ≡ accept (codes "{\"n\":2,\"ok\":\"revert\"}\n") beginning
+pub a_layer_is_reverted : step_event project 10 begun 2 (revert (codes "a")) ≡ accept (codes "{\"n\":2,\"ok\":\"revert\"}\n") beginning
 unfolding serde_json_on_literals digits
 a_layer_is_reverted = refl
 
-pub a_layer_is_finished : step_event project begun 2 (finish (codes "a") None (C.Delete (codes "5") ∷ []))
+pub a_layer_is_finished : step_event project 10 begun 2 (finish (codes "a") None (C.Delete (codes "5") ∷ []))
     ≡ accept (codes "{\"n\":2,\"ok\":\"finish\"}\n") (record {
-      entries = record { facts = record { facts = []; handles = [] }; commands = C.Delete (codes "5") ∷ [] } ∷ [];
+      entries = confirmed (record { facts = record { facts = []; handles = [] }; commands = C.Delete (codes "5") ∷ [] }) ∷ [];
       layers = [];
       handles = [];
+      released = [];
+      watches = [];
     })
 unfolding serde_json_on_literals digits
 a_layer_is_finished = refl
@@ -349,9 +355,56 @@ pub a_local_variable_does_not_fit : refuses (of_h (codes "F")) 2 (read_part_of (
 unfolding serde_json_on_literals digits read_text head
 a_local_variable_does_not_fit = refl
 
-pub another_event_is_not_taken_yet : refuses beginning 3 collect (codes "{\"code\":90,\"error\":\"NotYet\",\"n\":3}\n")
+-- ---- releases, sweeps and watches
+
+pub an_operation_is_released : (step_event project 10 (of_h (codes "Q")) 2 (release (codes "h"))).text ≡ codes "{\"n\":2,\"ok\":\"release\"}\n"
+unfolding serde_json_on_literals digits read_text head
+an_operation_is_released = refl
+
+pub its_handle_is_gone : (step_event project 10 (of_h (codes "Q")) 2 (release (codes "h"))).state.handles ≡ []
+unfolding serde_json_on_literals digits read_text head
+its_handle_is_gone = refl
+
+pub a_handle_to_release_is_unknown : refuses beginning 2 (release (codes "z")) (codes "{\"code\":7,\"error\":\"UnknownHandle\",\"n\":2,\"name\":\"z\"}\n")
 unfolding serde_json_on_literals digits
-another_event_is_not_taken_yet = refl
+a_handle_to_release_is_unknown = refl
+
+pub a_sweep_waits : step_event project 10 begun 2 collect ≡ accept (codes "{\"dropped\":0,\"n\":2,\"ok\":\"collect\",\"waiting\":true}\n") begun
+unfolding serde_json_on_literals digits
+a_sweep_waits = refl
+
+-- a watch of each handle's operation, which showed nothing
+abbrev watches_on : List Handle → List Watch
+watches_on [] = []
+watches_on (h ∷ hs) = record { name = codes "w"; handle = h; part = None; value = t.null; missing = true } ∷ watches_on hs
+
+abbrev watched : State
+watched =
+    record { entries = []; layers = []; handles = (of_h (codes "Q")).handles; released = []; watches = watches_on (of_h (codes "Q")).handles }
+
+abbrev target_h : Event
+target_h = watch (codes "w") (record { handle = codes "h"; part = None })
+
+pub a_handle_is_in_use : refuses watched 3 (release (codes "h")) (codes "{\"code\":9,\"error\":\"HandleInUse\",\"n\":3,\"name\":\"h\"}\n")
+unfolding serde_json_on_literals digits
+a_handle_is_in_use = refl
+
+pub a_watch_is_unknown : refuses beginning 3 (unwatch (codes "w")) (codes "{\"code\":12,\"error\":\"UnknownWatch\",\"n\":3,\"name\":\"w\"}\n")
+unfolding serde_json_on_literals digits
+a_watch_is_unknown = refl
+
+pub a_watch_is_taken : refuses watched 3 target_h (codes "{\"code\":13,\"error\":\"WatchTaken\",\"n\":3,\"name\":\"w\"}\n")
+unfolding serde_json_on_literals digits
+a_watch_is_taken = refl
+
+pub a_watch_ends : (step_event project 10 watched 3 (unwatch (codes "w"))).text ≡ codes "{\"n\":3,\"ok\":\"unwatch\"}\n"
+unfolding serde_json_on_literals digits
+a_watch_ends = refl
+
+pub a_change_is_told : shows (notice_line 5 (codes "w")) (codes "Q") paid_slots
+    ≡ codes "{\"data\":{\"me\":{\"name\":\"Ann\"}},\"missing\":false,\"n\":5,\"notice\":\"w\",\"seen\":[\"4\",\"client:root\"]}\n"
+unfolding serde_json_on_literals digits read_text head
+a_change_is_told = refl
 
 -- ---- as many as may be live
 
@@ -362,3 +415,7 @@ there_are_too_many_handles = refl
 pub there_are_too_many_layers : (refuse beginning 1001 (too_many layers)).text ≡ codes "{\"code\":17,\"error\":\"TooMany\",\"kind\":\"layers\",\"limit\":1000,\"n\":1001}\n"
 unfolding serde_json_on_literals digits
 there_are_too_many_layers = refl
+
+pub there_are_too_many_watches : (refuse beginning 7 (too_many watches)).text ≡ codes "{\"code\":17,\"error\":\"TooMany\",\"kind\":\"watches\",\"limit\":10000,\"n\":7}\n"
+unfolding serde_json_on_literals digits
+there_are_too_many_watches = refl

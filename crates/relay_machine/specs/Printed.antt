@@ -1,5 +1,5 @@
 -- The printed lines: compact JSON with keys in byte order, each ended by LF (this project's own).
-use Rattle.std.specs.Prelude.{ℕ, pos, List, [], ◌∷◌, ◌++◌, map, codes}
+use Rattle.std.specs.Prelude.{ℕ, Bool, pos, List, [], ◌∷◌, ◌++◌, map, codes}
 use Rattle.gql_plain.specs.ToJson.{compact}
 use Rattle.gql_plain.specs.Tree.{Tree, truth, whole, text, list, trees_of}
 use Rattle.relay_machine.specs.Refusals.{Refusal, code_of, keys_of, name_of}
@@ -22,11 +22,27 @@ number n = whole (pos n)
 abbrev pub event_line : (event : Text) → ℕ → Text
 event_line event n = line ((codes "n", number n) ∷ (codes "ok", text event) ∷ [])
 
+-- a line that shows what a read gives; a member says of which event or watch
+abbrev pub shown_line : ℕ → (Text × Tree) → Reading → Text
+shown_line n of r =
+    line ((codes "data", r.value) ∷ (codes "missing", truth r.missing) ∷ (codes "n", number n) ∷ of ∷ (codes "seen", list (trees_of (map text r.seen))) ∷ [])
+
 -- the answer of a read
 abbrev pub read_line : ℕ → Reading → Text
-read_line n r =
-    line ((codes "data", r.value) ∷ (codes "missing", truth r.missing) ∷ (codes "n", number n) ∷ (codes "ok", text (codes "read"))
-    ∷ (codes "seen", list (trees_of (map text r.seen))) ∷ [])
+read_line n r = shown_line n (codes "ok", text (codes "read")) r
+
+-- the answer of a watch that starts
+abbrev pub watch_line : ℕ → Reading → Text
+watch_line n r = shown_line n (codes "ok", text (codes "watch")) r
+
+-- the notice of a watch
+abbrev pub notice_line : ℕ → (name : Text) → Reading → Text
+notice_line n name r = shown_line n (codes "notice", text name) r
+
+-- the answer of a sweep: how many ids were dropped, and whether it waits for the live layers
+abbrev pub collect_line : ℕ → (dropped : ℕ) → (waiting : Bool) → Text
+collect_line n dropped waiting =
+    line ((codes "dropped", number dropped) ∷ (codes "n", number n) ∷ (codes "ok", text (codes "collect")) ∷ (codes "waiting", truth waiting) ∷ [])
 
 -- a refused line: the refusal's code and name, the number of the line, and the further keys
 abbrev pub refusal_line : ℕ → Refusal → Text

@@ -13,13 +13,14 @@ use Rattle.store_record.specs.Keys.{Text}
 use Rattle.store_record.specs.declared.field.Field.{Field}
 use Rattle.store_record.specs.declared.field.Field.TheVariants.{Leaf, Link, Links}
 
--- what there may be no more of: handles, layers
+-- what there may be no more of
 pub data Limited : Type 0 where
-  handles layers : Limited
+  handles layers watches : Limited
 
 abbrev pub most : Limited → ℕ
 most handles = 10000
 most layers = 1000
+most watches = 10000
 
 pub data Refusal : Type 0 where
   -- the line is no JSON
@@ -38,10 +39,16 @@ pub data Refusal : Type 0 where
   unknown_handle : (name : Text) → Refusal
   -- a handle of the name is live
   handle_taken : (name : Text) → Refusal
+  -- a live watch was started with the handle of the name
+  handle_in_use : (name : Text) → Refusal
   -- no layer of the name is live
   unknown_layer : (name : Text) → Refusal
   -- a layer of the name is live
   layer_taken : (name : Text) → Refusal
+  -- no watch of the name is live
+  unknown_watch : (name : Text) → Refusal
+  -- a watch of the name is live
+  watch_taken : (name : Text) → Refusal
   -- a command names this, which is no object type of the schema
   unknown_type : (name : Text) → Refusal
   -- a variable has no value, or one that does not fit
@@ -50,8 +57,6 @@ pub data Refusal : Type 0 where
   payload : PayloadFault → Refusal
   -- as many as there may be are live
   too_many : Limited → Refusal
-  -- a line whose form is not taken yet
-  not_yet : Refusal
 
 abbrev pub code_of : Refusal → ℕ
 code_of not_json = 1
@@ -62,13 +67,15 @@ code_of (unknown_operation name) = 5
 code_of (unknown_fragment name) = 6
 code_of (unknown_handle name) = 7
 code_of (handle_taken name) = 8
+code_of (handle_in_use name) = 9
 code_of (unknown_layer name) = 10
 code_of (layer_taken name) = 11
+code_of (unknown_watch name) = 12
+code_of (watch_taken name) = 13
 code_of (unknown_type name) = 14
 code_of (variables f) = 15
 code_of (payload f) = 16
 code_of (too_many l) = 17
-code_of not_yet = 90
 
 abbrev pub name_of : Refusal → Text
 name_of not_json = codes "NotJson"
@@ -79,13 +86,15 @@ name_of (unknown_operation name) = codes "UnknownOperation"
 name_of (unknown_fragment name) = codes "UnknownFragment"
 name_of (unknown_handle name) = codes "UnknownHandle"
 name_of (handle_taken name) = codes "HandleTaken"
+name_of (handle_in_use name) = codes "HandleInUse"
 name_of (unknown_layer name) = codes "UnknownLayer"
 name_of (layer_taken name) = codes "LayerTaken"
+name_of (unknown_watch name) = codes "UnknownWatch"
+name_of (watch_taken name) = codes "WatchTaken"
 name_of (unknown_type name) = codes "UnknownType"
 name_of (variables f) = codes "Variables"
 name_of (payload f) = codes "Payload"
 name_of (too_many l) = codes "TooMany"
-name_of not_yet = codes "NotYet"
 
 -- ---- further keys
 
@@ -115,6 +124,7 @@ cause_name (Conflict id key first second) = codes "Conflict"
 abbrev pub limited_name : Limited → Text
 limited_name handles = codes "handles"
 limited_name layers = codes "layers"
+limited_name watches = codes "watches"
 
 abbrev pub failure_keys : Failure → List (Text × Tree)
 failure_keys (missing name) = (codes "cause", text (codes "Missing")) ∷ (codes "variable", text name) ∷ []
@@ -144,11 +154,13 @@ keys_of (unknown_operation name) = name_key name
 keys_of (unknown_fragment name) = name_key name
 keys_of (unknown_handle name) = name_key name
 keys_of (handle_taken name) = name_key name
+keys_of (handle_in_use name) = name_key name
 keys_of (unknown_layer name) = name_key name
 keys_of (layer_taken name) = name_key name
+keys_of (unknown_watch name) = name_key name
+keys_of (watch_taken name) = name_key name
 keys_of (unknown_type name) = name_key name
 keys_of (variables f) = failure_keys f
 keys_of (payload f) =
     (codes "cause", text (cause_name f.cause)) ∷ (codes "path", list (trees_of (map shown_step f.path))) ∷ conflict_keys f.cause
 keys_of (too_many l) = (codes "kind", text (limited_name l)) ∷ (codes "limit", whole (pos (most l))) ∷ []
-keys_of not_yet = []
