@@ -2,13 +2,13 @@
 use Rattle.std.proofs.Common.{◌≡◌, List, [], ◌∷◌, ◌++◌, refl, sym, ap, ◌∙◌, append_assoc, append-nil, Result, IfOk}
 use Rattle.std.proofs.lemmas.Result.{IfOk-weaker}
 use Rattle.gql_plain.proofs.Tokens.{print-tree_tokens}
-use Rattle.gql_plain.specs.ToJson.{compact, members_tokens}
+use Rattle.gql_plain.specs.ToJson.{members_tokens}
 use Rattle.gql_plain.specs.Tree.{Tree, members_of}
 use Rattle.gql_plain.specs.declared.memory.NoMemory.{NoMemory}
 use Rattle.json.specs.Print.{print}
 use Rattle.json.specs.Token as token
 use Rattle.json.specs.Token.{Token}
-use Rattle.relay_lines.specs.Members.{member_tokens}
+use Rattle.relay_lines.specs.Members.{member_tokens, ordered_line}
 use Rattle.relay_machine.specs.Printed.{in_order, line}
 use Rattle.store_model.specs.Walks.{shown_object}
 use Rattle.store_record.specs.Keys.{Text}
@@ -39,14 +39,22 @@ members_front-end : (ms : List (Text × Tree)) → members_front ms ++ token.end
 members_front-end [] = refl
 members_front-end (m ∷ ms) = append_assoc (member_tokens m.0 m.1) (members_front ms) (token.end_object ∷ []) ∙ ap (λ ts. member_tokens m.0 m.1 ++ ts) (members_front-end ms)
 
--- the text of a whole object is its line
+-- the text of a whole object is the line of its members as they stand
+pub ordered : (r : Result Text NoMemory) {written : List Token} {ms : List (Text × Tree)}
+    → Holds written ms → IfOk r (λ words. words ≡ print (written ++ token.end_object ∷ []))
+    → IfOk r (λ words. words ++ 10 ∷ [] ≡ ordered_line ms)
+ordered r {written} {ms} whole said =
+    IfOk-weaker r (λ words. words ≡ print (written ++ token.end_object ∷ [])) (λ words. words ++ 10 ∷ [] ≡ ordered_line ms)
+    (λ words is.
+    ap (λ (ts : Text). ts ++ 10 ∷ [])
+    (is ∙ ap (λ ts. print (ts ++ token.end_object ∷ [])) whole.is ∙ ap (λ ts. print (token.begin_object ∷ ts)) (members_front-end ms) ∙ print-tree_tokens (shown_object ms)))
+    said
+
+-- it is the line of the members in another order, which gives that of their keys
 pub printed : (members : List (Text × Tree)) (r : Result Text NoMemory) {written : List Token} {ms : List (Text × Tree)}
     → Holds written ms → ms ≡ in_order members → IfOk r (λ words. words ≡ print (written ++ token.end_object ∷ []))
     → IfOk r (λ words. words ++ 10 ∷ [] ≡ line members)
-printed members r {written} {ms} whole order said =
-    IfOk-weaker r (λ words. words ≡ print (written ++ token.end_object ∷ [])) (λ words. words ++ 10 ∷ [] ≡ line members)
-    (λ words is.
-    ap (λ (ts : Text). ts ++ 10 ∷ [])
-    (is ∙ ap (λ ts. print (ts ++ token.end_object ∷ [])) whole.is ∙ ap (λ ts. print (token.begin_object ∷ ts)) (members_front-end ms) ∙ print-tree_tokens (shown_object ms)
-    ∙ ap (λ (fs : List (Text × Tree)). compact (shown_object fs)) order))
-    said
+printed members r {ms = ms} whole order said =
+    IfOk-weaker r (λ words. words ++ 10 ∷ [] ≡ ordered_line ms) (λ words. words ++ 10 ∷ [] ≡ line members)
+    (λ words is. is ∙ ap ordered_line order)
+    (ordered r whole said)

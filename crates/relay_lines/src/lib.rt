@@ -1,6 +1,6 @@
-//! The lines that the program prints: the answers of events, of reads and of refusals, and the fault of
-//! a project (this project's own). A line is compact JSON with its keys in byte order, here without
-//! its line end.
+//! The lines that the program prints: the answers of events, reads, watches and sweeps, the notices
+//! of watches, refusals, and the fault of a project (this project's own). A line is compact JSON with
+//! its keys in byte order, here without its line end.
 #![tactic(auto)]
 
 mod line_writer;
@@ -9,8 +9,7 @@ pub mod refusal;
 mod refused;
 mod values;
 
-pub use lines::{event_line, fault_line, read_line, refusal_line};
+pub use lines::{
+    collect_line, event_line, fault_line, notice_line, read_line, refusal_line, watch_line,
+};
 pub use refusal::{Limited, Refusal};
-
-#[cfg(test)]
-mod tests;

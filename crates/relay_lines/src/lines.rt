@@ -1,5 +1,7 @@
 //! The printed lines.
-ghost use Rattle.std.specs.Prelude.{◌≡◌, ◌<◌, ◌^◌, ◌++◌, ◌∷◌, [], IfOk};
+ghost use Rattle.std.specs.Prelude.{◌≡◌, ◌++◌, ◌∷◌, [], IfOk};
+ghost use Rattle.gql_plain.specs.Tree.{text};
+ghost use Rattle.relay_lines.specs.Members.{ordered_line, shown_members};
 ghost use Rattle.relay_lines.specs.RefusalShown.{refusal_shown};
 ghost use Rattle.relay_machine.specs.Printed as model;
 ghost use Rattle.store_read.specs.Reading.{reading_of};
@@ -13,7 +15,6 @@ use store_read::Snapshot;
 
 /// The answer of an event that shows nothing: the event's name, and the number of the line.
 pub fn event_line(alloc: Global, name: &str, n: u64) -> Result<Words, NoMemory>
-    requires { n < 2 ^ 63 }
     ensures { IfOk result (λ words. words ++ 10 ∷ [] ≡ model.event_line name.now n) }
 {
     let mut line = LineWriter::new(alloc)?;
@@ -24,22 +25,67 @@ pub fn event_line(alloc: Global, name: &str, n: u64) -> Result<Words, NoMemory>
 
 /// The answer of a read: its data, whether something was missing, the number of the line, and the ids
 /// at which the read stood.
-pub fn read_line(alloc: Global, snapshot: Snapshot, n: u64) -> Result<Words, NoMemory>
-    requires { n < 2 ^ 63 }
-    ensures { IfOk result (λ words. words ++ 10 ∷ [] ≡ model.read_line n (reading_of snapshot)) }
+pub fn read_line(alloc: Global, snapshot: &Snapshot, n: u64) -> Result<Words, NoMemory>
+    ensures { IfOk result (λ words. words ++ 10 ∷ [] ≡ model.read_line n (reading_of snapshot.now)) }
+{
+    shown_line(alloc, "ok", "read", snapshot, n)
+}
+
+/// The answer of a watch that starts: what it shows at first, as the answer of a read has it.
+pub fn watch_line(alloc: Global, snapshot: &Snapshot, n: u64) -> Result<Words, NoMemory>
+    ensures { IfOk result (λ words. words ++ 10 ∷ [] ≡ model.watch_line n (reading_of snapshot.now)) }
+{
+    shown_line(alloc, "ok", "watch", snapshot, n)
+}
+
+/// The notice of a watch: what it shows from the line of this number on, and its name.
+pub fn notice_line(
+    alloc: Global,
+    name: &str,
+    snapshot: &Snapshot,
+    n: u64,
+) -> Result<Words, NoMemory>
+    ensures { IfOk result (λ words. words ++ 10 ∷ [] ≡ model.notice_line n name.now (reading_of snapshot.now)) }
+{
+    shown_line(alloc, "notice", name, snapshot, n)
+}
+
+/// The line of a snapshot. One key says of which event or watch it is, and stands between `n` and
+/// `seen`.
+fn shown_line(
+    alloc: Global,
+    key: &str,
+    name: &str,
+    snapshot: &Snapshot,
+    n: u64,
+) -> Result<Words, NoMemory>
+    ensures { IfOk result (λ words. words ++ 10 ∷ []
+        ≡ ordered_line (shown_members n (key.now, text name.now) (reading_of snapshot.now))) }
 {
     let mut line = LineWriter::new(alloc)?;
     line.put_plain("data", &snapshot.shown)?;
     line.put_truth("missing", snapshot.missing)?;
     line.put_number("n", n)?;
-    line.put_text("ok", "read")?;
+    line.put_text(key, name)?;
     line.put_texts("seen", &snapshot.seen)?;
+    line.finish()
+}
+
+/// The answer of a sweep: how many ids were dropped, the number of the line, and whether the sweep
+/// waits for the live layers.
+pub fn collect_line(alloc: Global, dropped: u64, waiting: bool, n: u64) -> Result<Words, NoMemory>
+    ensures { IfOk result (λ words. words ++ 10 ∷ [] ≡ model.collect_line n dropped waiting) }
+{
+    let mut line = LineWriter::new(alloc)?;
+    line.put_number("dropped", dropped)?;
+    line.put_number("n", n)?;
+    line.put_text("ok", "collect")?;
+    line.put_truth("waiting", waiting)?;
     line.finish()
 }
 
 /// The line of a refusal: its code and name, the number of the line, and its further keys.
 pub fn refusal_line(alloc: Global, refusal: Refusal<'_>, n: u64) -> Result<Words, NoMemory>
-    requires { n < 2 ^ 63 }
     ensures { IfOk result (λ words. words ++ 10 ∷ [] ≡ model.refusal_line n (refusal_shown refusal.entry)) }
 {
     match refusal {
@@ -51,14 +97,16 @@ pub fn refusal_line(alloc: Global, refusal: Refusal<'_>, n: u64) -> Result<Words
         Refusal::UnknownFragment(name) => named_line(alloc, refusal, n, name),
         Refusal::UnknownHandle(name) => named_line(alloc, refusal, n, name),
         Refusal::HandleTaken(name) => named_line(alloc, refusal, n, name),
+        Refusal::HandleInUse(name) => named_line(alloc, refusal, n, name),
         Refusal::UnknownLayer(name) => named_line(alloc, refusal, n, name),
         Refusal::LayerTaken(name) => named_line(alloc, refusal, n, name),
+        Refusal::UnknownWatch(name) => named_line(alloc, refusal, n, name),
+        Refusal::WatchTaken(name) => named_line(alloc, refusal, n, name),
         Refusal::UnknownType(name) => named_line(alloc, refusal, n, name),
         Refusal::MissingVariable(name) => variable_line(alloc, refusal, n, "Missing", name),
         Refusal::UnfitVariable(name) => variable_line(alloc, refusal, n, "Unfit", name),
         Refusal::Payload(fault) => payload_line(alloc, refusal, n, fault),
         Refusal::TooMany(what) => limit_line(alloc, refusal, n, what),
-        Refusal::NotYet => bare_line(alloc, refusal, n),
     }
 }
 

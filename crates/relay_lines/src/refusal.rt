@@ -12,6 +12,8 @@ pub enum Limited {
     Handles,
     /// 1,000 live layers.
     Layers,
+    /// 10,000 live watches.
+    Watches,
 }
 
 impl Limited {
@@ -22,6 +24,7 @@ impl Limited {
         match self {
             Limited::Handles => "handles",
             Limited::Layers => "layers",
+            Limited::Watches => "watches",
         }
     }
 
@@ -32,6 +35,7 @@ impl Limited {
         match self {
             Limited::Handles => 10_000,
             Limited::Layers => 1_000,
+            Limited::Watches => 10_000,
         }
     }
 }
@@ -55,10 +59,16 @@ pub enum Refusal<'a> {
     UnknownHandle(&'a str),
     /// A handle of this name is live.
     HandleTaken(&'a str),
+    /// A live watch was started with the handle of this name.
+    HandleInUse(&'a str),
     /// No layer of this name is live.
     UnknownLayer(&'a str),
     /// A layer of this name is live.
     LayerTaken(&'a str),
+    /// No watch of this name is live.
+    UnknownWatch(&'a str),
+    /// A watch of this name is live.
+    WatchTaken(&'a str),
     /// A command names this, which is no object type of the schema.
     UnknownType(&'a str),
     /// The variable of this name has no value, and has to have one.
@@ -69,8 +79,6 @@ pub enum Refusal<'a> {
     Payload(&'a PayloadFault),
     /// As many as there may be are live.
     TooMany(Limited),
-    /// The form of the line is not taken yet.
-    NotYet,
 }
 
 impl<'a> Refusal<'a> {
@@ -87,14 +95,16 @@ impl<'a> Refusal<'a> {
             Refusal::UnknownFragment(_) => 6,
             Refusal::UnknownHandle(_) => 7,
             Refusal::HandleTaken(_) => 8,
+            Refusal::HandleInUse(_) => 9,
             Refusal::UnknownLayer(_) => 10,
             Refusal::LayerTaken(_) => 11,
+            Refusal::UnknownWatch(_) => 12,
+            Refusal::WatchTaken(_) => 13,
             Refusal::UnknownType(_) => 14,
             Refusal::MissingVariable(_) => 15,
             Refusal::UnfitVariable(_) => 15,
             Refusal::Payload(_) => 16,
             Refusal::TooMany(_) => 17,
-            Refusal::NotYet => 90,
         }
     }
 
@@ -111,14 +121,16 @@ impl<'a> Refusal<'a> {
             Refusal::UnknownFragment(_) => "UnknownFragment",
             Refusal::UnknownHandle(_) => "UnknownHandle",
             Refusal::HandleTaken(_) => "HandleTaken",
+            Refusal::HandleInUse(_) => "HandleInUse",
             Refusal::UnknownLayer(_) => "UnknownLayer",
             Refusal::LayerTaken(_) => "LayerTaken",
+            Refusal::UnknownWatch(_) => "UnknownWatch",
+            Refusal::WatchTaken(_) => "WatchTaken",
             Refusal::UnknownType(_) => "UnknownType",
             Refusal::MissingVariable(_) => "Variables",
             Refusal::UnfitVariable(_) => "Variables",
             Refusal::Payload(_) => "Payload",
             Refusal::TooMany(_) => "TooMany",
-            Refusal::NotYet => "NotYet",
         }
     }
 }
