@@ -1,11 +1,28 @@
 -- What an engine begins with stands for the machine's beginning.
-use Rattle.std.proofs.Common.{ℕ, List, refl}
+use Rattle.std.proofs.Common.{ℕ, zero, suc, ◌≡◌, ◌-◌, List, [], drop, refl, subst, sym}
 use Rattle.gql_ast.specs.declared.document.Document.{Document}
 use Rattle.gql_ast.specs.declared.place.Placed.{Placed}
 use Rattle.relay_engine.specs.Kept.{begun}
-use Rattle.relay_engine.specs.Stands.{StandsFor}
-use Rattle.relay_machine.specs.Machine.{beginning}
+use Rattle.relay_engine.specs.Stands.{KeepsReleased, StandsFor}
+use Rattle.relay_machine.specs.Machine.{Project, Retained, beginning, last_of}
 use Rattle.schema_tables.specs.Types.{Defs}
 
+nothing_left : (i : ℕ) → drop {A = Retained} i [] ≡ []
+nothing_left zero = refl
+nothing_left (suc i) = refl
+
+none_released : (p : Project) (buffer : ℕ) → KeepsReleased p [] (last_of buffer beginning.released)
+none_released p buffer = subst (KeepsReleased p []) (sym (nothing_left (0 - buffer))) tt
+
 pub begun_stands : (parts : Defs × List (Placed Document)) (buffer : ℕ) → StandsFor (begun parts buffer) (record { defs = parts.0; documents = parts.1 }) beginning
-begun_stands parts buffer = record { schema = refl; documents = refl; base = refl; layers = refl; apart = tt; handles = tt }
+begun_stands parts buffer = record {
+  schema = refl;
+  documents = refl;
+  base = refl;
+  layers = refl;
+  apart = tt;
+  handles = tt;
+  released = none_released (record { defs = parts.0; documents = parts.1 }) buffer;
+  watches = tt;
+  shown = tt;
+}

@@ -1,18 +1,16 @@
 -- Handles by their names, as the engine keeps them and as the machine has them.
-use Rattle.std.proofs.Common.{◌≡◌, List, [], ◌∷◌, ◌++◌, length, map, Bool, true, false, true≢false, cond, bytes_eq, Option, Some, None, is_some, option_map, String, string_bytes, Global, suc, refl, sym, ap, subst, ◌∙◌}
+use Rattle.std.proofs.Common.{◌≡◌, List, [], ◌∷◌, ◌++◌, length, map, Bool, true, false, ◌||◌, cond, bytes_eq, Option, Some, None, is_some, option_map, suc, refl, sym, ap, subst, ◌∙◌}
+use Rattle.std.proofs.lemmas.List.{map-append}
 use Rattle.std.proofs.lemmas.Slice.Eq.{bytes_eq-Decides}
-use Rattle.std.specs.Map.{lookup}
-use Rattle.gql_ast.specs.declared.document.Document.{Document}
-use Rattle.gql_ast.specs.declared.place.Placed.{Placed}
-use Rattle.plan_project.specs.Lookups.{Agree, operation_in}
+use Rattle.plan_project.specs.Lookups.{Agree}
 use Rattle.relay_engine.proofs.Names.{bytes_eq-sym}
 use Rattle.relay_engine.specs.Handles.{handle_kept, handle_under, held_as}
 use Rattle.relay_engine.specs.Kept.{HandleKept}
-use Rattle.relay_engine.specs.Operations.{KeepOperations}
 use Rattle.relay_engine.specs.Stands.{KeepsHandle, KeepsHandles}
-use Rattle.relay_engine.specs.declared.handles.Held.{Held}
-use Rattle.relay_machine.specs.Machine.{Handle, Project, handle_named}
-use Rattle.schema_tables.specs.Types.{Text, Defs}
+use Rattle.relay_machine.specs.Machine.{Handle, Project, handle_named, without_handle}
+use Rattle.schema_tables.specs.Types.{Text}
+use Rattle.store_retain.specs.Kept.{held_under, is_live, without}
+use Rattle.store_retain.specs.declared.held.Held.{Held}
 
 -- ---- one for one
 
@@ -37,6 +35,7 @@ module _ (p : Project) where
   as_many (k ∷ ks) [] keeps = absurd keeps
   as_many (k ∷ ks) (h ∷ hs) keeps = ap (λ n. suc n) (as_many ks hs keeps.1)
 
+  -- one more
   pub one_more : (ks : List HandleKept) (hs : List Handle) (k : HandleKept) (h : Handle) → KeepsHandles p ks hs → KeepsHandle p k h
       → KeepsHandles p (ks ++ k ∷ []) (hs ++ h ∷ [])
   one_more [] [] k h keeps last = (last, tt)
@@ -44,51 +43,51 @@ module _ (p : Project) where
   one_more (j ∷ ks) [] k h keeps last = absurd keeps
   one_more (j ∷ ks) (g ∷ hs) k h keeps last = (keeps.0, one_more ks hs k h keeps.1 last)
 
--- ---- their operations
+  -- one less
+  less : (b : Bool) (x : Text × Held) (xs ys : List (Text × Held)) (h : Handle) (hs gs : List Handle) → KeepsHandle p (handle_kept x) h
+      → KeepsHandles p (map handle_kept xs) hs → KeepsHandles p (map handle_kept ys) gs → KeepsHandles p (map handle_kept (cond b xs (x ∷ ys))) (cond b hs (h ∷ gs))
+  less true x xs ys h hs gs first all rest = all
+  less false x xs ys h hs gs first all rest = (first, rest)
 
-module _ (defs : Defs) (ps : List (Placed Document)) where
-  abbrev IfThere : Option HandleKept → Type 0
-  IfThere None = Unit {0}
-  IfThere (Some k) = is_some (operation_in defs ps k.operation) ≡ true
+  pub one_less : (xs : List (Text × Held)) (hs : List Handle) (name : Text) → KeepsHandles p (map handle_kept xs) hs
+      → KeepsHandles p (map handle_kept (without name xs)) (without_handle name hs)
+  one_less [] [] name keeps = tt
+  one_less [] (h ∷ hs) name keeps = absurd keeps
+  one_less (x ∷ xs) [] name keeps = absurd keeps
+  one_less (x ∷ xs) (h ∷ hs) name keeps =
+      subst (λ b. KeepsHandles p (map handle_kept (without name (x ∷ xs))) (cond b hs (h ∷ without_handle name hs)))
+      (bytes_eq-sym name x.0 ∙ ap (λ t. bytes_eq t name) keeps.0.name)
+      (less (bytes_eq name x.0) x xs (without name xs) h hs (without_handle name hs) keeps.0 keeps.1 (one_less xs hs name keeps.1))
 
-  one_of : (b : Bool) (k : HandleKept) (o : Option HandleKept) → is_some (operation_in defs ps k.operation) ≡ true → IfThere o → IfThere (cond b (Some k) o)
-  one_of true k o first rest = first
-  one_of false k o first rest = rest
+-- ---- the handles as they are held
 
-  there_under : (ks : List HandleKept) (name : Text) → KeepOperations defs ps ks → IfThere (handle_under ks name)
-  there_under [] name all = tt
-  there_under (k ∷ ks) name all = one_of (bytes_eq k.name name) k (handle_under ks name) all.0 (there_under ks name all.1)
-
-  -- the operation of a handle that is found is there
-  pub is_there : (ks : List HandleKept) (name : Text) (k : HandleKept) → KeepOperations defs ps ks → handle_under ks name ≡ Some k
-      → is_some (operation_in defs ps k.operation) ≡ true
-  is_there ks name k all e = subst IfThere e (there_under ks name all)
-
-  pub there_too : (ks : List HandleKept) (k : HandleKept) → KeepOperations defs ps ks → is_some (operation_in defs ps k.operation) ≡ true
-      → KeepOperations defs ps (ks ++ k ∷ [])
-  there_too [] k all last = (last, tt)
-  there_too (j ∷ ks) k all last = (all.0, there_too ks k all.1 last)
-
--- ---- the map in which they are kept
+pub kept_after : (xs : List (Text × Held)) (name : Text) (held : Held) → map handle_kept (xs ++ (name, held) ∷ []) ≡ map handle_kept xs ++ held_as name held ∷ []
+kept_after xs name held = map-append handle_kept xs ((name, held) ∷ [])
 
 here : (b : Bool) (name key : Text) (h : Held) (o : Option Held) → (b ≡ true → name ≡ key)
     → option_map (held_as name) (cond b (Some h) o) ≡ cond b (Some (held_as key h)) (option_map (held_as name) o)
 here true name key h o same = ap (λ t. Some (held_as t h)) (same refl)
 here false name key h o same = refl
 
--- what stands under a name is the handle of the name
-pub lookup_under : (name : Text) (es : List (String Global × Held))
-    → option_map (held_as name) (lookup (λ k. bytes_eq name (string_bytes k)) es) ≡ handle_under (map handle_kept es) name
-lookup_under name [] = refl
-lookup_under name (e ∷ es) =
-    here (bytes_eq name (string_bytes e.0)) name (string_bytes e.0) e.1 (lookup (λ k. bytes_eq name (string_bytes k)) es) (λ h. (bytes_eq-Decides name (string_bytes e.0)).0 h)
-    ∙ (λ i. cond (bytes_eq-sym name (string_bytes e.0) i) (Some (handle_kept e)) (lookup_under name es i))
+-- what is held under a name is the handle of the name
+pub under_is : (name : Text) (xs : List (Text × Held)) → option_map (held_as name) (held_under name xs) ≡ handle_under (map handle_kept xs) name
+under_is name [] = refl
+under_is name (x ∷ xs) =
+    here (bytes_eq name x.0) name x.0 x.1 (held_under name xs) (λ h. (bytes_eq-Decides name x.0).0 h)
+    ∙ (λ i. cond (bytes_eq-sym name x.0 i) (Some (handle_kept x)) (under_is name xs i))
 
-none_is : {A B : Type 0} (f : A → B) (o : Option A) → is_some (option_map f o) ≡ false → o ≡ None
-none_is f None h = refl
-none_is f (Some x) h = absurd (true≢false h)
+pub whether_some : {X Y : Type 0} (f : X → Y) (o : Option X) → is_some (option_map f o) ≡ is_some o
+whether_some f None = refl
+whether_some f (Some x) = refl
 
--- nothing stands under a name that no handle has
-pub absent : (name : Text) (es : List (String Global × Held)) → is_some (handle_under (map handle_kept es) name) ≡ false
-    → lookup (λ k. bytes_eq name (string_bytes k)) es ≡ None
-absent name es free = none_is (held_as name) _ (ap is_some (lookup_under name es) ∙ free)
+-- whether a handle of a name is there, either way
+pub is_some-under : (name : Text) (xs : List (Text × Held)) → is_some (handle_under (map handle_kept xs) name) ≡ is_some (held_under name xs)
+is_some-under name xs = sym (ap is_some (under_is name xs)) ∙ whether_some (held_as name) (held_under name xs)
+
+first_or : (b rest : Bool) (h : Held) (o : Option Held) → is_some o ≡ rest → is_some (cond b (Some h) o) ≡ (b || rest)
+first_or true rest h o e = refl
+first_or false rest h o e = e
+
+pub live_is : (name : Text) (xs : List (Text × Held)) → is_some (held_under name xs) ≡ is_live xs name
+live_is name [] = refl
+live_is name (x ∷ xs) = first_or (bytes_eq name x.0) (is_live xs name) x.1 (held_under name xs) (live_is name xs)

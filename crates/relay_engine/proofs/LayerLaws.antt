@@ -10,11 +10,11 @@ use Rattle.store_layers.specs.Layered as layered
 use Rattle.store_layers.specs.Layered.{above, is_live, without}
 use Rattle.store_model.specs.declared.entry.Entry.{Entry}
 
-first_false : (a b : Bool) → (a || b) ≡ false → a ≡ false
+pub first_false : (a b : Bool) → (a || b) ≡ false → a ≡ false
 first_false true b h = h
 first_false false b h = refl
 
-second_false : (a b : Bool) → (a || b) ≡ false → b ≡ false
+pub second_false : (a b : Bool) → (a || b) ≡ false → b ≡ false
 second_false true b h = absurd (true≢false h)
 second_false false b h = h
 

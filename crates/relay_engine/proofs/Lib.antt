@@ -1,9 +1,21 @@
 pub mod Beginnings
+mod ChangeLaws
 mod HandleLaws
+mod KeepingLaws
 mod LayerLaws
 mod LocalScopes
 mod MarkedPairs
 mod Meanings
 mod Names
+mod NoticeLaws
+mod PlanLaws
+mod QuietLaws
+mod ReachLaws
+mod ReleasedLaws
 mod StandingLaws
 mod StepLaws
+mod SweepLaws
+mod TakingLaws
+mod TargetLaws
+mod TellingLaws
+mod WatchLaws

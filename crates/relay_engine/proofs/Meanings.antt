@@ -1,12 +1,10 @@
 -- The plans of operations and fragments mean what the machine asks of handles.
-use Rattle.std.proofs.Common.{◌≡◌, List, Some, IfOk, Ok, Err, Result, ap, sym, subst, ◌∙◌}
+use Rattle.std.proofs.Common.{◌≡◌, List, Some, None, ap, sym, subst, ◌∙◌}
 use Rattle.gql_ast.specs.declared.document.Document.{Document}
 use Rattle.gql_ast.specs.declared.place.Placed.{Placed}
-use Rattle.gql_plain.specs.declared.memory.NoMemory.{NoMemory}
 use Rattle.plan_ir.specs.NormalMeaning.{plan_says}
 use Rattle.plan_ir.specs.ReaderMeaning.{plan_reads}
 use Rattle.plan_ir.specs.declared.normal.NormalPlan.{NormalPlan}
-use Rattle.plan_ir.specs.declared.reader.ReaderPlan.{ReaderPlan}
 use Rattle.plan_project.specs.Lookups.{IsOperation, KeepsFragment, ReadsFragment, fragment_in, operation_in}
 use Rattle.plan_project.specs.declared.operations.Compiled.{Compiled}
 use Rattle.plan_project.specs.declared.operations.CompiledFragment.{CompiledFragment}
@@ -14,8 +12,7 @@ use Rattle.plan_read.specs.Laws.{AreLocals}
 use Rattle.relay_engine.specs.Handles.{held_as}
 use Rattle.relay_engine.specs.Kept.{HandleKept}
 use Rattle.relay_engine.specs.Parts.{IsProject}
-use Rattle.relay_engine.specs.Stands.{KeepsHandle}
-use Rattle.relay_engine.specs.declared.handles.Held.{Held}
+use Rattle.relay_engine.specs.Stands.{KeepsHandle, ShowsPart}
 use Rattle.relay_machine.specs.Machine as machine
 use Rattle.relay_machine.specs.Machine.{Handle, documents_of, root_type}
 use Rattle.relay_model.specs.Readings.{fragment_reads, no_place, operation_reads, with_marked}
@@ -23,11 +20,15 @@ use Rattle.relay_model.specs.Responses.{operation_says}
 use Rattle.schema_tables.specs.Types.{Text, Defs}
 use Rattle.schema_types.specs.Environments.{Values, environment}
 use Rattle.schema_types.specs.Sites.{FragmentAt, OperationAt}
+use Rattle.schema_values.specs.declared.env.Env.{Env}
 use Rattle.serde_json.specs.Data as J
 use Rattle.store_model.specs.Verdicts.{Verdict}
 use Rattle.store_model.specs.Walks.{Slots, reading, type_of_record}
-use Rattle.store_read.specs.Reading.{reading_of}
-use Rattle.store_read.specs.declared.snapshot.Snapshot.{Snapshot}
+use Rattle.store_read.specs.Reading.{slots}
+use Rattle.store_record.specs.Keys as keys
+use Rattle.store_retain.specs.declared.held.Held.{Held}
+use Rattle.store_watch.specs.Rows.{look_of}
+use Rattle.store_watch.specs.declared.watched.Watched.{Watched}
 
 -- ---- operations
 
@@ -60,22 +61,22 @@ module _ (parts : Defs × List (Placed Document)) (p : machine.Project) (k : Han
 abbrev pub IsHeld : Defs × List (Placed Document) → Text → Compiled → Type 0
 IsHeld parts n c = (o : OperationAt) → operation_in parts.0 parts.1 n ≡ Some o → IsOperation parts.0 parts.1 n o c
 
-pub verdict_is_said : (parts : Defs × List (Placed Document)) (held : Held) (c : Compiled) → IsHeld parts held.operation c → (plan : NormalPlan) → plan ≡ c.normal.value
-    → (response : J.Data) (v : Verdict) → plan_says held.env.root held.env.values plan.steps response ≡ v
+pub verdict_is_said : (parts : Defs × List (Placed Document)) (held : Held) (c : Compiled) → IsHeld parts held.name c → (plan : NormalPlan) → plan ≡ c.normal.value
+    → (env : Env) → env ≡ held.env.value → (response : J.Data) (v : Verdict) → plan_says env.root env.values plan.steps response ≡ v
     → (p : machine.Project) (h : Handle) → IsProject parts p → KeepsHandle p (held_as h.name held) h → v ≡ machine.said_to p h response
-verdict_is_said parts held c all plan same response v e p h is kept =
-    sym e ∙ ap (λ (x : NormalPlan). plan_says held.env.root held.env.values x.steps response) same ∙ plan_says_held parts p (held_as h.name held) h c is kept all response
+verdict_is_said parts held c all plan same env under response v e p h is kept =
+    sym e ∙ (λ i. plan_says (under i).root (under i).values (same i).steps response) ∙ plan_says_held parts p (held_as h.name held) h c is kept all response
 
-pub operation_is_read : (r : Result Snapshot NoMemory) (parts : Defs × List (Placed Document)) (held : Held) (c : Compiled) → IsHeld parts held.operation c
-    → (plan : ReaderPlan) → plan ≡ c.reader.value → (owner : Text) (m : Slots) (id root : Text) → id ≡ root
-    → IfOk r (λ s. reading_of s ≡ reading (plan_reads (type_of_record held.env.root) owner m held.env.values plan.steps c.types id))
-    → IfOk r (λ s. (p : machine.Project) (h : Handle) → IsProject parts p → KeepsHandle p (held_as h.name held) h
-    → reading_of s ≡ reading (operation_reads (documents_of p) h.operation h.values owner m root))
-operation_is_read (Ok s) parts held c all plan same owner m id root at e = λ p h is kept.
-    e ∙ ap (λ (x : ReaderPlan). reading (plan_reads (type_of_record held.env.root) owner m held.env.values x.steps c.types id)) same
-    ∙ ap reading (plan_reads_held parts p (held_as h.name held) h c is kept all owner m id)
-    ∙ ap (λ (i : Text). reading (operation_reads (documents_of p) h.operation h.values owner m i)) at
-operation_is_read (Err x) parts held c all plan same owner m id root at e = tt
+pub operation_is_shown : (parts : Defs × List (Placed Document)) (held : Held) (c : Compiled) → IsHeld parts held.name c → (handle : Text) (what : Watched)
+    → what.handle ≡ handle → what.plan.value ≡ c.reader.value → what.types ≡ c.types → what.env.value ≡ held.env.value → what.id ≡ keys.root
+    → (p : machine.Project) (h : Handle) → IsProject parts p → KeepsHandle p (held_as handle held) h → ShowsPart p (look_of what) h None
+operation_is_shown parts held c all handle what by plan types env id p h is kept = record {
+  handle = by ∙ kept.name;
+  shows = λ m.
+      (λ i. reading (plan_reads (type_of_record (env i).root) (by i) (slots m) (env i).values (plan i).steps (types i) (id i)))
+      ∙ ap reading (plan_reads_held parts p (held_as handle held) h c is kept all handle (slots m) keys.root)
+      ∙ ap (λ (owner : Text). reading (operation_reads (documents_of p) h.operation h.values owner (slots m) keys.root)) kept.name;
+}
 
 -- ---- fragments, in an environment that has the marked values of a scope beside the operation's own
 
@@ -88,14 +89,17 @@ plan_reads_marked p k h f n c kept keeps reads scope given are root own at_root 
     ∙ ap (λ (vs : Values). plan_reads (type_of_record (root_type p h)) owner m vs c.reader.value.steps c.types id) (marked ∙ ap (λ (vs : Values). with_marked vs scope) kept.values)
     ∙ reads.reads (root_type p h) h.values scope (subst (λ (vs : Values). AreLocals f vs) (sym are) (keeps.scopes given)) owner m id
 
-pub fragment_is_read : (r : Result Snapshot NoMemory) (held : Held) (c : CompiledFragment) (plan : ReaderPlan) → plan ≡ c.reader.value
-    → (root : Text) (own scope : Values) → root ≡ held.env.root → own ≡ with_marked held.env.values scope → (owner : Text) (m : Slots) (id : Text)
-    → IfOk r (λ s. reading_of s ≡ reading (plan_reads (type_of_record root) owner m own plan.steps c.types id))
-    → IfOk r (λ s. (p : machine.Project) (h : Handle) (f : FragmentAt) (n : Text) → fragment_in p.defs p.documents n ≡ Some f
-    → KeepsFragment p.defs n f c → ReadsFragment p.defs p.documents f c → KeepsHandle p (held_as h.name held) h
+pub fragment_is_shown : (held : Held) (c : CompiledFragment) (scope : Values) (handle id : Text) (what : Watched)
+    → what.handle ≡ handle → what.plan.value ≡ c.reader.value → what.types ≡ c.types → what.env.value.root ≡ held.env.value.root
+    → what.env.value.values ≡ with_marked held.env.value.values scope → what.id ≡ id
+    → (p : machine.Project) (h : Handle) (f : FragmentAt) (n : Text) → fragment_in p.defs p.documents n ≡ Some f
+    → KeepsFragment p.defs n f c → ReadsFragment p.defs p.documents f c → KeepsHandle p (held_as handle held) h
     → (given : Values) → scope ≡ environment c.locals given
-    → reading_of s ≡ reading (fragment_reads (documents_of p) f (root_type p h) h.values scope owner m id))
-fragment_is_read (Ok s) held c plan same root own scope at_root marked owner m id e = λ p h f n there keeps reads kept given are.
-    e ∙ ap (λ (x : ReaderPlan). reading (plan_reads (type_of_record root) owner m own x.steps c.types id)) same
-    ∙ ap reading (plan_reads_marked p (held_as h.name held) h f n c kept keeps reads scope given are root own at_root marked owner m id)
-fragment_is_read (Err x) held c plan same root own scope at_root marked owner m id e = tt
+    → ShowsPart p (look_of what) h (Some (record { fragment = f; scope = scope; id = id }))
+fragment_is_shown held c scope handle id what by plan types root values at p h f n there keeps reads kept given are = record {
+  handle = by ∙ kept.name;
+  shows = λ m.
+      (λ i. reading (plan_reads (type_of_record what.env.value.root) (by i) (slots m) what.env.value.values (plan i).steps (types i) (at i)))
+      ∙ ap reading (plan_reads_marked p (held_as handle held) h f n c kept keeps reads scope given are what.env.value.root what.env.value.values root values handle (slots m) id)
+      ∙ ap (λ (owner : Text). reading (fragment_reads (documents_of p) f (root_type p h) h.values scope owner (slots m) id)) kept.name;
+}

@@ -36,6 +36,10 @@ module _ {X Y : Type 0} (P : X → Y → Type 0) where
   found_left None y b h e = absurd (subst (λ o. Agree P None o) e h)
   found_left (Some a) y b h e = (a, refl, subst (λ o. Agree P (Some a) o) e h)
 
+  -- both are known
+  pub agreed : (x : Option X) (y : Option Y) (a : X) (b : Y) → Agree P x y → x ≡ Some a → y ≡ Some b → P a b
+  agreed x y a b h e f = subst (λ o. Agree P (Some a) o) f (subst (λ o. Agree P o y) e h)
+
   pub none_right : (x : Option X) (y : Option Y) → Agree P x y → x ≡ None → y ≡ None
   none_right x None h e = refl
   none_right x (Some b) h e = absurd (subst (λ o. Agree P o (Some b)) e h)

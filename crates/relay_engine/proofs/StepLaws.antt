@@ -68,11 +68,11 @@ module _ {E : Type 0} (r : Result Lines E) where
       (λ lines are found e. (failure, e, are)) h
 
   -- a line that gives no event is refused
-  pub on_fault : (n : ℕ) (line : Line) (why : Refusal) → IfOk r (AreLines (refusal_line n why) true) → ((p : Project) (s : State) → step_line p s n line ≡ refuse s n why)
-      → IfOk r (λ lines. (l : Line) → l ≡ line → (k : Kept) → HasStepped k k lines (λ p s. step_line p s n l))
+  pub on_fault : (n : ℕ) (line : Line) (why : Refusal) → IfOk r (AreLines (refusal_line n why) true) → ((p : Project) (b : ℕ) (s : State) → step_line p b s n line ≡ refuse s n why)
+      → IfOk r (λ lines. (l : Line) → l ≡ line → (k : Kept) → HasStepped k k lines (λ p s. step_line p k.buffer s n l))
   on_fault n line why h e =
-      IfOk-weaker r (AreLines (refusal_line n why) true) (λ lines. (l : Line) → l ≡ line → (k : Kept) → HasStepped k k lines (λ p s. step_line p s n l))
-      (λ lines are l same k p s stands. same_step k p (refuse s n why) (step_line p s n l) lines (ap (step_line p s n) same ∙ e p s) (refusing k p s n why lines stands are)) h
+      IfOk-weaker r (AreLines (refusal_line n why) true) (λ lines. (l : Line) → l ≡ line → (k : Kept) → HasStepped k k lines (λ p s. step_line p k.buffer s n l))
+      (λ lines are l same k p s stands. same_step k p (refuse s n why) (step_line p k.buffer s n l) lines (ap (step_line p k.buffer s n) same ∙ e p k.buffer s) (refusing k p s n why lines stands are)) h
 
 -- ---- what an event gives
 

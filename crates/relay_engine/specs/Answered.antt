@@ -28,7 +28,7 @@ IsRefusalOf n fault lines = (found : Option Failure) → Tells found fault → (
 
 -- the lines refuse a line that gives no event for this fault
 abbrev pub IsFaultOf : ℕ → LineFault → Lines → Type 0
-IsFaultOf n fault lines = (line : Line) → Says (Err fault) line → (k : Kept) → HasStepped k k lines (λ p s. step_line p s n line)
+IsFaultOf n fault lines = (line : Line) → Says (Err fault) line → (k : Kept) → HasStepped k k lines (λ p s. step_line p k.buffer s n line)
 
 -- the step is what is made of the entry, or the lines are the step's and nothing changes
 abbrev pub Gives : Kept → Project → Step → (take : Entry → Step) → Taken → Type 0

@@ -1,16 +1,18 @@
--- Handles by their names.
-use Rattle.std.specs.Prelude.{List, [], ◌∷◌, cond, bytes_eq, Option, Some, None, String, string_bytes}
-use Rattle.std.specs.declared.alloc.Global.{Global}
-use Rattle.relay_engine.specs.Kept.{HandleKept}
-use Rattle.relay_engine.specs.declared.handles.Held.{Held}
+-- Handles by their names, and what they hold.
+use Rattle.std.specs.Prelude.{List, [], ◌∷◌, cond, bytes_eq, Option, Some, None}
+use Rattle.relay_engine.specs.Kept.{HandleKept, OperationKept}
 use Rattle.schema_tables.specs.Types.{Text}
+use Rattle.store_retain.specs.declared.held.Held.{Held}
 
 -- what is kept under a name
 abbrev pub held_as : Text → Held → HandleKept
-held_as name h = record { name = name; operation = h.operation; root = h.env.root; values = h.env.values }
+held_as name h = record { name = name; operation = h.name; root = h.env.value.root; values = h.env.value.values }
 
-abbrev pub handle_kept : String Global × Held → HandleKept
-handle_kept named = held_as (string_bytes named.0) named.1
+abbrev pub handle_kept : Text × Held → HandleKept
+handle_kept named = held_as named.0 named.1
+
+abbrev pub operation_kept : Held → OperationKept
+operation_kept h = record { operation = h.name; root = h.env.value.root; values = h.env.value.values }
 
 -- the handle of a name
 abbrev pub handle_under : List HandleKept → Text → Option HandleKept

@@ -3,8 +3,10 @@ pub mod Handles
 pub mod Kept
 pub mod KeptCode
 pub mod Marked
+pub mod Notices
 pub mod Operations
 pub mod Parts
 pub mod Retained
 pub mod Stands
 pub mod Steps
+pub mod Targets

@@ -1,12 +1,27 @@
--- That handles keep operations of the project.
-use Rattle.std.specs.Prelude.{◌≡◌, true, List, [], ◌∷◌, is_some}
+-- That what is held are operations of the project, with their plans.
+use Rattle.std.specs.Prelude.{◌≡◌, true, List, [], ◌∷◌, Some, is_some}
+use Rattle.std.specs.List.{AllByRecursion}
 use Rattle.gql_ast.specs.declared.document.Document.{Document}
 use Rattle.gql_ast.specs.declared.place.Placed.{Placed}
+use Rattle.gql_plain.specs.Order.{has_text}
+use Rattle.plan_expand.specs.Answers.{project}
+use Rattle.plan_ir.specs.Expansion.{name_or}
+use Rattle.plan_ir.specs.NormalReach.{plan_reaches}
 use Rattle.plan_project.specs.Lookups.{operation_in}
-use Rattle.relay_engine.specs.Kept.{HandleKept}
-use Rattle.schema_tables.specs.Types.{Defs}
+use Rattle.relay_model.specs.Readings.{no_place}
+use Rattle.relay_model.specs.Reaches.{operation_reaches}
+use Rattle.schema_tables.specs.Types.{Text, Defs, root}
+use Rattle.schema_types.specs.Environments.{Values}
+use Rattle.schema_types.specs.Sites.{OperationAt}
+use Rattle.store_model.specs.Walks.{Slots, type_of_record}
+use Rattle.store_retain.specs.declared.held.Held.{Held}
 
--- each handle keeps an operation that the documents have
-abbrev pub KeepOperations : Defs → List (Placed Document) → List HandleKept → Type 0
-KeepOperations defs ps [] = Unit {0}
-KeepOperations defs ps (k ∷ ks) = (is_some (operation_in defs ps k.operation) ≡ true) × KeepOperations defs ps ks
+-- the documents have the operation, and its plan reaches what the operation does along the documents
+pub record HoldsPlan (defs : Defs) (ps : List (Placed Document)) (h : Held) : Type 0 where
+  pub there : is_some (operation_in defs ps h.name) ≡ true
+  pub reaches : (o : OperationAt) → operation_in defs ps h.name ≡ Some o → (own : Values) (m : Slots) (id j : Text)
+      → has_text (plan_reaches (type_of_record (name_or (root defs o.kind))) m own h.normal.value.steps (name_or (root defs o.kind) ∷ []) id) j
+      ≡ has_text (operation_reaches (project defs ps) no_place o own m id) j
+
+abbrev pub HoldPlans : Defs → List (Placed Document) → List Held → Type 0
+HoldPlans defs ps hs = AllByRecursion (HoldsPlan defs ps) hs

@@ -1,8 +1,8 @@
 -- What is made of an operation that is to be retained.
-use Rattle.std.specs.Prelude.{◌≡◌, ℕ, true, codes, is_some}
-use Rattle.plan_project.specs.Lookups.{operation_in}
+use Rattle.std.specs.Prelude.{◌≡◌, ℕ, codes}
 use Rattle.relay_engine.specs.Handles.{held_as}
 use Rattle.relay_engine.specs.Kept.{Kept}
+use Rattle.relay_engine.specs.Operations.{HoldsPlan}
 use Rattle.relay_engine.specs.Stands.{KeepsHandle}
 use Rattle.relay_engine.specs.Steps.{IsStep}
 use Rattle.relay_engine.specs.declared.retaining.Prepared.{Prepared}
@@ -11,9 +11,9 @@ use Rattle.relay_machine.specs.Machine.{Handle, Project, State, Step, accept, wi
 use Rattle.relay_machine.specs.Printed.{event_line}
 use Rattle.schema_tables.specs.Types.{Text}
 
--- what is held is an operation of the project
+-- what is held is an operation of the project, with its plan
 abbrev pub IsThere : Kept → Prepared → Type 0
-IsThere k (P.Held held) = is_some (operation_in k.defs k.documents held.operation) ≡ true
+IsThere k (P.Held held) = HoldsPlan k.defs k.documents held
 IsThere k (P.Refused lines) = Unit {0}
 
 -- under each name the step starts a handle of what is held, or the lines are the step's and nothing changes

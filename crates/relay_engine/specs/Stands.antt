@@ -2,11 +2,19 @@
 use Rattle.std.specs.Prelude.{◌≡◌, false, List, [], ◌∷◌, map, Some}
 use Rattle.plan_ir.specs.Expansion.{name_or}
 use Rattle.plan_project.specs.Lookups.{operation_in}
-use Rattle.relay_engine.specs.Kept.{HandleKept, Kept}
+use Rattle.relay_engine.specs.Kept.{HandleKept, Kept, OperationKept}
 use Rattle.relay_machine.specs.Machine as machine
-use Rattle.relay_machine.specs.Machine.{Handle, Layer, Project, State, base, is_layer}
+use Rattle.relay_machine.specs.Machine.{Handle, Layer, PartShown, Project, Retained, State, base, is_layer, last_of, shown}
 use Rattle.schema_tables.specs.Types.{Text, root}
+use Rattle.std.specs.Prelude.{Option}
 use Rattle.store_layers.specs.Layered as layered
+use Rattle.store_layers.specs.Layered.{view_of}
+use Rattle.store_model.specs.Records.{Records}
+use Rattle.store_read.specs.Reading.{slots}
+use Rattle.store_watch.specs.Watching as watching
+use Rattle.store_watch.specs.Watching.{AreShown, Look, shows}
+
+-- ---- handles
 
 -- an operation of the project is kept by its name, with its root type and the values of its variables
 pub record KeepsHandle (p : Project) (k : HandleKept) (h : Handle) : Type 0 where
@@ -22,6 +30,40 @@ KeepsHandles p [] (h ∷ hs) = ⊥
 KeepsHandles p (k ∷ ks) [] = ⊥
 KeepsHandles p (k ∷ ks) (h ∷ hs) = KeepsHandle p k h × KeepsHandles p ks hs
 
+-- the same of an operation that was released
+pub record KeepsOperation (p : Project) (k : OperationKept) (r : Retained) : Type 0 where
+  pub operation : operation_in p.defs p.documents k.operation ≡ Some r.operation
+  pub root : k.root ≡ name_or (root p.defs r.operation.kind)
+  pub values : k.values ≡ r.values
+
+abbrev pub KeepsReleased : Project → List OperationKept → List Retained → Type 0
+KeepsReleased p [] [] = Unit {0}
+KeepsReleased p [] (r ∷ rs) = ⊥
+KeepsReleased p (k ∷ ks) [] = ⊥
+KeepsReleased p (k ∷ ks) (r ∷ rs) = KeepsOperation p k r × KeepsReleased p ks rs
+
+-- ---- watches
+
+-- in all records this shows what the operation of the handle does, or the part of it
+pub record ShowsPart (p : Project) (look : Look) (h : Handle) (part : Option PartShown) : Type 0 where
+  pub handle : look.handle ≡ h.name
+  pub shows : (m : Records) → shows (slots m) look ≡ shown p m h part
+
+-- a watch is kept by its name, with what it shows, and its last snapshot has the data and the missing mark
+pub record KeepsWatch (p : Project) (k : watching.Watch) (w : machine.Watch) : Type 0 where
+  pub name : k.name ≡ w.name
+  pub what : ShowsPart p k.what w.handle w.part
+  pub value : k.kept.value ≡ w.value
+  pub missing : k.kept.missing ≡ w.missing
+
+abbrev pub KeepsWatches : Project → List watching.Watch → List machine.Watch → Type 0
+KeepsWatches p [] [] = Unit {0}
+KeepsWatches p [] (w ∷ ws) = ⊥
+KeepsWatches p (k ∷ ks) [] = ⊥
+KeepsWatches p (k ∷ ks) (w ∷ ws) = KeepsWatch p k w × KeepsWatches p ks ws
+
+-- ---- layers
+
 abbrev pub layer_of : Layer → layered.Layer
 layer_of l = (l.name, l.entry)
 
@@ -30,11 +72,28 @@ abbrev pub AreApart : List Layer → Type 0
 AreApart [] = Unit {0}
 AreApart (l ∷ ls) = (is_layer ls l.name ≡ false) × AreApart ls
 
--- what is kept is the project, the records that the state's entries give, its layers and its handles
-pub record StandsFor (k : Kept) (p : Project) (s : State) : Type 0 where
+-- ---- states
+
+-- what is kept is the project, the records that the state's entries give, its layers and its handles, the last of its released operations,
+-- and its watches, whose last snapshots may be of other records
+pub record StandsUntold (k : Kept) (p : Project) (s : State) : Type 0 where
   pub schema : k.defs ≡ p.defs
   pub documents : k.documents ≡ p.documents
-  pub base : k.layers.base ≡ base s
+  pub base : k.layers.base ≡ base p s
   pub layers : k.layers.live ≡ map layer_of s.layers
   pub apart : AreApart s.layers
   pub handles : KeepsHandles p k.handles s.handles
+  pub released : KeepsReleased p k.released (last_of k.buffer s.released)
+  pub watches : KeepsWatches p k.watches s.watches
+
+-- the same, and the last snapshots are of the records that are seen
+pub record StandsFor (k : Kept) (p : Project) (s : State) : Type 0 where
+  pub schema : k.defs ≡ p.defs
+  pub documents : k.documents ≡ p.documents
+  pub base : k.layers.base ≡ base p s
+  pub layers : k.layers.live ≡ map layer_of s.layers
+  pub apart : AreApart s.layers
+  pub handles : KeepsHandles p k.handles s.handles
+  pub released : KeepsReleased p k.released (last_of k.buffer s.released)
+  pub watches : KeepsWatches p k.watches s.watches
+  pub shown : AreShown (slots (view_of k.layers)) k.watches

@@ -8,7 +8,7 @@ ghost use Rattle.store_read.specs.Reading.{reading_of};
 use crate::lines::Lines;
 use event_script::LineFault;
 use gql_plain::{NoMemory, Words};
-use relay_lines::{Refusal, event_line, read_line, refusal_line};
+use relay_lines::{Refusal, collect_line, event_line, read_line, refusal_line, watch_line};
 use schema_values::VarFault;
 use std::alloc::Global;
 use store_read::Snapshot;
@@ -23,11 +23,34 @@ pub(crate) fn accept(alloc: Global, event: &str, n: u64) -> Result<Lines, NoMemo
 }
 
 /// The answer of a read.
-pub(crate) fn show(alloc: Global, snapshot: Snapshot, n: u64) -> Result<Lines, NoMemory>
+pub(crate) fn show(alloc: Global, snapshot: &Snapshot, n: u64) -> Result<Lines, NoMemory>
     requires { n < 2 ^ 63 }
-    ensures { IfOk result (AreLines (model.read_line n (reading_of snapshot)) false) }
+    ensures { IfOk result (AreLines (model.read_line n (reading_of snapshot.now)) false) }
 {
     let text = read_line(alloc, snapshot, n)?;
+    one_line(alloc, text, false)
+}
+
+/// The answer of a watch that starts.
+pub(crate) fn show_watch(alloc: Global, snapshot: &Snapshot, n: u64) -> Result<Lines, NoMemory>
+    requires { n < 2 ^ 63 }
+    ensures { IfOk result (AreLines (model.watch_line n (reading_of snapshot.now)) false) }
+{
+    let text = watch_line(alloc, snapshot, n)?;
+    one_line(alloc, text, false)
+}
+
+/// The answer of a sweep: how many ids were dropped, and whether it waits for the live layers.
+pub(crate) fn collected(
+    alloc: Global,
+    dropped: u64,
+    waiting: bool,
+    n: u64,
+) -> Result<Lines, NoMemory>
+    requires { n < 2 ^ 63 }
+    ensures { IfOk result (AreLines (model.collect_line n dropped waiting) false) }
+{
+    let text = collect_line(alloc, dropped, waiting, n)?;
     one_line(alloc, text, false)
 }
 

@@ -26,7 +26,8 @@ impl<S: RecordSource> Engine<S> {
     ) -> Result<Lines, NoMemory>
         requires { n < 2 ^ 63 }
         ensures step { IfOk result (λ lines. HasStepped self.old self.new lines (λ p s.
-            machine.result_of p s n (option_map answer_seen answer.now) commands (λ step. step) (λ entry. machine.accept (printed.event_line event.now n) (machine.confirm entry s)))) }
+            machine.noticed p n (length s.watches) (machine.result_of p s n (option_map answer_seen answer.now) commands (λ step. step) (λ entry. machine.accept (printed.event_line event.now n) (machine.confirm entry s))))) }
+        ensures buffer { self.new.buffer ≡ self.old.buffer }
         ensures refused { IfOk result (λ lines. lines.refused ≡ true → self.new ≡ self.old) }
         ensures err { OnErr result (self.new ≡ self.old) }
         ensures applies { S.Count.applies steps.new ≤ S.Count.applies steps.old + (length self.old.layers.live + 1) }
@@ -46,13 +47,15 @@ impl<S: RecordSource> Engine<S> {
         steps: &mut S::Count,
     ) -> Result<Lines, NoMemory>
         requires { n < 2 ^ 63 }
-        ensures step { IfOk result (λ lines. HasStepped self.old self.new lines (λ p s. machine.accept (printed.event_line event.now n) (machine.confirm entry s))) }
+        ensures step { IfOk result (λ lines. HasStepped self.old self.new lines (λ p s. machine.noticed p n (length s.watches) (machine.accept (printed.event_line event.now n) (machine.confirm entry s)))) }
+        ensures buffer { self.new.buffer ≡ self.old.buffer }
         ensures refused { IfOk result (λ lines. lines.refused ≡ true → self.new ≡ self.old) }
         ensures err { OnErr result (self.new ≡ self.old) }
         ensures applies { S.Count.applies steps.new ≤ S.Count.applies steps.old + (length self.old.layers.live + 1) }
     {
-        let lines = accept(self.alloc, event, n)?;
-        drop(self.layers.commit(entry, steps)?);
-        Ok(lines)
+        let answer = accept(self.alloc, event, n)?;
+        let mut layers = self.layers.copy()?;
+        let touched = layers.commit(entry, steps)?;
+        self.change(layers, &touched, answer, n, steps)
     }
 }

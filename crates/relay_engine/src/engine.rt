@@ -7,20 +7,20 @@ ghost use Rattle.relay_engine.specs.Steps.{HasStepped};
 ghost use Rattle.relay_machine.specs.Machine as machine;
 ghost use Rattle.store_model.specs.Records.{no_records};
 
-use crate::answers::{refuse, refuse_fault};
-use crate::handles::Handles;
+use crate::answers::refuse_fault;
 use crate::lines::Lines;
 use event_script::{Event, LineReader};
 use gql_plain::NoMemory;
 use plan_project::Project;
-use relay_lines::Refusal;
 use std::alloc::Global;
 use std::marker::Model;
 use store_layers::Layers;
+use store_retain::Retained;
 use store_source::RecordSource;
+use store_watch::Watches;
 
-/// A project, the records that were confirmed with the live optimistic layers over them, and the live
-/// handles. Contracts see it as what it keeps: no history.
+/// A project, the records that were confirmed with the live optimistic layers over them, the operations
+/// that are retained, and the live watches. Contracts see it as what it keeps: no history.
 ///
 /// All that a line changes is built aside and put in place by moves, so that a refused line, and one
 /// for which memory is lacking, leave all as it was.
@@ -28,9 +28,9 @@ use store_source::RecordSource;
 pub struct Engine<S: RecordSource> {
     pub(crate) alloc: Global,
     pub(crate) project: Project,
-    buffer: u64,
     pub(crate) layers: Layers<S>,
-    pub(crate) handles: Handles,
+    pub(crate) retained: Retained,
+    pub(crate) watches: Watches,
     reader: LineReader,
 }
 
@@ -42,11 +42,15 @@ impl<S: RecordSource> Model for Engine<S> {
 
     ghost coded = { kept_code };
 
-    ghost view = { λ e. record { defs = e.project.0; documents = e.project.1; buffer = e.buffer; layers = e.layers; handles = e.handles } };
+    ghost use Rattle.std.specs.Prelude.{map};
+    ghost use Rattle.relay_engine.specs.Handles.{handle_kept, operation_kept};
 
-    ghost use Rattle.relay_engine.specs.Operations.{KeepOperations};
+    ghost view = { λ e. record { defs = e.project.0; documents = e.project.1; buffer = e.retained.buffer; layers = e.layers; handles = map handle_kept e.retained.live; released = map operation_kept e.retained.released; watches = e.watches } };
 
-    ghost invariant = { λ e. KeepOperations e.project.0 e.project.1 e.handles };
+    ghost use Rattle.relay_engine.specs.Operations.{HoldPlans};
+    ghost use Rattle.store_retain.specs.Kept.{all_held};
+
+    ghost invariant = { λ e. HoldPlans e.project.0 e.project.1 (all_held e.retained) };
 }
 
 impl<S: RecordSource> Engine<S> {
@@ -65,12 +69,13 @@ impl<S: RecordSource> Engine<S> {
     {
         let layers = Layers::new(alloc, source)?;
         let reader = LineReader::new(alloc)?;
+        let retained = Retained::new(alloc, buffer)?;
         Ok(Engine {
             alloc,
             project,
-            buffer,
             layers,
-            handles: Handles::new(alloc),
+            retained,
+            watches: Watches::new(alloc),
             reader,
         })
     }
@@ -79,11 +84,13 @@ impl<S: RecordSource> Engine<S> {
     /// a line of more than 8 MiB is that it is too long.
     pub fn step(&mut self, line: &[u8], n: u64, steps: &mut S::Count) -> Result<Lines, NoMemory>
         requires { n < 2 ^ 63 }
-        ensures step { IfOk result (λ lines. HasStepped self.old self.new lines (λ p s. machine.step p s n line.now)) }
+        ensures step { IfOk result (λ lines. HasStepped self.old self.new lines (λ p s. machine.step p self.old.buffer s n line.now)) }
+        ensures buffer { self.new.buffer ≡ self.old.buffer }
         ensures refused { IfOk result (λ lines. lines.refused ≡ true → self.new ≡ self.old) }
         ensures err { OnErr result (self.new ≡ self.old) }
         ensures applies { S.Count.applies steps.new ≤ S.Count.applies steps.old + (length self.old.layers.live + 1) }
     {
+        self.watches.refresh()?;
         match self.reader.read(line) {
             Ok(event) => self.step_event(event, n, steps),
             Err(fault) => refuse_fault(self.alloc, fault, n),
@@ -93,14 +100,15 @@ impl<S: RecordSource> Engine<S> {
     /// Answers a line that is this event.
     fn step_event(&mut self, event: Event, n: u64, steps: &mut S::Count) -> Result<Lines, NoMemory>
         requires { n < 2 ^ 63 }
-        ensures step { IfOk result (λ lines. HasStepped self.old self.new lines (λ p s. machine.step_event p s n (event_seen event))) }
+        ensures step { IfOk result (λ lines. HasStepped self.old self.new lines (λ p s. machine.step_event p self.old.buffer s n (event_seen event))) }
+        ensures buffer { self.new.buffer ≡ self.old.buffer }
         ensures refused { IfOk result (λ lines. lines.refused ≡ true → self.new ≡ self.old) }
         ensures err { OnErr result (self.new ≡ self.old) }
         ensures applies { S.Count.applies steps.new ≤ S.Count.applies steps.old + (length self.old.layers.live + 1) }
     {
         match event {
             Event::Retain { handle, op, vars } => self.retain(&handle, &op, &vars, n),
-            Event::Release { .. } => refuse(self.alloc, Refusal::NotYet, n),
+            Event::Release { handle } => self.release(&handle, n),
             Event::Payload { answer, updates } => {
                 self.confirm("payload", &Some(answer), updates, n, steps)
             }
@@ -117,9 +125,9 @@ impl<S: RecordSource> Engine<S> {
             } => self.finish(&layer, &answer, updates, n, steps),
             Event::Revert { layer } => self.revert(&layer, n, steps),
             Event::Read { target } => self.read(&target, n, steps),
-            Event::Watch { .. } => refuse(self.alloc, Refusal::NotYet, n),
-            Event::Unwatch { .. } => refuse(self.alloc, Refusal::NotYet, n),
-            Event::Collect => refuse(self.alloc, Refusal::NotYet, n),
+            Event::Watch { watch, target } => self.watch(watch, &target, n, steps),
+            Event::Unwatch { watch } => self.unwatch(&watch, n),
+            Event::Collect => self.collect(n, steps),
         }
     }
 }

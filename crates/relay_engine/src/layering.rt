@@ -29,7 +29,8 @@ impl<S: RecordSource> Engine<S> {
         steps: &mut S::Count,
     ) -> Result<Lines, NoMemory>
         requires { n < 2 ^ 63 }
-        ensures step { IfOk result (λ lines. HasStepped self.old self.new lines (λ p s. machine.step_begin p s n layer (option_map answer_seen answer.now) commands)) }
+        ensures step { IfOk result (λ lines. HasStepped self.old self.new lines (λ p s. machine.noticed p n (length s.watches) (machine.step_begin p s n layer (option_map answer_seen answer.now) commands))) }
+        ensures buffer { self.new.buffer ≡ self.old.buffer }
         ensures refused { IfOk result (λ lines. lines.refused ≡ true → self.new ≡ self.old) }
         ensures err { OnErr result (self.new ≡ self.old) }
         ensures applies { S.Count.applies steps.new ≤ S.Count.applies steps.old + (length self.old.layers.live + 1) }
@@ -54,14 +55,16 @@ impl<S: RecordSource> Engine<S> {
     ) -> Result<Lines, NoMemory>
         requires within { n < 2 ^ 63 }
         requires free { layered.is_live self.old.layers.live layer ≡ false }
-        ensures step { IfOk result (λ lines. HasStepped self.old self.new lines (λ p s. machine.accept (printed.event_line (codes "begin") n) (machine.with_layer layer entry s))) }
+        ensures step { IfOk result (λ lines. HasStepped self.old self.new lines (λ p s. machine.noticed p n (length s.watches) (machine.accept (printed.event_line (codes "begin") n) (machine.with_layer layer entry s)))) }
+        ensures buffer { self.new.buffer ≡ self.old.buffer }
         ensures refused { IfOk result (λ lines. lines.refused ≡ true → self.new ≡ self.old) }
         ensures err { OnErr result (self.new ≡ self.old) }
         ensures applies { S.Count.applies steps.new ≤ S.Count.applies steps.old + (length self.old.layers.live + 1) }
     {
-        let lines = accept(self.alloc, "begin", n)?;
-        drop(self.layers.begin(layer, entry, steps)?);
-        Ok(lines)
+        let answer = accept(self.alloc, "begin", n)?;
+        let mut layers = self.layers.copy()?;
+        let touched = layers.begin(layer, entry, steps)?;
+        self.change(layers, &touched, answer, n, steps)
     }
 
     /// Drops a layer, and confirms what the response to a handle says, if there is one, and then the
@@ -75,7 +78,8 @@ impl<S: RecordSource> Engine<S> {
         steps: &mut S::Count,
     ) -> Result<Lines, NoMemory>
         requires { n < 2 ^ 63 }
-        ensures step { IfOk result (λ lines. HasStepped self.old self.new lines (λ p s. machine.step_finish p s n layer.now (option_map answer_seen answer.now) commands)) }
+        ensures step { IfOk result (λ lines. HasStepped self.old self.new lines (λ p s. machine.noticed p n (length s.watches) (machine.step_finish p s n layer.now (option_map answer_seen answer.now) commands))) }
+        ensures buffer { self.new.buffer ≡ self.old.buffer }
         ensures refused { IfOk result (λ lines. lines.refused ≡ true → self.new ≡ self.old) }
         ensures err { OnErr result (self.new ≡ self.old) }
         ensures applies { S.Count.applies steps.new ≤ S.Count.applies steps.old + (length self.old.layers.live + 1) }
@@ -99,14 +103,16 @@ impl<S: RecordSource> Engine<S> {
     ) -> Result<Lines, NoMemory>
         requires within { n < 2 ^ 63 }
         requires live { layered.is_live self.old.layers.live layer.now ≡ true }
-        ensures step { IfOk result (λ lines. HasStepped self.old self.new lines (λ p s. machine.accept (printed.event_line (codes "finish") n) (machine.confirm entry (machine.drop_layer layer.now s)))) }
+        ensures step { IfOk result (λ lines. HasStepped self.old self.new lines (λ p s. machine.noticed p n (length s.watches) (machine.accept (printed.event_line (codes "finish") n) (machine.confirm entry (machine.drop_layer layer.now s))))) }
+        ensures buffer { self.new.buffer ≡ self.old.buffer }
         ensures refused { IfOk result (λ lines. lines.refused ≡ true → self.new ≡ self.old) }
         ensures err { OnErr result (self.new ≡ self.old) }
         ensures applies { S.Count.applies steps.new ≤ S.Count.applies steps.old + (length self.old.layers.live + 1) }
     {
-        let lines = accept(self.alloc, "finish", n)?;
-        drop(self.layers.finish(layer, entry, steps)?);
-        Ok(lines)
+        let answer = accept(self.alloc, "finish", n)?;
+        let mut layers = self.layers.copy()?;
+        let touched = layers.finish(layer, entry, steps)?;
+        self.change(layers, &touched, answer, n, steps)
     }
 
     /// Drops a layer.
@@ -117,7 +123,8 @@ impl<S: RecordSource> Engine<S> {
         steps: &mut S::Count,
     ) -> Result<Lines, NoMemory>
         requires { n < 2 ^ 63 }
-        ensures step { IfOk result (λ lines. HasStepped self.old self.new lines (λ p s. machine.step_revert s n layer.now)) }
+        ensures step { IfOk result (λ lines. HasStepped self.old self.new lines (λ p s. machine.noticed p n (length s.watches) (machine.step_revert s n layer.now))) }
+        ensures buffer { self.new.buffer ≡ self.old.buffer }
         ensures refused { IfOk result (λ lines. lines.refused ≡ true → self.new ≡ self.old) }
         ensures err { OnErr result (self.new ≡ self.old) }
         ensures applies { S.Count.applies steps.new ≤ S.Count.applies steps.old + (length self.old.layers.live + 1) }
@@ -125,8 +132,9 @@ impl<S: RecordSource> Engine<S> {
         if !self.layers.is_live(layer.as_str()) {
             return refuse(self.alloc, Refusal::UnknownLayer(layer.as_str()), n);
         }
-        let lines = accept(self.alloc, "revert", n)?;
-        drop(self.layers.revert(layer, steps)?);
-        Ok(lines)
+        let answer = accept(self.alloc, "revert", n)?;
+        let mut layers = self.layers.copy()?;
+        let touched = layers.revert(layer, steps)?;
+        self.change(layers, &touched, answer, n, steps)
     }
 }

@@ -2,18 +2,22 @@
 #![tactic(auto)]
 
 mod answers;
+mod changing;
+mod collecting;
 mod confirming;
 pub mod engine;
 mod environments;
-mod handles;
 mod layering;
 pub mod lines;
-mod reading;
-mod reads;
+mod releasing;
 mod retaining;
 mod said;
 mod taking;
+mod targets;
+mod telling;
 mod types;
+mod watched;
+mod watching;
 
 pub use engine::Engine;
 pub use lines::Lines;

@@ -1,7 +1,8 @@
 //! The event that starts an operation under a handle.
 ghost use Rattle.std.specs.Prelude.{◌≡◌, ◌<◌, ◌^◌, codes, true, false, Some, is_some, IfOk, OnErr};
-ghost use Rattle.plan_project.specs.Lookups.{KeepsOperation, operation_in};
+ghost use Rattle.plan_project.specs.Lookups.{IsOperation, KeepsOperation, operation_in};
 ghost use Rattle.relay_engine.specs.Handles.{handle_under, held_as};
+ghost use Rattle.relay_engine.specs.Operations.{HoldsPlan};
 ghost use Rattle.relay_engine.specs.Retained.{IsPrepared, IsThere};
 ghost use Rattle.relay_engine.specs.Stands.{StandsFor, KeepsHandle};
 ghost use Rattle.relay_engine.specs.Steps.{HasStepped, IsStep};
@@ -11,16 +12,17 @@ ghost use Rattle.schema_types.specs.Sites.{OperationAt};
 
 use crate::answers::{accept, refuse, refuse_variables};
 use crate::engine::Engine;
-use crate::handles::Held;
 use crate::lines::Lines;
 use gql_plain::{NoMemory, Pairs, Words};
 use plan_project::Compiled;
 use relay_lines::{Limited, Refusal};
 use schema_values::variables;
+use std::rc::Rc;
+use store_retain::Held;
 use store_source::RecordSource;
 
 /// At most this many handles are live.
-const MAX_HANDLES: usize = 10_000;
+const MAX_HANDLES: u64 = 10_000;
 
 /// What is to be kept under a handle, or the answer that refuses it.
 #[derive(Drop)]
@@ -40,10 +42,11 @@ impl<S: RecordSource> Engine<S> {
     ) -> Result<Lines, NoMemory>
         requires { n < 2 ^ 63 }
         ensures step { IfOk result (λ lines. HasStepped self.old self.new lines (λ p s. machine.step_retain p s n handle.now operation.now given.now)) }
+        ensures buffer { self.new.buffer ≡ self.old.buffer }
         ensures refused { IfOk result (λ lines. lines.refused ≡ true → self.new ≡ self.old) }
         ensures err { OnErr result (self.new ≡ self.old) }
     {
-        if self.handles.is_live(handle.as_str()) {
+        if self.retained.held(handle.as_str()).is_some() {
             return refuse(self.alloc, Refusal::HandleTaken(handle.as_str()), n);
         }
         match self.prepare(operation, given, n)? {
@@ -78,12 +81,14 @@ impl<S: RecordSource> Engine<S> {
     ) -> Result<Prepared, NoMemory>
         requires within { n < 2 ^ 63 }
         requires there { is_some (operation_in self.now.defs self.now.documents compiled.now.name) ≡ true }
+        requires reaches { (o : OperationAt) → operation_in self.now.defs self.now.documents compiled.now.name ≡ Some o
+            → IsOperation self.now.defs self.now.documents compiled.now.name o compiled.now }
         ensures there { IfOk result (IsThere self.now) }
         ensures step { IfOk result (λ prepared. (p : machine.Project) (s : machine.State) (o : OperationAt) → StandsFor self.now p s
             → KeepsOperation p.defs compiled.now.name o compiled.now → operation_in p.defs p.documents compiled.now.name ≡ Some o
             → IsPrepared self.now p s n (λ name. machine.retain_operation p s n name o given.now) prepared) }
     {
-        if self.handles.count() == MAX_HANDLES {
+        if self.retained.count() == MAX_HANDLES {
             let lines = refuse(self.alloc, Refusal::TooMany(Limited::Handles), n)?;
             return Ok(Prepared::Refused(lines));
         }
@@ -96,8 +101,10 @@ impl<S: RecordSource> Engine<S> {
             given,
         ) {
             Ok(env) => Ok(Prepared::Held(Held {
-                operation: compiled.name.copy()?,
-                env,
+                name: compiled.name.copy()?,
+                normal: compiled.normal.clone()?,
+                reader: compiled.reader.clone()?,
+                env: Rc::new(self.alloc, env)?,
             })),
             Err(fault) => Ok(Prepared::Refused(refuse_variables(self.alloc, fault, n)?)),
         }
@@ -107,14 +114,15 @@ impl<S: RecordSource> Engine<S> {
     fn hold(&mut self, handle: &Words, held: Held, n: u64) -> Result<Lines, NoMemory>
         requires within { n < 2 ^ 63 }
         requires free { is_some (handle_under self.old.handles handle.now) ≡ false }
-        requires there { is_some (operation_in self.old.defs self.old.documents held.operation) ≡ true }
+        requires there { HoldsPlan self.old.defs self.old.documents held }
         ensures step { IfOk result (λ lines. (p : machine.Project) (s : machine.State) (h : machine.Handle) → StandsFor self.old p s → KeepsHandle p (held_as handle.now held) h
             → IsStep p (machine.accept (printed.event_line (codes "retain") n) (machine.with_handle h s)) lines self.new) }
+        ensures buffer { self.new.buffer ≡ self.old.buffer }
         ensures refused { IfOk result (λ lines. lines.refused ≡ true → self.new ≡ self.old) }
         ensures err { OnErr result (self.new ≡ self.old) }
     {
         let lines = accept(self.alloc, "retain", n)?;
-        self.handles.put(handle, held)?;
+        self.retained.retain(handle.copy()?, held)?;
         Ok(lines)
     }
 }

@@ -9,13 +9,13 @@ ghost use Rattle.relay_machine.specs.Machine as machine;
 ghost use Rattle.schema_types.specs.Sites.{OperationAt};
 ghost use Rattle.serde_json.specs.View.{view};
 
-use crate::handles::Held;
 use gql_plain::NoMemory;
 use plan_project::{Compiled, Project};
 use serde_json::Value;
 use std::alloc::Global;
 use store_model::{Facts, PayloadFault};
 use store_norm::{NormFault, facts};
+use store_retain::Held;
 
 /// What a response says to the operation of a handle: its facts, or its first fault.
 #[derive(Drop)]
@@ -31,7 +31,7 @@ pub(crate) fn said_to(
     held: &Held,
     response: &Value,
 ) -> Result<Told, NoMemory>
-    requires { is_some (operation_in project.now.0 project.now.1 held.now.operation) ≡ true }
+    requires { is_some (operation_in project.now.0 project.now.1 held.now.name) ≡ true }
     ensures { IfOk result (λ told. (p : machine.Project) (h : machine.Handle) → IsProject project.now p → KeepsHandle p (held_as h.name held.now) h
         → verdict_told told ≡ machine.said_to p h (view response.now)) }
 {
@@ -45,12 +45,12 @@ pub(crate) fn said_to(
 
 /// The operation that a handle holds, with its plans; takes no memory.
 pub(crate) fn operation_held<'p>(project: &'p Project, held: &Held) -> &'p Compiled
-    requires { is_some (operation_in project.now.0 project.now.1 held.now.operation) ≡ true }
+    requires { is_some (operation_in project.now.0 project.now.1 held.now.name) ≡ true }
     ensures formed { is_formed result.now.normal.value.steps ≡ true }
-    ensures is { (o : OperationAt) → operation_in project.now.0 project.now.1 held.now.operation ≡ Some o
-        → IsOperation project.now.0 project.now.1 held.now.operation o result.now }
+    ensures is { (o : OperationAt) → operation_in project.now.0 project.now.1 held.now.name ≡ Some o
+        → IsOperation project.now.0 project.now.1 held.now.name o result.now }
 {
-    match project.operation(held.operation.as_str()) {
+    match project.operation(held.name.as_str()) {
         Some(compiled) => compiled,
         None => unreachable!(),
     }

@@ -12,7 +12,6 @@ ghost use Rattle.store_model.specs.declared.entry.Entry as E;
 
 use crate::answers::refuse;
 use crate::engine::Engine;
-use crate::handles::Held;
 use crate::lines::Lines;
 use crate::said::{Told, said_to};
 use crate::types::unknown_type;
@@ -20,6 +19,7 @@ use gql_plain::NoMemory;
 use relay_lines::{Limited, Refusal};
 use serde_json::Value;
 use store_model::{Answer, Commands, Entry, Facts};
+use store_retain::Held;
 use store_source::RecordSource;
 
 /// What an event gives: its entry, or the answer that refuses it.
@@ -62,7 +62,7 @@ impl<S: RecordSource> Engine<S> {
             → Gives self.now p (machine.answer_to p s n (machine.handle_named s.handles answer.now.handle) (answer_seen answer.now) commands (λ step. machine.unless s n is_full (model.too_many model.layers) step) take) take taken) }
     {
         let handle = answer.handle.as_str();
-        let Some(held) = self.handles.find(handle) else {
+        let Some(held) = self.retained.held(handle) else {
             let lines = refuse(self.alloc, Refusal::UnknownHandle(handle), n)?;
             return Ok(Taken::Refused(lines));
         };
@@ -81,7 +81,7 @@ impl<S: RecordSource> Engine<S> {
         n: u64,
     ) -> Result<Taken, NoMemory>
         requires within { n < 2 ^ 63 }
-        requires there { is_some (operation_in self.now.defs self.now.documents held.now.operation) ≡ true }
+        requires there { is_some (operation_in self.now.defs self.now.documents held.now.name) ≡ true }
         ensures { IfOk result (λ taken. (p : machine.Project) (s : machine.State) (h : machine.Handle) → StandsFor self.now p s → KeepsHandle p (held_as h.name held.now) h
             → (take : E.Entry → machine.Step) → Gives self.now p (machine.of_verdict s n (machine.said_to p h (view response.now)) commands take) take taken) }
     {

@@ -1,15 +1,25 @@
-use Rattle.std.proofs.Common.{sym, subst}
-use Rattle.relay_engine.proofs.StandingLaws.{stands_committed, with_layers}
-use Rattle.relay_engine.proofs.StepLaws.{accepting}
+use Rattle.std.proofs.Common.{◌≡◌, ◌∷◌, refl, ap, subst, ◌∙◌}
+use Rattle.relay_engine.proofs.ChangeLaws.{committed_differ, never_refused, on_change}
+use Rattle.relay_engine.proofs.StandingLaws.{stands_committed}
 use Rattle.relay_engine.proofs.engine.Engine.commit.Goals as goal
 use Rattle.relay_engine.specs.Kept.{Kept}
-use Rattle.relay_engine.specs.Stands.{StandsFor}
 use Rattle.relay_machine.specs.Machine.{confirm}
+use Rattle.relay_machine.specs.Printed.{event_line}
+use Rattle.store_layers.specs.Changed.{AreChanged}
+use Rattle.store_layers.specs.Layered.{Layered, committed, entries_of}
 
 pub returns-clause-step : goal.returns-clause-step
-returns-clause-step g c = λ p s stands.
-    let old : Kept = record { defs = c.self.inside.project.0; documents = c.self.inside.project.1; buffer = c.self.inside.buffer; layers = c.self.inside.layers; handles = c.self.inside.handles } in
-    let here : StandsFor old p s = subst (λ (x : Kept). StandsFor x p s) (sym c.self.view_is) stands in
-    accepting (with_layers old c.commit.new.self) p (confirm c.args.entry s) _ c.in_ok-lines.lines
-    (subst (λ ls. StandsFor (with_layers old ls) p (confirm c.args.entry s)) (sym c.in_ok-commit.ensures.ok) (stands_committed old p s here c.args.entry))
-    c.in_ok-lines.ensures
+returns-clause-step g c =
+    let k : Kept = c.args.self.now in
+    let e = c.args.entry in
+    let ids = c.in_ok-touched.touched in
+    let same : c.in_ok-layers.layers ≡ k.layers = c.in_ok-layers.ensures ∙ ap (λ (x : Kept). x.layers) c.self.view_is in
+    let made : c.commit.new.self ≡ committed e k.layers = c.in_ok-touched.ensures.ok ∙ ap (committed e) same in
+    on_change c.change.result k c.change.new.self c.commit.new.self (committed e k.layers) ids c.in_ok-answer.answer c.args.n (event_line c.args.event.now c.args.n) (confirm e)
+    c.change.ensures.step made c.in_ok-answer.ensures
+    (committed_differ k.layers ids e (subst (λ (l : Layered). AreChanged l.base (entries_of l.live) (e ∷ entries_of l.live) ids) same c.in_ok-touched.ensures.changed))
+    (λ s. refl) (λ p s stands. stands_committed k p s stands e)
+
+pub returns-clause-refused : goal.returns-clause-refused
+returns-clause-refused g c =
+    never_refused c.change.result (c.change.new.self ≡ c.args.self.now) c.in_ok-answer.answer (event_line c.args.event.now c.args.n) c.change.ensures.refused c.in_ok-answer.ensures

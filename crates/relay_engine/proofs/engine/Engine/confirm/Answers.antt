@@ -1,9 +1,10 @@
-use Rattle.std.proofs.Common.{option_map}
+use Rattle.std.proofs.Common.{length, option_map, ap}
 use Rattle.event_script.specs.Seen.{answer_seen}
+use Rattle.relay_engine.proofs.QuietLaws.{stepped_quietly}
 use Rattle.relay_engine.proofs.StepLaws.{is_entry, is_refused, on_step}
 use Rattle.relay_engine.proofs.engine.Engine.confirm.Goals as goal
 use Rattle.relay_engine.specs.Kept.{Kept}
-use Rattle.relay_machine.specs.Machine.{accept, confirm, result_of, unless}
+use Rattle.relay_machine.specs.Machine.{accept, confirm, noticed, result_of}
 use Rattle.relay_machine.specs.Printed.{event_line}
 
 pub returns-in-Entry-clause-step : goal.returns-in-Entry-clause-step
@@ -11,15 +12,17 @@ returns-in-Entry-clause-step g c =
     let k : Kept = c.args.self.now in
     let n = c.args.n in
     let line = event_line c.args.event.now n in
-    on_step c.commit.result k c.commit.new.self (λ p s. accept line (confirm c.in-Entry.entry s))
-    (λ p s. result_of p s n (option_map answer_seen c.args.answer.now) c.args.commands (λ step. step) (λ e. accept line (confirm e s))) c.commit.ensures.step
+    on_step c.commit.result k c.commit.new.self (λ p s. noticed p n (length s.watches) (accept line (confirm c.in-Entry.entry s)))
+    (λ p s. noticed p n (length s.watches) (result_of p s n (option_map answer_seen c.args.answer.now) c.args.commands (λ step. step) (λ e. accept line (confirm e s)))) c.commit.ensures.step
+    (λ p s stands. ap (noticed p n (length s.watches))
     (is_entry k (λ p s take. result_of p s n (option_map answer_seen c.args.answer.now) c.args.commands (λ step. step) take) c.in_ok-entry.field-0 c.in_ok-entry.ensures
-    (λ s e. accept line (confirm e s)) c.in-Entry.entry c.in-Entry.is)
+    (λ s e. accept line (confirm e s)) c.in-Entry.entry c.in-Entry.is p s stands))
 
 pub returns-in-Refused-clause-step : goal.returns-in-Refused-clause-step
 returns-in-Refused-clause-step g c =
     let k : Kept = c.args.self.now in
     let n = c.args.n in
     let line = event_line c.args.event.now n in
-    is_refused k (λ p s take. result_of p s n (option_map answer_seen c.args.answer.now) c.args.commands (λ step. step) take) c.in_ok-entry.field-0 c.in_ok-entry.ensures
-    (λ s e. accept line (confirm e s)) c.in-Refused.lines c.in-Refused.is
+    stepped_quietly k k n c.in-Refused.lines (λ p s. result_of p s n (option_map answer_seen c.args.answer.now) c.args.commands (λ step. step) (λ e. accept line (confirm e s)))
+    (is_refused k (λ p s take. result_of p s n (option_map answer_seen c.args.answer.now) c.args.commands (λ step. step) take) c.in_ok-entry.field-0 c.in_ok-entry.ensures
+    (λ s e. accept line (confirm e s)) c.in-Refused.lines c.in-Refused.is)

@@ -1,10 +1,11 @@
-use Rattle.std.proofs.Common.{◌≡◌, true, false, not, codes, option_map, ap, sym, ◌∙◌}
+use Rattle.std.proofs.Common.{◌≡◌, true, false, not, codes, length, option_map, ap, sym, ◌∙◌}
 use Rattle.event_script.specs.Seen.{answer_seen}
+use Rattle.relay_engine.proofs.QuietLaws.{quiet}
 use Rattle.relay_engine.proofs.StandingLaws.{whether_layer}
 use Rattle.relay_engine.proofs.StepLaws.{is_entry, is_refused, on_refusal, on_step, same_step, unless-false, unless-true}
 use Rattle.relay_engine.proofs.engine.Engine.finish.Goals as goal
 use Rattle.relay_engine.specs.Kept.{Kept}
-use Rattle.relay_machine.specs.Machine.{State, Step, accept, confirm, drop_layer, is_layer, refuse, result_of, step_finish}
+use Rattle.relay_machine.specs.Machine.{State, Step, accept, confirm, drop_layer, is_layer, noticed, refuse, result_of, step_finish}
 use Rattle.relay_machine.specs.Printed.{event_line}
 use Rattle.relay_machine.specs.Refusals.{unknown_layer}
 use Rattle.store_model.specs.declared.entry.Entry.{Entry}
@@ -15,9 +16,10 @@ returns-then-not-is_live-clause-step g c =
     let n = c.args.n in
     let name = c.args.layer.now in
     let told = c.as_str-then-not-is_live.result.now in
-    on_refusal c.refuse.result k n (unknown_layer told) (λ p s. step_finish p s n name (option_map answer_seen c.args.answer.now) c.args.commands) c.refuse.ensures (λ p s stands.
+    on_refusal c.refuse.result k n (unknown_layer told) (λ p s. noticed p n (length s.watches) (step_finish p s n name (option_map answer_seen c.args.answer.now) c.args.commands)) c.refuse.ensures (λ p s stands.
     let live : is_layer s.layers name ≡ false = whether_layer k p s stands c.self.inside.layers.live c.as_str.result.now name c.is_live.result (ap (λ (x : Kept). x.layers.live) c.self.view_is) c.as_str.ensures c.is_live.ensures ∙ c.if-not-is_live.true in
-    unless-true s n (not (is_layer s.layers name)) (unknown_layer name) _ (ap not live) ∙ ap (λ t. refuse s n (unknown_layer t)) (sym c.as_str-then-not-is_live.ensures))
+    ap (noticed p n (length s.watches))
+    (unless-true s n (not (is_layer s.layers name)) (unknown_layer name) _ (ap not live) ∙ ap (λ t. refuse s n (unknown_layer t)) (sym c.as_str-then-not-is_live.ensures)))
 
 pub returns-in-Entry-clause-step : goal.returns-in-Entry-clause-step
 returns-in-Entry-clause-step g c =
@@ -26,11 +28,13 @@ returns-in-Entry-clause-step g c =
     let name = c.args.layer.now in
     let line = event_line (codes "finish") n in
     let answer = option_map answer_seen c.args.answer.now in
-    on_step c.replace.result k c.replace.new.self (λ p s. accept line (confirm c.in-Entry.entry (drop_layer name s))) (λ p s. step_finish p s n name answer c.args.commands) c.replace.ensures.step (λ p s stands.
+    on_step c.replace.result k c.replace.new.self (λ p s. noticed p n (length s.watches) (accept line (confirm c.in-Entry.entry (drop_layer name s))))
+    (λ p s. noticed p n (length s.watches) (step_finish p s n name answer c.args.commands)) c.replace.ensures.step (λ p s stands.
     let live : is_layer s.layers name ≡ true = whether_layer k p s stands c.self.inside.layers.live c.as_str.result.now name c.is_live.result (ap (λ (x : Kept). x.layers.live) c.self.view_is) c.as_str.ensures c.is_live.ensures ∙ c.if-not-is_live.false in
     let take : State → Entry → Step = λ s e. accept line (confirm e (drop_layer name s)) in
-    unless-false s n (not (is_layer s.layers name)) (unknown_layer name) (result_of p s n answer c.args.commands (λ step. step) (take s)) (ap not live)
-    ∙ is_entry k (λ p s take. result_of p s n answer c.args.commands (λ step. step) take) c.in_ok-entry.field-0 c.in_ok-entry.ensures take c.in-Entry.entry c.in-Entry.is p s stands)
+    ap (noticed p n (length s.watches))
+    (unless-false s n (not (is_layer s.layers name)) (unknown_layer name) (result_of p s n answer c.args.commands (λ step. step) (take s)) (ap not live)
+    ∙ is_entry k (λ p s take. result_of p s n answer c.args.commands (λ step. step) take) c.in_ok-entry.field-0 c.in_ok-entry.ensures take c.in-Entry.entry c.in-Entry.is p s stands))
 
 pub returns-in-Refused-clause-step : goal.returns-in-Refused-clause-step
 returns-in-Refused-clause-step g c = λ p s stands.
@@ -41,6 +45,7 @@ returns-in-Refused-clause-step g c = λ p s stands.
     let answer = option_map answer_seen c.args.answer.now in
     let live : is_layer s.layers name ≡ true = whether_layer k p s stands c.self.inside.layers.live c.as_str.result.now name c.is_live.result (ap (λ (x : Kept). x.layers.live) c.self.view_is) c.as_str.ensures c.is_live.ensures ∙ c.if-not-is_live.false in
     let take : State → Entry → Step = λ s e. accept line (confirm e (drop_layer name s)) in
-    same_step k p (result_of p s n answer c.args.commands (λ step. step) (take s)) (step_finish p s n name answer c.args.commands) c.in-Refused.lines
+    quiet k p n (length s.watches) (step_finish p s n name answer c.args.commands) c.in-Refused.lines
+    (same_step k p (result_of p s n answer c.args.commands (λ step. step) (take s)) (step_finish p s n name answer c.args.commands) c.in-Refused.lines
     (unless-false s n (not (is_layer s.layers name)) (unknown_layer name) (result_of p s n answer c.args.commands (λ step. step) (take s)) (ap not live))
-    (is_refused k (λ p s take. result_of p s n answer c.args.commands (λ step. step) take) c.in_ok-entry.field-0 c.in_ok-entry.ensures take c.in-Refused.lines c.in-Refused.is p s stands)
+    (is_refused k (λ p s take. result_of p s n answer c.args.commands (λ step. step) take) c.in_ok-entry.field-0 c.in_ok-entry.ensures take c.in-Refused.lines c.in-Refused.is p s stands))

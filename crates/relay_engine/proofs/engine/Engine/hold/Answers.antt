@@ -1,26 +1,39 @@
-use Rattle.std.proofs.Common.{◌≡◌, true, is_some, sym, subst}
-use Rattle.plan_project.specs.Lookups.{operation_in}
-use Rattle.relay_engine.proofs.HandleLaws.{there_too}
-use Rattle.relay_engine.proofs.StandingLaws.{stands_retained, with_handles}
+use Rattle.std.proofs.Common.{◌≡◌, codes, is_some, ap, sym, subst, ◌∙◌}
+use Rattle.relay_engine.proofs.HandleLaws.{is_some-under, live_is}
+use Rattle.relay_engine.proofs.KeepingLaws.{kept_of, stands_retained}
+use Rattle.relay_engine.proofs.PlanLaws.{plans_retained}
 use Rattle.relay_engine.proofs.StepLaws.{accepting}
 use Rattle.relay_engine.proofs.engine.Engine.hold.Goals as goal
-use Rattle.relay_engine.specs.Handles.{held_as}
+use Rattle.relay_engine.specs.Handles.{handle_under}
 use Rattle.relay_engine.specs.Kept.{Kept}
-use Rattle.relay_engine.specs.Operations.{KeepOperations}
+use Rattle.relay_engine.specs.Operations.{HoldPlans, HoldsPlan}
 use Rattle.relay_engine.specs.Stands.{StandsFor}
 use Rattle.relay_machine.specs.Machine.{with_handle}
+use Rattle.relay_machine.specs.Printed.{event_line}
+use Rattle.store_retain.specs.Kept.{all_held, retained}
+
+pub retain-requires : goal.retain-requires
+retain-requires g c =
+    let live = c.self.inside.retained.live in
+    let name = c.in_ok-copy.field-0 in
+    sym (live_is name live) ∙ sym (is_some-under name live) ∙ (λ i. is_some (handle_under (c.self.view_is i).handles (c.in_ok-copy.ensures i))) ∙ c.requires.free
 
 pub invariant_of-self-2 : goal.invariant_of-self-2
 invariant_of-self-2 g c =
     let old = c.self.inside in
-    subst (KeepOperations old.project.0 old.project.1) (sym c.in_ok-put.ensures.ok)
-    (there_too old.project.0 old.project.1 old.handles (held_as c.args.handle.now c.args.held) c.self.invariant
-    (subst (λ (x : Kept). is_some (operation_in x.defs x.documents c.args.held.operation) ≡ true) (sym c.self.view_is) c.requires.there))
+    subst (λ r. HoldPlans old.project.0 old.project.1 (all_held r)) (sym c.in_ok-retain.ensures.ok)
+    (plans_retained old.project.0 old.project.1 old.retained c.in_ok-copy.field-0 c.args.held c.self.invariant
+    (subst (λ (x : Kept). HoldsPlan x.defs x.documents c.args.held) (sym c.self.view_is) c.requires.there))
 
 pub returns-clause-step : goal.returns-clause-step
 returns-clause-step g c = λ p s h stands keeps.
-    let old : Kept = record { defs = c.self.inside.project.0; documents = c.self.inside.project.1; buffer = c.self.inside.buffer; layers = c.self.inside.layers; handles = c.self.inside.handles } in
-    let here : StandsFor old p s = subst (λ (x : Kept). StandsFor x p s) (sym c.self.view_is) stands in
-    accepting (with_handles old c.put.new.self) p (with_handle h s) _ c.in_ok-lines.lines
-    (subst (λ hs. StandsFor (with_handles old hs) p (with_handle h s)) (sym c.in_ok-put.ensures.ok) (stands_retained old p s here (held_as c.args.handle.now c.args.held) h keeps))
+    let n = c.args.n in
+    let name = c.args.handle.now in
+    let held = c.args.held in
+    let old = c.self.inside in
+    let here : StandsFor (kept_of old.project old.layers old.retained old.watches) p s = subst (λ (x : Kept). StandsFor x p s) (sym c.self.view_is) stands in
+    let made : c.retain.new.self ≡ retained name held old.retained = c.in_ok-retain.ensures.ok ∙ ap (λ t. retained t held old.retained) c.in_ok-copy.ensures in
+    accepting (kept_of old.project old.layers c.retain.new.self old.watches) p (with_handle h s) (event_line (codes "retain") n) c.in_ok-lines.lines
+    (subst (λ r. StandsFor (kept_of old.project old.layers r old.watches) p (with_handle h s)) (sym made)
+    (stands_retained old.project old.layers old.retained old.watches p s here name held h keeps))
     c.in_ok-lines.ensures

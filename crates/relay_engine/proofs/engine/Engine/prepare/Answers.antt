@@ -2,6 +2,7 @@ use Rattle.std.proofs.Common.{◌≡◌, Some, option_copied, ap, sym, subst, �
 use Rattle.std.proofs.lemmas.Result.{IfOk-weaker}
 use Rattle.plan_project.specs.Lookups.{KeepsOperation, operation_in}
 use Rattle.relay_engine.proofs.Names.{found_left}
+use Rattle.relay_engine.proofs.PlanLaws.{found_operation, found_there}
 use Rattle.relay_engine.proofs.engine.Engine.prepare.Goals as goal
 use Rattle.relay_engine.specs.Kept.{Kept}
 use Rattle.relay_engine.specs.Retained.{IsPrepared}
@@ -34,3 +35,13 @@ returns-in-Some-clause-step g c =
     let named : operation_in p.defs p.documents op ≡ Some o.0 = (λ i. operation_in (sym schema i) (sym documents i) (sym c.as_str.ensures i)) ∙ o.1 in
     subst (λ x. IsPrepared k p s n (λ name. retain_named p s n name op x given) prepared) (sym named) (has p s o.0 stands keeps is))
     c.prepare_operation.ensures.step
+
+pub prepare_operation-requires-clause-there : goal.prepare_operation-requires-clause-there
+prepare_operation-requires-clause-there g c =
+    found_there c.self.inside.project c.as_str.result.now (option_copied c.operation.result) c.in-Some.compiled.now (ap option_copied c.in-Some.is) c.operation.ensures.kept
+    c.args.self.now (ap (λ (x : Kept). x.defs) c.self.view_is) (ap (λ (x : Kept). x.documents) c.self.view_is)
+
+pub prepare_operation-requires-clause-reaches : goal.prepare_operation-requires-clause-reaches
+prepare_operation-requires-clause-reaches g c =
+    found_operation c.self.inside.project c.as_str.result.now (option_copied c.operation.result) c.in-Some.compiled.now (ap option_copied c.in-Some.is) c.operation.ensures.kept
+    c.args.self.now (ap (λ (x : Kept). x.defs) c.self.view_is) (ap (λ (x : Kept). x.documents) c.self.view_is) c.operation.ensures.normal c.operation.ensures.reads

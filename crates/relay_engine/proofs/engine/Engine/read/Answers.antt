@@ -1,74 +1,44 @@
-use Rattle.std.proofs.Common.{◌≡◌, true, None, Some, Option, is_some, option_map, option_copied, ap, sym, subst, ◌∙◌}
+use Rattle.std.proofs.Common.{◌≡◌, false, Option, ap, subst, ◌∙◌}
 use Rattle.std.proofs.lemmas.Result.{IfOk-weaker}
-use Rattle.event_script.specs.Seen.{part_seen, target_seen}
-use Rattle.plan_project.specs.Lookups.{operation_in}
-use Rattle.relay_engine.proofs.HandleLaws.{is_there}
-use Rattle.relay_engine.proofs.StandingLaws.{no_handle, the_handle}
-use Rattle.relay_engine.proofs.StepLaws.{on_refusal, same_step}
+use Rattle.event_script.specs.Seen.{target_seen}
+use Rattle.relay_engine.proofs.KeepingLaws.{shown_is}
+use Rattle.relay_engine.proofs.StepLaws.{accepting, same_step}
 use Rattle.relay_engine.proofs.engine.Engine.read.Goals as goal
-use Rattle.relay_engine.specs.Handles.{held_as}
+use Rattle.relay_engine.specs.Answered.{AreLines}
 use Rattle.relay_engine.specs.Kept.{Kept}
-use Rattle.relay_engine.specs.Stands.{KeepsHandle, StandsFor}
-use Rattle.relay_engine.specs.Steps.{HasStepped, IsStep}
-use Rattle.relay_machine.specs.Machine.{Handle, Project, State, handle_named, read_part, read_target, refuse, step_event}
-use Rattle.relay_machine.specs.Refusals.{unknown_handle}
-use Rattle.store_model.specs.Events as events
+use Rattle.relay_engine.specs.Stands.{ShowsPart}
+use Rattle.relay_engine.specs.Steps.{HasStepped}
+use Rattle.relay_engine.specs.Targets.{Targets}
+use Rattle.relay_engine.specs.declared.targets.Targeted.TheVariants as T
+use Rattle.relay_machine.specs.Machine.{Handle, PartShown, Project, State, Step, accept, shown, step_read, view}
+use Rattle.relay_machine.specs.Printed.{read_line}
+use Rattle.store_layers.specs.Layered.{view_of}
+use Rattle.store_read.specs.Reading.{reading_of, slots}
+use Rattle.store_watch.specs.Rows.{look_of}
+use Rattle.store_watch.specs.Watching.{shows}
 
-pub returns-in_default-clause-step : goal.returns-in_default-clause-step
-returns-in_default-clause-step g c =
+pub returns-in_ok-snapshot-in-Shown-clause-step : goal.returns-in_ok-snapshot-in-Shown-clause-step
+returns-in_ok-snapshot-in-Shown-clause-step g c =
     let k : Kept = c.args.self.now in
     let n = c.args.n in
     let target = target_seen c.args.target.now in
-    let name = c.as_str.result.now in
-    let told = c.as_str-in_default.result.now in
-    on_refusal c.refuse.result k n (unknown_handle told) (λ p s. step_event p s n (events.read target)) c.refuse.ensures (λ p s stands.
-    let none : handle_named s.handles target.handle ≡ None =
-    no_handle k p s stands c.self.inside.handles name target.handle (option_map (held_as name) (option_copied c.find.result)) (ap (λ (x : Kept). x.handles) c.self.view_is) c.as_str.ensures c.find.ensures
-    (ap (λ r. option_map (held_as name) (option_copied r)) c.in_default.is) in
-    ap (λ o. read_target p s n target o) none ∙ ap (λ t. refuse s n (unknown_handle t)) (sym c.as_str-in_default.ensures))
+    let what = c.in-Shown.what in
+    let snapshot = c.in_ok-snapshot-in-Shown.snapshot in
+    IfOk-weaker c.show.result (AreLines (read_line n (reading_of snapshot)) false) (λ lines. HasStepped k k lines (λ p s. step_read p s n target))
+    (λ lines are p s stands.
+    let take : Handle → Option PartShown → Step = λ h part. accept (read_line n (shown p (view p s) h part)) s in
+    let made : (h : Handle) × (part : Option PartShown) × (step_read p s n target ≡ take h part) × ShowsPart p (look_of what) h part =
+    subst (Targets k p (step_read p s n target) take) c.in-Shown.is (c.in_ok-what.ensures p s stands take) in
+    let records : g.S.RecordSource.records c.view.result.now ≡ view_of k.layers = c.view.ensures ∙ ap (λ (x : Kept). view_of x.layers) c.self.view_is in
+    let read : reading_of snapshot ≡ shown p (view p s) made.0 made.1 =
+    shown_is k p s stands (look_of what) made.0 made.1 (reading_of snapshot) made.3 (c.in_ok-snapshot-in-Shown.ensures.read ∙ ap (λ m. shows (slots m) (look_of what)) records) in
+    same_step k p (take made.0 made.1) (step_read p s n target) lines made.2
+    (accepting k p s (read_line n (shown p (view p s) made.0 made.1)) lines stands (subst (λ r. AreLines (read_line n r) false lines) read are)))
+    c.show.ensures
 
-pub read_whole-requires-clause-there : goal.read_whole-requires-clause-there
-read_whole-requires-clause-there g c =
-    let name = c.as_str.result.now in
-    subst (λ (x : Kept). is_some (operation_in x.defs x.documents c.in-Some.held.now.operation) ≡ true) c.self.view_is
-    (is_there c.self.inside.project.0 c.self.inside.project.1 c.self.inside.handles name (held_as name c.in-Some.held.now) c.self.invariant
-    (sym c.find.ensures ∙ ap (λ r. option_map (held_as name) (option_copied r)) c.in-Some.is))
-
-pub returns-in-Some-part-clause-step : goal.returns-in-Some-part-clause-step
-returns-in-Some-part-clause-step g c =
+pub returns-in-Refused-clause-step : goal.returns-in-Refused-clause-step
+returns-in-Refused-clause-step g c = λ p s stands.
     let k : Kept = c.args.self.now in
     let n = c.args.n in
-    let target = target_seen c.args.target.now in
-    let name = c.as_str.result.now in
-    let held = c.in-Some.held.now in
-    let part = part_seen c.in-Some-part.part in
-    IfOk-weaker c.read_part.result
-    (λ lines. (p : Project) (s : State) (h : Handle) → StandsFor k p s → KeepsHandle p (held_as target.handle held) h → IsStep p (read_part p s n h (Some part)) lines k)
-    (λ lines. HasStepped k k lines (λ p s. step_event p s n (events.read target)))
-    (λ lines has p s stands.
-    let h : (h : Handle) × (handle_named s.handles target.handle ≡ Some h) × KeepsHandle p (held_as name held) h =
-    the_handle k p s stands c.self.inside.handles name target.handle (option_map (held_as name) (option_copied c.find.result)) (held_as name held) (ap (λ (x : Kept). x.handles) c.self.view_is) c.as_str.ensures c.find.ensures
-    (ap (λ r. option_map (held_as name) (option_copied r)) c.in-Some.is) in
-    same_step k p (read_part p s n h.0 (Some part)) (step_event p s n (events.read target)) lines
-    (ap (λ o. read_target p s n target o) h.1 ∙ ap (λ o. read_part p s n h.0 (option_map part_seen o)) c.in-Some-part.is)
-    (has p s h.0 stands (subst (λ t. KeepsHandle p (held_as t held) h.0) c.as_str.ensures h.2)))
-    c.read_part.ensures.step
-
-pub returns-in-None-clause-step : goal.returns-in-None-clause-step
-returns-in-None-clause-step g c =
-    let k : Kept = c.args.self.now in
-    let n = c.args.n in
-    let target = target_seen c.args.target.now in
-    let name = c.as_str.result.now in
-    let held = c.in-Some.held.now in
-    IfOk-weaker c.read_whole.result
-    (λ lines. (p : Project) (s : State) (h : Handle) → StandsFor k p s → KeepsHandle p (held_as target.handle held) h → IsStep p (read_part p s n h None) lines k)
-    (λ lines. HasStepped k k lines (λ p s. step_event p s n (events.read target)))
-    (λ lines has p s stands.
-    let h : (h : Handle) × (handle_named s.handles target.handle ≡ Some h) × KeepsHandle p (held_as name held) h =
-    the_handle k p s stands c.self.inside.handles name target.handle (option_map (held_as name) (option_copied c.find.result)) (held_as name held) (ap (λ (x : Kept). x.handles) c.self.view_is) c.as_str.ensures c.find.ensures
-    (ap (λ r. option_map (held_as name) (option_copied r)) c.in-Some.is) in
-    same_step k p (read_part p s n h.0 None) (step_event p s n (events.read target)) lines
-    (ap (λ o. read_target p s n target o) h.1 ∙ ap (λ o. read_part p s n h.0 (option_map part_seen o)) c.in-None.is)
-    (has p s h.0 stands (subst (λ t. KeepsHandle p (held_as t held) h.0) c.as_str.ensures h.2)))
-    c.read_whole.ensures.step
+    let take : Handle → Option PartShown → Step = λ h part. accept (read_line n (shown p (view p s) h part)) s in
+    subst (Targets k p (step_read p s n (target_seen c.args.target.now)) take) c.in-Refused.is (c.in_ok-what.ensures p s stands take)

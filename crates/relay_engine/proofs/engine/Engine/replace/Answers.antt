@@ -1,15 +1,31 @@
-use Rattle.std.proofs.Common.{sym, subst}
-use Rattle.relay_engine.proofs.StandingLaws.{stands_finished, with_layers}
-use Rattle.relay_engine.proofs.StepLaws.{accepting}
+use Rattle.std.proofs.Common.{◌≡◌, ◌∷◌, true, codes, refl, ap, sym, subst, ◌∙◌}
+use Rattle.relay_engine.proofs.ChangeLaws.{finished_differ, never_refused, on_change}
+use Rattle.relay_engine.proofs.StandingLaws.{stands_finished}
 use Rattle.relay_engine.proofs.engine.Engine.replace.Goals as goal
 use Rattle.relay_engine.specs.Kept.{Kept}
-use Rattle.relay_engine.specs.Stands.{StandsFor}
 use Rattle.relay_machine.specs.Machine.{confirm, drop_layer}
+use Rattle.relay_machine.specs.Printed.{event_line}
+use Rattle.store_layers.specs.Changed.{AreChanged}
+use Rattle.store_layers.specs.Layered.{Layered, entries_of, finished, is_live, without}
+
+pub finish-requires : goal.finish-requires
+finish-requires g c =
+    record { name = subst (λ (l : Layered). is_live l.live c.args.layer.now ≡ true) (sym (c.in_ok-layers.ensures ∙ ap (λ (x : Kept). x.layers) c.self.view_is)) c.requires.live }
 
 pub returns-clause-step : goal.returns-clause-step
-returns-clause-step g c = λ p s stands.
-    let old : Kept = record { defs = c.self.inside.project.0; documents = c.self.inside.project.1; buffer = c.self.inside.buffer; layers = c.self.inside.layers; handles = c.self.inside.handles } in
-    let here : StandsFor old p s = subst (λ (x : Kept). StandsFor x p s) (sym c.self.view_is) stands in
-    accepting (with_layers old c.finish.new.self) p (confirm c.args.entry (drop_layer c.args.layer.now s)) _ c.in_ok-lines.lines
-    (subst (λ ls. StandsFor (with_layers old ls) p (confirm c.args.entry (drop_layer c.args.layer.now s))) (sym c.in_ok-finish.ensures.ok) (stands_finished old p s here c.args.layer.now c.args.entry))
-    c.in_ok-lines.ensures
+returns-clause-step g c =
+    let k : Kept = c.args.self.now in
+    let e = c.args.entry in
+    let name = c.args.layer.now in
+    let ids = c.in_ok-touched.touched in
+    let same : c.in_ok-layers.layers ≡ k.layers = c.in_ok-layers.ensures ∙ ap (λ (x : Kept). x.layers) c.self.view_is in
+    let made : c.finish.new.self ≡ finished name e k.layers = c.in_ok-touched.ensures.ok ∙ ap (finished name e) same in
+    on_change c.change.result k c.change.new.self c.finish.new.self (finished name e k.layers) ids c.in_ok-answer.answer c.args.n (event_line (codes "finish") c.args.n)
+    (λ s. confirm e (drop_layer name s))
+    c.change.ensures.step made c.in_ok-answer.ensures
+    (finished_differ k.layers ids name e (subst (λ (l : Layered). AreChanged l.base (entries_of l.live) (e ∷ entries_of (without name l.live)) ids) same c.in_ok-touched.ensures.changed))
+    (λ s. refl) (λ p s stands. stands_finished k p s stands name e)
+
+pub returns-clause-refused : goal.returns-clause-refused
+returns-clause-refused g c =
+    never_refused c.change.result (c.change.new.self ≡ c.args.self.now) c.in_ok-answer.answer (event_line (codes "finish") c.args.n) c.change.ensures.refused c.in_ok-answer.ensures

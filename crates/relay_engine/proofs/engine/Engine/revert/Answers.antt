@@ -1,15 +1,17 @@
-use Rattle.std.proofs.Common.{◌≡◌, ◌+◌, ◌≤◌, true, false, not, length, ap, sym, subst, ◌∙◌, arith}
+use Rattle.std.proofs.Common.{◌≡◌, true, false, not, length, refl, ap, sym, subst, ◌∙◌, arith}
+use Rattle.relay_engine.proofs.ChangeLaws.{never_refused, on_change, reverted_differ}
 use Rattle.relay_engine.proofs.LayerLaws.{fewer_above}
-use Rattle.relay_engine.proofs.StandingLaws.{stands_reverted, whether_layer, with_layers}
-use Rattle.relay_engine.proofs.StepLaws.{accepting, on_refusal, same_step, unless-false, unless-true}
+use Rattle.relay_engine.proofs.StandingLaws.{stands_reverted, whether_layer}
+use Rattle.relay_engine.proofs.StepLaws.{on_refusal, on_step, unless-false, unless-true}
 use Rattle.relay_engine.proofs.engine.Engine.revert.Goals as goal
 use Rattle.relay_engine.specs.Kept.{Kept}
-use Rattle.relay_engine.specs.Stands.{StandsFor}
-use Rattle.relay_machine.specs.Machine.{accept, drop_layer, is_layer, refuse, step_revert}
+use Rattle.relay_machine.specs.Machine.{accept, drop_layer, is_layer, noticed, refuse, step_revert}
 use Rattle.relay_machine.specs.Printed.{event_line}
 use Rattle.relay_machine.specs.Refusals.{unknown_layer}
 use Rattle.std.specs.Prelude.{codes}
-use Rattle.store_layers.specs.Layered.{above}
+use Rattle.store_layers.specs.Changed.{AreChanged}
+use Rattle.store_layers.specs.Layered.{Layered, above, below, entries_of, from_on, is_live, reverted}
+use Rattle.store_model.specs.Entries.{fold_entries}
 
 pub returns-then-not-is_live-clause-step : goal.returns-then-not-is_live-clause-step
 returns-then-not-is_live-clause-step g c =
@@ -17,33 +19,47 @@ returns-then-not-is_live-clause-step g c =
     let n = c.args.n in
     let name = c.args.layer.now in
     let told = c.as_str-then-not-is_live.result.now in
-    on_refusal c.refuse.result k n (unknown_layer told) (λ p s. step_revert s n name) c.refuse.ensures (λ p s stands.
+    on_refusal c.refuse.result k n (unknown_layer told) (λ p s. noticed p n (length s.watches) (step_revert s n name)) c.refuse.ensures (λ p s stands.
     let live : is_layer s.layers name ≡ false = whether_layer k p s stands c.self.inside.layers.live c.as_str.result.now name c.is_live.result (ap (λ (x : Kept). x.layers.live) c.self.view_is) c.as_str.ensures c.is_live.ensures ∙ c.if-not-is_live.true in
-    unless-true s n (not (is_layer s.layers name)) (unknown_layer name) _ (ap not live) ∙ ap (λ t. refuse s n (unknown_layer t)) (sym c.as_str-then-not-is_live.ensures))
+    ap (noticed p n (length s.watches))
+    (unless-true s n (not (is_layer s.layers name)) (unknown_layer name) _ (ap not live) ∙ ap (λ t. refuse s n (unknown_layer t)) (sym c.as_str-then-not-is_live.ensures)))
+
+pub revert-requires : goal.revert-requires
+revert-requires g c =
+    let live : is_live c.self.inside.layers.live c.args.layer.now ≡ true = sym (c.is_live.ensures ∙ ap (is_live c.self.inside.layers.live) c.as_str.ensures) ∙ c.if-not-is_live.false in
+    subst (λ (l : Layered). is_live l.live c.args.layer.now ≡ true) (sym c.in_ok-layers.ensures) live
 
 pub returns-clause-step : goal.returns-clause-step
-returns-clause-step g c = λ p s stands.
+returns-clause-step g c =
     let k : Kept = c.args.self.now in
     let n = c.args.n in
     let name = c.args.layer.now in
-    let old : Kept = record { defs = c.self.inside.project.0; documents = c.self.inside.project.1; buffer = c.self.inside.buffer; layers = c.self.inside.layers; handles = c.self.inside.handles } in
-    let here : StandsFor old p s = subst (λ (x : Kept). StandsFor x p s) (sym c.self.view_is) stands in
-    let live : is_layer s.layers name ≡ true = whether_layer k p s stands c.self.inside.layers.live c.as_str.result.now name c.is_live.result (ap (λ (x : Kept). x.layers.live) c.self.view_is) c.as_str.ensures c.is_live.ensures ∙ c.if-not-is_live.false in
+    let ids = c.in_ok-touched.touched in
     let line = event_line (codes "revert") n in
-    same_step (with_layers old c.revert.new.self) p (accept line (drop_layer name s)) (step_revert s n name) c.in_ok-lines.lines
-    (unless-false s n (not (is_layer s.layers name)) (unknown_layer name) (accept line (drop_layer name s)) (ap not live))
-    (accepting (with_layers old c.revert.new.self) p (drop_layer name s) line c.in_ok-lines.lines
-    (subst (λ ls. StandsFor (with_layers old ls) p (drop_layer name s)) (sym c.in_ok-revert.ensures.ok) (stands_reverted old p s here name))
-    c.in_ok-lines.ensures)
+    let same : c.in_ok-layers.layers ≡ k.layers = c.in_ok-layers.ensures ∙ ap (λ (x : Kept). x.layers) c.self.view_is in
+    let made : c.revert.new.self ≡ reverted name k.layers = c.in_ok-touched.ensures.ok ∙ ap (reverted name) same in
+    on_step c.change.result k c.change.new.self (λ p s. noticed p n (length s.watches) (accept line (drop_layer name s))) (λ p s. noticed p n (length s.watches) (step_revert s n name))
+    (on_change c.change.result k c.change.new.self c.revert.new.self (reverted name k.layers) ids c.in_ok-answer.answer n line (drop_layer name)
+    c.change.ensures.step made c.in_ok-answer.ensures
+    (reverted_differ k.layers ids name
+    (subst (λ (l : Layered). AreChanged (fold_entries (entries_of (below name l.live)) l.base) (entries_of (from_on name l.live)) (entries_of (above name l.live)) ids) same c.in_ok-touched.ensures.changed))
+    (λ s. refl) (λ p s stands. stands_reverted k p s stands name))
+    (λ p s stands.
+    let live : is_layer s.layers name ≡ true = whether_layer k p s stands c.self.inside.layers.live c.as_str.result.now name c.is_live.result (ap (λ (x : Kept). x.layers.live) c.self.view_is) c.as_str.ensures c.is_live.ensures ∙ c.if-not-is_live.false in
+    ap (noticed p n (length s.watches)) (unless-false s n (not (is_layer s.layers name)) (unknown_layer name) (accept line (drop_layer name s)) (ap not live)))
 
-pub returns-in_err-revert-clause-applies : goal.returns-in_err-revert-clause-applies
-returns-in_err-revert-clause-applies g c =
-    let fewer = fewer_above c.args.layer.now c.self.inside.layers.live in
-    subst (λ (x : Kept). g.S.Count.Steps.applies c.revert.new.steps ≤ g.S.Count.Steps.applies c.args.steps.now + (length x.layers.live + 1)) c.self.view_is
-    (omega (arith, fewer, c.revert.ensures.applies))
+pub returns-clause-refused : goal.returns-clause-refused
+returns-clause-refused g c =
+    never_refused c.change.result (c.change.new.self ≡ c.args.self.now) c.in_ok-answer.answer (event_line (codes "revert") c.args.n) c.change.ensures.refused c.in_ok-answer.ensures
+
+pub returns-in_err-touched-clause-applies : goal.returns-in_err-touched-clause-applies
+returns-in_err-touched-clause-applies g c =
+    let same : length c.in_ok-layers.layers.live ≡ length c.args.self.now.layers.live = ap (λ (l : Layered). length l.live) (c.in_ok-layers.ensures ∙ ap (λ (x : Kept). x.layers) c.self.view_is) in
+    let fewer = fewer_above c.args.layer.now c.in_ok-layers.layers.live in
+    omega (arith, fewer, same, c.revert.ensures.applies)
 
 pub returns-clause-applies : goal.returns-clause-applies
 returns-clause-applies g c =
-    let fewer = fewer_above c.args.layer.now c.self.inside.layers.live in
-    subst (λ (x : Kept). g.S.Count.Steps.applies c.revert.new.steps ≤ g.S.Count.Steps.applies c.args.steps.now + (length x.layers.live + 1)) c.self.view_is
-    (omega (arith, fewer, c.revert.ensures.applies))
+    let same : length c.in_ok-layers.layers.live ≡ length c.args.self.now.layers.live = ap (λ (l : Layered). length l.live) (c.in_ok-layers.ensures ∙ ap (λ (x : Kept). x.layers) c.self.view_is) in
+    let fewer = fewer_above c.args.layer.now c.in_ok-layers.layers.live in
+    omega (arith, fewer, same, c.revert.ensures.applies, c.change.ensures.applies)

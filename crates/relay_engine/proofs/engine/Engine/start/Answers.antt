@@ -1,16 +1,30 @@
-use Rattle.std.proofs.Common.{sym, subst, ◌≡◌, false}
-use Rattle.relay_engine.proofs.StandingLaws.{stands_begun, with_layers}
-use Rattle.relay_engine.proofs.StepLaws.{accepting}
+use Rattle.std.proofs.Common.{◌≡◌, false, codes, [], ◌∷◌, refl, ap, sym, subst, ◌∙◌}
+use Rattle.relay_engine.proofs.ChangeLaws.{begun_differ, never_refused, on_change}
+use Rattle.relay_engine.proofs.StandingLaws.{stands_begun}
 use Rattle.relay_engine.proofs.engine.Engine.start.Goals as goal
 use Rattle.relay_engine.specs.Kept.{Kept}
-use Rattle.relay_engine.specs.Stands.{StandsFor}
 use Rattle.relay_machine.specs.Machine.{with_layer}
-use Rattle.store_layers.specs.Layered.{is_live}
+use Rattle.relay_machine.specs.Printed.{event_line}
+use Rattle.store_layers.specs.Changed.{AreChanged}
+use Rattle.store_layers.specs.Layered.{Layered, begun, is_live, view_of}
+
+pub begin-requires : goal.begin-requires
+begin-requires g c =
+    record { name = subst (λ (l : Layered). is_live l.live c.args.layer ≡ false) (sym (c.in_ok-layers.ensures ∙ ap (λ (x : Kept). x.layers) c.self.view_is)) c.requires.free }
 
 pub returns-clause-step : goal.returns-clause-step
-returns-clause-step g c = λ p s stands.
-    let old : Kept = record { defs = c.self.inside.project.0; documents = c.self.inside.project.1; buffer = c.self.inside.buffer; layers = c.self.inside.layers; handles = c.self.inside.handles } in
-    let here : StandsFor old p s = subst (λ (x : Kept). StandsFor x p s) (sym c.self.view_is) stands in
-    accepting (with_layers old c.begin.new.self) p (with_layer c.args.layer c.args.entry s) _ c.in_ok-lines.lines
-    (subst (λ ls. StandsFor (with_layers old ls) p (with_layer c.args.layer c.args.entry s)) (sym c.in_ok-begin.ensures.ok) (stands_begun old p s here c.args.layer c.args.entry (subst (λ (x : Kept). is_live x.layers.live c.args.layer ≡ false) (sym c.self.view_is) c.requires.free)))
-    c.in_ok-lines.ensures
+returns-clause-step g c =
+    let k : Kept = c.args.self.now in
+    let e = c.args.entry in
+    let name = c.args.layer in
+    let ids = c.in_ok-touched.touched in
+    let same : c.in_ok-layers.layers ≡ k.layers = c.in_ok-layers.ensures ∙ ap (λ (x : Kept). x.layers) c.self.view_is in
+    let made : c.begin.new.self ≡ begun name e k.layers = c.in_ok-touched.ensures.ok ∙ ap (begun name e) same in
+    on_change c.change.result k c.change.new.self c.begin.new.self (begun name e k.layers) ids c.in_ok-answer.answer c.args.n (event_line (codes "begin") c.args.n) (with_layer name e)
+    c.change.ensures.step made c.in_ok-answer.ensures
+    (begun_differ k.layers ids name e (subst (λ (l : Layered). AreChanged (view_of l) [] (e ∷ []) ids) same c.in_ok-touched.ensures.changed))
+    (λ s. refl) (λ p s stands. stands_begun k p s stands name e c.requires.free)
+
+pub returns-clause-refused : goal.returns-clause-refused
+returns-clause-refused g c =
+    never_refused c.change.result (c.change.new.self ≡ c.args.self.now) c.in_ok-answer.answer (event_line (codes "begin") c.args.n) c.change.ensures.refused c.in_ok-answer.ensures

@@ -1,10 +1,11 @@
-use Rattle.std.proofs.Common.{◌≡◌, true, None, Some, Option, is_some, option_map, option_copied, ap, sym, subst, ◌∙◌}
+use Rattle.std.proofs.Common.{◌≡◌, true, None, Some, Option, is_some, map, option_map, option_copied, ap, sym, subst, ◌∙◌}
 use Rattle.std.proofs.lemmas.Result.{IfOk-weaker}
 use Rattle.event_script.specs.Seen.{answer_seen}
 use Rattle.plan_project.specs.Lookups.{operation_in}
-use Rattle.relay_engine.proofs.HandleLaws.{is_there}
-use Rattle.relay_engine.proofs.StandingLaws.{no_handle, renamed, the_handle}
+use Rattle.relay_engine.proofs.KeepingLaws.{no_handle, the_handle}
+use Rattle.relay_engine.proofs.PlanLaws.{is_there}
 use Rattle.relay_engine.proofs.StepLaws.{refusing, same_step}
+use Rattle.relay_engine.proofs.TakingLaws.{renamed}
 use Rattle.relay_engine.proofs.engine.Engine.take_answer.Goals as goal
 use Rattle.relay_engine.specs.Answered.{Gives, Precedes}
 use Rattle.relay_engine.specs.Handles.{held_as}
@@ -14,6 +15,7 @@ use Rattle.relay_machine.specs.Machine.{Handle, Project, State, Step, answer_to,
 use Rattle.relay_machine.specs.Refusals.{layers, too_many, unknown_handle}
 use Rattle.serde_json.specs.View.{view}
 use Rattle.store_model.specs.declared.entry.Entry.{Entry}
+use Rattle.store_retain.specs.Kept.{held_under}
 
 pub returns-in_default : goal.returns-in_default
 returns-in_default g c = λ p s stands take.
@@ -22,8 +24,7 @@ returns-in_default g c = λ p s stands take.
     let name = c.as_str-handle.result.now in
     let called = c.args.answer.now.handle in
     let none : handle_named s.handles called ≡ None =
-    no_handle k p s stands c.self.inside.handles name called (option_map (held_as name) (option_copied c.find.result)) (ap (λ (x : Kept). x.handles) c.self.view_is) c.as_str-handle.ensures c.find.ensures
-    (ap (λ r. option_map (held_as name) (option_copied r)) c.in_default.is) in
+    no_handle k p s stands c.self.inside.retained.live name called (option_copied c.held.result) (ap (λ (x : Kept). x.handles) c.self.view_is) c.as_str-handle.ensures c.held.ensures (ap option_copied c.in_default.is) in
     same_step k p (refuse s n (unknown_handle name)) _ c.in_ok-lines.lines
     (ap (λ o. answer_to p s n o (answer_seen c.args.answer.now) c.args.commands (λ step. unless s n c.args.is_full (too_many layers) step) take) none
     ∙ ap (λ t. refuse s n (unknown_handle t)) (sym c.as_str-handle.ensures))
@@ -31,21 +32,21 @@ returns-in_default g c = λ p s stands take.
 
 pub take_response-requires-clause-there : goal.take_response-requires-clause-there
 take_response-requires-clause-there g c =
-    let name = c.as_str-handle.result.now in
-    subst (λ (x : Kept). is_some (operation_in x.defs x.documents c.in-Some.held.now.operation) ≡ true) c.self.view_is
-    (is_there c.self.inside.project.0 c.self.inside.project.1 c.self.inside.handles name (held_as name c.in-Some.held.now) c.self.invariant
-    (sym c.find.ensures ∙ ap (λ r. option_map (held_as name) (option_copied r)) c.in-Some.is))
+    let held = c.in-Some.held.now in
+    subst (λ (x : Kept). is_some (operation_in x.defs x.documents held.name) ≡ true) c.self.view_is
+    (is_there c.self.inside.project.0 c.self.inside.project.1 c.self.inside.retained c.as_str-handle.result.now held c.self.invariant (sym c.held.ensures ∙ ap option_copied c.in-Some.is)).there
 
 pub returns-in-Some-2 : goal.returns-in-Some-2
 returns-in-Some-2 g c = λ p s stands take.
     let k : Kept = c.args.self.now in
     let n = c.args.n in
     let cs = c.args.commands in
+    let held = c.in-Some.held.now in
     let name = c.as_str-handle.result.now in
     let called = c.args.answer.now.handle in
-    let h : (h : Handle) × (handle_named s.handles called ≡ Some h) × KeepsHandle p (held_as name c.in-Some.held.now) h =
-    the_handle k p s stands c.self.inside.handles name called (option_map (held_as name) (option_copied c.find.result)) (held_as name c.in-Some.held.now) (ap (λ (x : Kept). x.handles) c.self.view_is) c.as_str-handle.ensures c.find.ensures
-    (ap (λ r. option_map (held_as name) (option_copied r)) c.in-Some.is) in
+    let h : (h : Handle) × (handle_named s.handles called ≡ Some h) × KeepsHandle p (held_as called held) h =
+    the_handle k p s stands c.self.inside.retained.live name called (option_copied c.held.result) held (ap (λ (x : Kept). x.handles) c.self.view_is) c.as_str-handle.ensures c.held.ensures
+    (ap option_copied c.in-Some.is) in
     let next : Step = of_verdict s n (said_to p h.0 (view c.args.answer.now.response)) cs take in
     let whole : Step = unless s n c.args.is_full (too_many layers) (unless_unknown s n (first_refused p.defs cs) next) in
     same_step k p whole _ c.in-Some-2.lines
@@ -66,13 +67,13 @@ returns-in-None g c =
     (λ taken. (p : Project) (s : State) → StandsFor k p s → (take : Entry → Step)
     → Gives k p (answer_to p s n (handle_named s.handles called) (answer_seen c.args.answer.now) cs (λ step. unless s n c.args.is_full (too_many layers) step) take) take taken)
     (λ taken has p s stands take.
-    let h : (h : Handle) × (handle_named s.handles called ≡ Some h) × KeepsHandle p (held_as name held) h =
-    the_handle k p s stands c.self.inside.handles name called (option_map (held_as name) (option_copied c.find.result)) (held_as name held) (ap (λ (x : Kept). x.handles) c.self.view_is) c.as_str-handle.ensures c.find.ensures
-    (ap (λ r. option_map (held_as name) (option_copied r)) c.in-Some.is) in
+    let h : (h : Handle) × (handle_named s.handles called ≡ Some h) × KeepsHandle p (held_as called held) h =
+    the_handle k p s stands c.self.inside.retained.live name called (option_copied c.held.result) held (ap (λ (x : Kept). x.handles) c.self.view_is) c.as_str-handle.ensures c.held.ensures
+    (ap option_copied c.in-Some.is) in
     let next : Step = of_verdict s n (said_to p h.0 (view c.args.answer.now.response)) cs take in
     let whole : Step = unless s n c.args.is_full (too_many layers) (unless_unknown s n (first_refused p.defs cs) next) in
     let after : whole ≡ next = subst (Precedes k p whole next) c.in-None.is (c.in_ok-lines-2.ensures p s stands next) in
     subst (λ t. Gives k p t take taken)
     (sym (ap (λ o. answer_to p s n o (answer_seen c.args.answer.now) cs (λ step. unless s n c.args.is_full (too_many layers) step) take) h.1 ∙ after))
-    (has p s h.0 stands (renamed p name held h.0 h.2) take))
+    (has p s h.0 stands (renamed p called held h.0 h.2) take))
     c.take_response.ensures

@@ -1,0 +1,107 @@
+-- A sweep of the base is the machine's.
+use Rattle.std.proofs.Common.{◌≡◌, ℕ, Bool, true, false, true≢false, cond, not, ◌&&◌, List, [], ◌∷◌, ◌++◌, length, map, bytes_eq, Option, Some, None, is_some, refl, sym, ap, subst, ◌∙◌, arith}
+use Rattle.std.proofs.lemmas.Map.Text.{is_eq-slice_cmp}
+use Rattle.std.proofs.lemmas.Map.Views.{any-filter_same}
+use Rattle.std.proofs.lemmas.Slice.Eq.{bytes_eq-Decides}
+use Rattle.std.specs.Cmp.Lexicographic.{slice_cmp}
+use Rattle.std.specs.FinMap.{IsAntisymmetric, keys, contains_key-keys, get-retain_keys, slice_cmp-IsAntisymmetric, nat_cmp-IsAntisymmetric}
+use Rattle.std.specs.List.{list_any}
+use Rattle.std.specs.Ordering.{eq_by_cmp, nat_cmp}
+use Rattle.gql_plain.specs.Order.{has_text}
+use Rattle.relay_engine.proofs.Names.{bytes_eq-sym}
+use Rattle.relay_engine.proofs.ReachLaws.{kept_is}
+use Rattle.relay_engine.proofs.StandingLaws.{confirmed_after}
+use Rattle.relay_engine.specs.Answered.{AreLines}
+use Rattle.relay_engine.specs.Handles.{handle_kept, operation_kept}
+use Rattle.relay_engine.specs.Kept as engine
+use Rattle.relay_engine.specs.Notices.{HasAnswered}
+use Rattle.relay_engine.specs.Operations.{HoldPlans}
+use Rattle.relay_engine.specs.Stands.{KeepsHandles, KeepsReleased, StandsFor}
+use Rattle.relay_engine.specs.declared.lines.Lines.{Lines}
+use Rattle.relay_machine.specs.Machine.{Project, State, base, is_reached, last_of, retained, sweep_base}
+use Rattle.relay_machine.specs.Printed.{collect_line}
+use Rattle.store_layers.specs.Layered.{Layer, Layered, entries_of, swept, view_of}
+use Rattle.store_model.specs.Entries.{fold_entries}
+use Rattle.store_model.specs.Records.{Records, no_records, slot_at}
+use Rattle.store_model.specs.Sweeps.{dropped, sweep}
+use Rattle.store_read.specs.Reading.{slots}
+use Rattle.store_record.specs.Keys.{Text}
+use Rattle.store_record.specs.declared.record.Slot.{Slot}
+use Rattle.store_retain.specs.Kept.{Kept, all_held, is_kept}
+use Rattle.store_retain.specs.Steps.{slots_of}
+use Rattle.store_watch.specs.Watching.{DifferAt}
+
+-- ---- slots
+
+tied : (id q : Text) → eq_by_cmp (slice_cmp nat_cmp) q id ≡ bytes_eq id q
+tied id q = is_eq-slice_cmp q id ∙ bytes_eq-sym q id
+
+slot_at-sweep : (keep : Text → Bool) (m : Records) (id : Text) → slot_at id (sweep keep m) ≡ cond (keep id) (slot_at id m) None
+slot_at-sweep keep m id = get-retain_keys m keep id (λ x e. ap keep (sym (slice_cmp-IsAntisymmetric nat_cmp-IsAntisymmetric id x e)))
+
+has_text-dropped : (keep : Text → Bool) (m : Records) (id : Text) → has_text (dropped keep m) id ≡ (not (keep id) && is_some (slot_at id m))
+has_text-dropped keep m id =
+    any-filter_same (λ one. bytes_eq one id) (λ one. not (keep one)) (not (keep id)) (λ one e. ap (λ t. not (keep t)) ((bytes_eq-Decides one id).0 e)) (keys m)
+    ∙ ap (λ b. not (keep id) && b) (ap (λ test. list_any test (keys m)) (λ i one. sym (tied one id) i) ∙ sym (contains_key-keys m id))
+
+kept_or_absent : (b : Bool) (s : Option Slot) → (not b && is_some s) ≡ false → s ≡ cond b s None
+kept_or_absent true s h = refl
+kept_or_absent false None h = refl
+kept_or_absent false (Some s) h = absurd (true≢false h)
+
+-- the slots differ at the ids that go, and nowhere else
+pub differ_swept : (keep : Text → Bool) (m : Records) → DifferAt (dropped keep m) (slots m) (slots (sweep keep m))
+differ_swept keep m = λ id h. kept_or_absent (keep id) (slot_at id m) (sym (has_text-dropped keep m id) ∙ h) ∙ sym (slot_at-sweep keep m id)
+
+-- ---- where no layer is live
+
+pub none_of : {X : Type 0} (xs : List X) → length xs ≡ 0 → xs ≡ []
+none_of [] e = refl
+none_of (x ∷ xs) e = absurd (omega arith)
+
+module _ (k : engine.Kept) (p : Project) (s : State) (stands : StandsFor k p s) (alone : k.layers.live ≡ [])
+    (r : Kept) (live : map handle_kept r.live ≡ k.handles) (gone : map operation_kept r.released ≡ k.released) (buffer : r.buffer ≡ k.buffer) (plans : HoldPlans k.defs k.documents (all_held r))
+    (keep : List Text) (keeps : (j : Text) → has_text keep j ≡ is_kept (slots_of k.layers.base) (all_held r) j) where
+  -- the marked ids are those that are reached
+  keeps_reached : (j : Text) → has_text keep j ≡ is_reached p (retained k.buffer s) (base p s) j
+  keeps_reached j =
+      keeps j ∙ ap (λ m. is_kept (slots_of m) (all_held r) j) stands.base
+      ∙ kept_is p (base p s) j r s (subst (λ ds. HoldPlans ds p.documents (all_held r)) stands.schema (subst (λ ps. HoldPlans k.defs ps (all_held r)) stands.documents plans))
+      (subst (λ hs. KeepsHandles p hs s.handles) (sym live) stands.handles)
+      (subst (λ b. KeepsReleased p (map operation_kept r.released) (last_of b s.released)) (sym buffer) (subst (λ rs. KeepsReleased p rs (last_of k.buffer s.released)) (sym gone) stands.released))
+      ∙ ap (λ b. is_reached p (retained b s) (base p s) j) buffer
+
+  swept_is : sweep (has_text keep) k.layers.base ≡ sweep (is_reached p (retained k.buffer s) (base p s)) (base p s)
+  swept_is = λ i. sweep (λ j. keeps_reached j i) (stands.base i)
+
+  dropped_is : dropped (has_text keep) k.layers.base ≡ dropped (is_reached p (retained k.buffer s) (base p s)) (base p s)
+  dropped_is = λ i. dropped (λ j. keeps_reached j i) (stands.base i)
+
+  -- the answer is given, and what is swept stands for the state after it
+  pub has_swept : (n : ℕ) (ids : List Text) (ls : Layered) (answer : Lines) → ls ≡ swept keep k.layers → ids ≡ dropped (has_text keep) k.layers.base
+      → AreLines (collect_line n (length ids) false) false answer → HasAnswered k ls p s (sweep_base p k.buffer s n) answer
+  has_swept n ids ls answer made is are = record {
+    answer = subst (λ xs. AreLines (collect_line n (length xs) false) false answer) (is ∙ dropped_is) are;
+    accepted = refl;
+    watches = refl;
+    stands = record {
+      schema = stands.schema;
+      documents = stands.documents;
+      base = ap (λ (x : Layered). x.base) made ∙ swept_is ∙ sym (confirmed_after p s.entries _ no_records);
+      layers = ap (λ (x : Layered). x.live) made ∙ stands.layers;
+      apart = stands.apart;
+      handles = stands.handles;
+      released = stands.released;
+      watches = stands.watches;
+    };
+  }
+
+  view_base : view_of k.layers ≡ k.layers.base
+  view_base = ap (λ (xs : List Layer). fold_entries (entries_of xs) k.layers.base) alone
+
+  pub has_differed : (ids : List Text) (ls : Layered) → ls ≡ swept keep k.layers → ids ≡ dropped (has_text keep) k.layers.base → DifferAt ids (slots (view_of k.layers)) (slots (view_of ls))
+  has_differed ids ls made is =
+      let after : view_of ls ≡ sweep (has_text keep) k.layers.base = ap view_of made ∙ ap (λ (xs : List Layer). fold_entries (entries_of xs) (sweep (has_text keep) k.layers.base)) alone in
+      subst (λ xs. DifferAt xs (slots (view_of k.layers)) (slots (view_of ls))) (sym is)
+      (subst (λ m. DifferAt (dropped (has_text keep) k.layers.base) (slots m) (slots (view_of ls))) (sym view_base)
+      (subst (λ m. DifferAt (dropped (has_text keep) k.layers.base) (slots k.layers.base) (slots m)) (sym after) (differ_swept (has_text keep) k.layers.base)))

@@ -1,0 +1,42 @@
+use Rattle.std.proofs.Common.{◌<◌, length, map, List, ap, sym, subst, ◌∙◌}
+use Rattle.std.specs.List.{AllByRecursion}
+use Rattle.relay_engine.proofs.ChangeLaws.{Notified, step_noticed, with_changes}
+use Rattle.relay_engine.proofs.engine.Engine.change.Goals as goal
+use Rattle.relay_engine.specs.Handles.{handle_kept, operation_kept}
+use Rattle.relay_engine.specs.Kept.{Kept}
+use Rattle.relay_engine.specs.Notices.{HasAnswered}
+use Rattle.relay_engine.specs.Stands.{StandsFor}
+use Rattle.relay_engine.specs.Steps.{IsStep}
+use Rattle.relay_machine.specs.Machine.{noticed}
+use Rattle.store_layers.specs.Layered.{view_of}
+use Rattle.store_model.specs.Records.{Records}
+use Rattle.store_read.specs.Reading.{slots}
+use Rattle.store_watch.specs.Watching.{DifferAt, Telling, Watch}
+
+pub with_notices-requires-clause-within : goal.with_notices-requires-clause-within
+with_notices-requires-clause-within g c =
+    subst (λ (ts : List Telling). AllByRecursion (λ (t : Telling). t.place < length c.self.inside.watches) ts) (sym c.in_ok-notices.ensures.notices) c.notify.ensures.within
+
+pub returns-clause-step : goal.returns-clause-step
+returns-clause-step g c = λ p s step stands differ has.
+    let inside = c.self.inside in
+    let ls = c.args.layers in
+    let ids = c.args.touched.now in
+    let told = c.in_ok-notices.notices in
+    let old : Kept = record {
+      defs = inside.project.0;
+      documents = inside.project.1;
+      buffer = inside.retained.buffer;
+      layers = inside.layers;
+      handles = map handle_kept inside.retained.live;
+      released = map operation_kept inside.retained.released;
+      watches = inside.watches;
+    } in
+    let notified : Notified old (slots (view_of ls)) ids told =
+    subst (λ (m : Records). Notified old (slots m) ids told) c.view.ensures
+    (record { found = c.in_ok-notices.ensures.notices; others = c.notify.ensures.others; current = c.notify.ensures.current }) in
+    let here : StandsFor old p s = subst (λ (x : Kept). StandsFor x p s) (sym c.self.view_is) stands in
+    let apart : DifferAt ids (slots (view_of old.layers)) (slots (view_of ls)) = subst (λ (x : Kept). DifferAt ids (slots (view_of x.layers)) (slots (view_of ls))) (sym c.self.view_is) differ in
+    let answered : HasAnswered old ls p s step c.args.answer = subst (λ (x : Kept). HasAnswered x ls p s step c.args.answer) (sym c.self.view_is) has in
+    subst (λ (ws : List Watch). IsStep p (noticed p c.args.n (length s.watches) step) c.in_ok-lines.lines (with_changes old ls ws)) (sym c.accept.ensures)
+    (step_noticed old ls ids told c.args.answer c.in_ok-lines.lines c.args.n notified c.in_ok-lines.ensures.text c.in_ok-lines.ensures.refused p s step here apart answered)

@@ -1,0 +1,77 @@
+use Rattle.std.proofs.Common.{◌≡◌, ◌==◌, Bool, true, false, Option, length, ap, sym, subst, ◌∙◌}
+use Rattle.std.proofs.lemmas.Result.{IfOk-weaker}
+use Rattle.event_script.specs.Seen.{target_seen}
+use Rattle.relay_engine.proofs.KeepingLaws.{watches_count, whether_watch}
+use Rattle.relay_engine.proofs.StepLaws.{on_refusal, same_step, unless-false, unless-true}
+use Rattle.relay_engine.proofs.engine.Engine.watch.Goals as goal
+use Rattle.relay_engine.specs.Kept.{Kept}
+use Rattle.relay_engine.specs.Stands.{ShowsPart, StandsFor}
+use Rattle.relay_engine.specs.Steps.{HasStepped, IsStep}
+use Rattle.relay_engine.specs.Targets.{Targets}
+use Rattle.relay_engine.specs.declared.targets.Targeted.TheVariants as T
+use Rattle.relay_machine.specs.Machine.{Handle, PartShown, Project, State, Step, handle_named, is_watch, of_target, refuse, start_watch, step_watch, unless}
+use Rattle.relay_machine.specs.Refusals.{most, too_many, watch_taken, watches}
+use Rattle.store_watch.specs.Rows.{look_of}
+use Rattle.store_watch.specs.Watching.{is_live}
+
+pub returns-then-is_live-clause-step : goal.returns-then-is_live-clause-step
+returns-then-is_live-clause-step g c =
+    let k : Kept = c.args.self.now in
+    let n = c.args.n in
+    let name = c.args.watch in
+    let told = c.as_str-then-is_live.result.now in
+    let target = target_seen c.args.target.now in
+    on_refusal c.refuse.result k n (watch_taken told) (λ p s. step_watch p s n name target) c.refuse.ensures (λ p s stands.
+    let live : is_watch s.watches name ≡ true =
+    whether_watch k p s stands c.self.inside.watches c.as_str.result.now name c.is_live.result (ap (λ (x : Kept). x.watches) c.self.view_is) c.as_str.ensures c.is_live.ensures ∙ c.if-is_live.true in
+    unless-true s n (is_watch s.watches name) (watch_taken name)
+    (of_target p s n target (handle_named s.handles target.handle) (unless s n (length s.watches == most watches) (too_many watches)) (start_watch p s n name)) live
+    ∙ ap (λ t. refuse s n (watch_taken t)) (sym c.as_str-then-is_live.ensures))
+
+pub start_watch-requires-clause-free : goal.start_watch-requires-clause-free
+start_watch-requires-clause-free g c =
+    sym (λ i. is_live (c.self.view_is i).watches (c.as_str.ensures i)) ∙ sym c.is_live.ensures ∙ c.if-is_live.false
+
+pub returns-in-Shown-clause-step : goal.returns-in-Shown-clause-step
+returns-in-Shown-clause-step g c =
+    let k : Kept = c.args.self.now in
+    let new : Kept = c.start_watch.new.self in
+    let n = c.args.n in
+    let name = c.args.watch in
+    let target = target_seen c.args.target.now in
+    let full : Bool = c.count-is_full.result == most watches in
+    let what = c.in-Shown.what in
+    IfOk-weaker c.start_watch.result
+    (λ lines. (p : Project) (s : State) (h : Handle) (part : Option PartShown) → StandsFor k p s → ShowsPart p (look_of what) h part → IsStep p (start_watch p s n name h part) lines new)
+    (λ lines. HasStepped k new lines (λ p s. step_watch p s n name target))
+    (λ lines has p s stands.
+    let live : is_watch s.watches name ≡ false =
+    whether_watch k p s stands c.self.inside.watches c.as_str.result.now name c.is_live.result (ap (λ (x : Kept). x.watches) c.self.view_is) c.as_str.ensures c.is_live.ensures ∙ c.if-is_live.false in
+    let count : length s.watches ≡ c.count-is_full.result = watches_count k p s stands c.self.inside.watches c.count-is_full.result (ap (λ (x : Kept). x.watches) c.self.view_is) c.count-is_full.ensures in
+    let whole : Step = of_target p s n target (handle_named s.handles target.handle) (λ step. unless s n full (too_many watches) step) (start_watch p s n name) in
+    let made : (h : Handle) × (part : Option PartShown) × (whole ≡ start_watch p s n name h part) × ShowsPart p (look_of what) h part =
+    subst (Targets k p whole (start_watch p s n name)) c.in-Shown.is (c.in_ok-what.ensures p s stands (start_watch p s n name)) in
+    same_step new p (start_watch p s n name made.0 made.1) (step_watch p s n name target) lines
+    (unless-false s n (is_watch s.watches name) (watch_taken name)
+    (of_target p s n target (handle_named s.handles target.handle) (unless s n (length s.watches == most watches) (too_many watches)) (start_watch p s n name)) live
+    ∙ ap (λ m. of_target p s n target (handle_named s.handles target.handle) (λ step. unless s n (m == most watches) (too_many watches) step) (start_watch p s n name)) count
+    ∙ made.2)
+    (has p s made.0 made.1 stands made.3))
+    c.start_watch.ensures.step
+
+pub returns-in-Refused-clause-step : goal.returns-in-Refused-clause-step
+returns-in-Refused-clause-step g c = λ p s stands.
+    let k : Kept = c.args.self.now in
+    let n = c.args.n in
+    let name = c.args.watch in
+    let target = target_seen c.args.target.now in
+    let full : Bool = c.count-is_full.result == most watches in
+    let live : is_watch s.watches name ≡ false =
+    whether_watch k p s stands c.self.inside.watches c.as_str.result.now name c.is_live.result (ap (λ (x : Kept). x.watches) c.self.view_is) c.as_str.ensures c.is_live.ensures ∙ c.if-is_live.false in
+    let count : length s.watches ≡ c.count-is_full.result = watches_count k p s stands c.self.inside.watches c.count-is_full.result (ap (λ (x : Kept). x.watches) c.self.view_is) c.count-is_full.ensures in
+    let whole : Step = of_target p s n target (handle_named s.handles target.handle) (λ step. unless s n full (too_many watches) step) (start_watch p s n name) in
+    same_step k p whole (step_watch p s n name target) c.in-Refused.lines
+    (unless-false s n (is_watch s.watches name) (watch_taken name)
+    (of_target p s n target (handle_named s.handles target.handle) (unless s n (length s.watches == most watches) (too_many watches)) (start_watch p s n name)) live
+    ∙ ap (λ m. of_target p s n target (handle_named s.handles target.handle) (λ step. unless s n (m == most watches) (too_many watches) step) (start_watch p s n name)) count)
+    (subst (Targets k p whole (start_watch p s n name)) c.in-Refused.is (c.in_ok-what.ensures p s stands (start_watch p s n name)))

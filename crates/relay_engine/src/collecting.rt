@@ -1,0 +1,45 @@
+//! The event that sweeps.
+ghost use Rattle.std.specs.Prelude.{◌≡◌, ◌<◌, ◌^◌, [], true, length, IfOk, OnErr};
+ghost use Rattle.relay_engine.specs.Steps.{HasStepped};
+ghost use Rattle.relay_machine.specs.Machine as machine;
+
+use crate::answers::collected;
+use crate::engine::Engine;
+use crate::lines::Lines;
+use gql_plain::NoMemory;
+use store_source::RecordSource;
+
+impl<S: RecordSource> Engine<S> {
+    /// Takes the records out of the base that no retained operation reaches. While a layer is live
+    /// nothing is swept, and the answer says so.
+    pub(crate) fn collect(&mut self, n: u64, steps: &mut S::Count) -> Result<Lines, NoMemory>
+        requires { n < 2 ^ 63 }
+        ensures step { IfOk result (λ lines. HasStepped self.old self.new lines (λ p s. machine.noticed p n (length s.watches) (machine.step_collect p self.old.buffer s n))) }
+        ensures buffer { self.new.buffer ≡ self.old.buffer }
+        ensures refused { IfOk result (λ lines. lines.refused ≡ true → self.new ≡ self.old) }
+        ensures err { OnErr result (self.new ≡ self.old) }
+        ensures applies { S.Count.applies steps.new ≡ S.Count.applies steps.old }
+    {
+        if self.layers.count() > 0 {
+            return collected(self.alloc, 0, true, n);
+        }
+        self.sweep(n, steps)
+    }
+
+    /// Takes the records out of the base that no retained operation reaches, where no layer is live.
+    fn sweep(&mut self, n: u64, steps: &mut S::Count) -> Result<Lines, NoMemory>
+        requires number { n < 2 ^ 63 }
+        requires alone { self.old.layers.live ≡ [] }
+        ensures step { IfOk result (λ lines. HasStepped self.old self.new lines (λ p s. machine.noticed p n (length s.watches) (machine.sweep_base p self.old.buffer s n))) }
+        ensures buffer { self.new.buffer ≡ self.old.buffer }
+        ensures refused { IfOk result (λ lines. lines.refused ≡ true → self.new ≡ self.old) }
+        ensures err { OnErr result (self.new ≡ self.old) }
+        ensures applies { S.Count.applies steps.new ≡ S.Count.applies steps.old }
+    {
+        let keep = self.retained.mark(self.layers.base(), steps)?;
+        let mut layers = self.layers.copy()?;
+        let dropped = layers.sweep_base(&keep, steps)?;
+        let answer = collected(self.alloc, dropped.len() as u64, false, n)?;
+        self.change(layers, &dropped, answer, n, steps)
+    }
+}

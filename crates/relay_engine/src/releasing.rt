@@ -1,0 +1,33 @@
+//! The event that releases an operation.
+ghost use Rattle.std.specs.Prelude.{◌≡◌, ◌<◌, ◌^◌, true, IfOk, OnErr};
+ghost use Rattle.relay_engine.specs.Steps.{HasStepped};
+ghost use Rattle.relay_machine.specs.Machine as machine;
+
+use crate::answers::{accept, refuse};
+use crate::engine::Engine;
+use crate::lines::Lines;
+use gql_plain::{NoMemory, Words};
+use relay_lines::Refusal;
+use store_source::RecordSource;
+
+impl<S: RecordSource> Engine<S> {
+    /// Releases the operation of a handle with which no live watch was started.
+    pub(crate) fn release(&mut self, handle: &Words, n: u64) -> Result<Lines, NoMemory>
+        requires { n < 2 ^ 63 }
+        ensures step { IfOk result (λ lines. HasStepped self.old self.new lines (λ p s. machine.step_release s n handle.now)) }
+        ensures buffer { self.new.buffer ≡ self.old.buffer }
+        ensures refused { IfOk result (λ lines. lines.refused ≡ true → self.new ≡ self.old) }
+        ensures err { OnErr result (self.new ≡ self.old) }
+    {
+        let name = handle.as_str();
+        if self.retained.held(name).is_none() {
+            return refuse(self.alloc, Refusal::UnknownHandle(name), n);
+        }
+        if self.watches.uses(name) {
+            return refuse(self.alloc, Refusal::HandleInUse(name), n);
+        }
+        let lines = accept(self.alloc, "release", n)?;
+        self.retained.release(handle);
+        Ok(lines)
+    }
+}

@@ -1,0 +1,98 @@
+//! What reads and watches show.
+ghost use Rattle.std.specs.Prelude.{◌≡◌, List, ℕ, true, is_some, None, Some, IfOk};
+ghost use Rattle.plan_project.specs.Lookups.{fragment_in, operation_in, KeepsFragment, ReadsFragment};
+ghost use Rattle.relay_engine.specs.Handles.{held_as};
+ghost use Rattle.relay_engine.specs.Parts.{IsProject};
+ghost use Rattle.relay_engine.specs.Stands.{KeepsHandle, ShowsPart};
+ghost use Rattle.relay_machine.specs.Machine as machine;
+ghost use Rattle.schema_types.specs.Environments.{Values, environment};
+ghost use Rattle.schema_types.specs.Sites.{FragmentAt};
+ghost use Rattle.store_read.specs.Reading.{reading_of, slots};
+ghost use Rattle.store_watch.specs.Rows.{look_of};
+ghost use Rattle.store_watch.specs.Watching.{shows};
+
+use crate::environments::with_locals;
+use crate::said::operation_held;
+use gql_plain::{Id, NoMemory, Words};
+use plan_project::{CompiledFragment, Project};
+use schema_values::Env;
+use std::alloc::Global;
+use std::rc::Rc;
+use store_read::{Snapshot, read};
+use store_retain::Held;
+use store_source::RecordSource;
+use store_watch::Watched;
+
+/// The id of the record at which operations are read.
+const ROOT: &str = "client:root";
+
+/// What the operation that a handle holds shows: its own selections, of the root record.
+pub(crate) fn whole_operation(
+    alloc: Global,
+    project: &Project,
+    held: &Held,
+    handle: &Words,
+) -> Result<Watched, NoMemory>
+    requires { is_some (operation_in project.now.0 project.now.1 held.now.name) ≡ true }
+    ensures { IfOk result (λ what. (p : machine.Project) (h : machine.Handle) → IsProject project.now p → KeepsHandle p (held_as handle.now held.now) h
+        → ShowsPart p (look_of what) h None) }
+{
+    let compiled = operation_held(project, held);
+    Ok(Watched {
+        handle: handle.copy()?,
+        fragment: None,
+        plan: compiled.reader.clone()?,
+        types: compiled.types.copy()?,
+        env: held.env.clone()?,
+        id: Words::new(alloc, ROOT)?,
+    })
+}
+
+/// What a fragment shows of the record at an id, under the operation that a handle holds, with these
+/// values of its local variables.
+pub(crate) fn fragment_at(
+    alloc: Global,
+    held: &Held,
+    fragment: &CompiledFragment,
+    scope: &Env,
+    handle: &Words,
+    id: &Id,
+) -> Result<Watched, NoMemory>
+    ensures { IfOk result (λ what. (p : machine.Project) (h : machine.Handle) (f : FragmentAt) (n : List ℕ) → fragment_in p.defs p.documents n ≡ Some f
+        → KeepsFragment p.defs n f fragment.now → ReadsFragment p.defs p.documents f fragment.now → KeepsHandle p (held_as handle.now held.now) h
+        → (given : Values) → scope.now.values ≡ environment fragment.now.locals given
+        → ShowsPart p (look_of what) h (Some (record { fragment = f; scope = scope.now.values; id = id.now }))) }
+{
+    let env = with_locals(alloc, &held.env, &scope.values)?;
+    Ok(Watched {
+        handle: handle.copy()?,
+        fragment: Some(fragment.name.copy()?),
+        plan: fragment.reader.clone()?,
+        types: fragment.types.copy()?,
+        env: Rc::new(alloc, env)?,
+        id: id.copy()?,
+    })
+}
+
+/// What is shown of these records.
+pub(crate) fn look<S: RecordSource>(
+    alloc: Global,
+    source: &S,
+    what: &Watched,
+    steps: &mut S::Count,
+) -> Result<Snapshot, NoMemory>
+    ensures read { IfOk result (λ snapshot. reading_of snapshot ≡ shows (slots (S.records source.now)) (look_of what.now)) }
+    ensures applies { S.Count.applies steps.new ≡ S.Count.applies steps.old }
+{
+    let plan = what.plan.as_ref();
+    read(
+        alloc,
+        source,
+        plan,
+        &what.types,
+        &what.env,
+        &what.id,
+        &what.handle,
+        steps,
+    )
+}
