@@ -7,3 +7,4 @@ pub mod Owed
 pub mod FileLaws
 pub mod Opening
 pub mod ArtifactLines
+pub mod Finished

@@ -24,38 +24,38 @@ abbrev first_bytes : Text → Text
 first_bytes l = take (max_line + 1) l
 
 -- after one more line
-pub written_next : (p : Project) (s : State) (n : ℕ) (all added l : Text) (ls0 ls : List Text) → ls0 ≡ l ∷ ls → all ≡ added ++ output_from p s n (cut ls0)
-    → all ≡ (added ++ (step p s n (first_bytes l)).text) ++ output_from p (step p s n (first_bytes l)).state (n + 1) (cut ls)
-written_next p s n all added l ls0 ls e h = h ∙ ap (λ xs. added ++ output_from p s n (cut xs)) e ∙ sym (append_assoc added (step p s n (first_bytes l)).text _)
+pub written_next : (p : Project) (buffer : ℕ) (s : State) (n : ℕ) (all added l : Text) (ls0 ls : List Text) → ls0 ≡ l ∷ ls → all ≡ added ++ output_from p buffer s n (cut ls0)
+    → all ≡ (added ++ (step p buffer s n (first_bytes l)).text) ++ output_from p buffer (step p buffer s n (first_bytes l)).state (n + 1) (cut ls)
+written_next p buffer s n all added l ls0 ls e h = h ∙ ap (λ xs. added ++ output_from p buffer s n (cut xs)) e ∙ sym (append_assoc added (step p buffer s n (first_bytes l)).text _)
 
 or_or : (a b c : Bool) → (a || (b || c)) ≡ ((a || b) || c)
 or_or true b c = refl
 or_or false b c = refl
 
-pub refused_next : (p : Project) (s : State) (n : ℕ) (all before : Bool) (l : Text) (ls0 ls : List Text) → ls0 ≡ l ∷ ls → all ≡ (before || refused_from p s n (cut ls0))
-    → all ≡ ((before || (step p s n (first_bytes l)).refused) || refused_from p (step p s n (first_bytes l)).state (n + 1) (cut ls))
-refused_next p s n all before l ls0 ls e h = h ∙ ap (λ xs. before || refused_from p s n (cut xs)) e ∙ or_or before _ _
+pub refused_next : (p : Project) (buffer : ℕ) (s : State) (n : ℕ) (all before : Bool) (l : Text) (ls0 ls : List Text) → ls0 ≡ l ∷ ls → all ≡ (before || refused_from p buffer s n (cut ls0))
+    → all ≡ ((before || (step p buffer s n (first_bytes l)).refused) || refused_from p buffer (step p buffer s n (first_bytes l)).state (n + 1) (cut ls))
+refused_next p buffer s n all before l ls0 ls e h = h ∙ ap (λ xs. before || refused_from p buffer s n (cut xs)) e ∙ or_or before _ _
 
 -- a part of the next answer, and what is then still to come
-pub part_then : (p : Project) (s : State) (n : ℕ) (all added l : Text) (ls0 ls : List Text) (k : ℕ) → ls0 ≡ l ∷ ls → all ≡ added ++ output_from p s n (cut ls0)
-    → (added ++ take k (step p s n (first_bytes l)).text) ++ (drop k (step p s n (first_bytes l)).text ++ output_from p (step p s n (first_bytes l)).state (n + 1) (cut ls)) ≡ all
-part_then p s n all added l ls0 ls k e h =
-    let answer = (step p s n (first_bytes l)).text in
-    let rest = output_from p (step p s n (first_bytes l)).state (n + 1) (cut ls) in
+pub part_then : (p : Project) (buffer : ℕ) (s : State) (n : ℕ) (all added l : Text) (ls0 ls : List Text) (k : ℕ) → ls0 ≡ l ∷ ls → all ≡ added ++ output_from p buffer s n (cut ls0)
+    → (added ++ take k (step p buffer s n (first_bytes l)).text) ++ (drop k (step p buffer s n (first_bytes l)).text ++ output_from p buffer (step p buffer s n (first_bytes l)).state (n + 1) (cut ls)) ≡ all
+part_then p buffer s n all added l ls0 ls k e h =
+    let answer = (step p buffer s n (first_bytes l)).text in
+    let rest = output_from p buffer (step p buffer s n (first_bytes l)).state (n + 1) (cut ls) in
     append_assoc added (take k answer) (drop k answer ++ rest) ∙ ap (λ t. added ++ t) (sym (append_assoc (take k answer) (drop k answer) rest) ∙ ap (λ t. t ++ rest) (take-append-drop k answer))
-    ∙ sym (h ∙ ap (λ xs. added ++ output_from p s n (cut xs)) e)
+    ∙ sym (h ∙ ap (λ xs. added ++ output_from p buffer s n (cut xs)) e)
 
 -- at the end
 pub no_lines : (bytes : Text) → length bytes ≡ 0 → lines_of bytes true ≡ []
 no_lines [] h = refl
 no_lines (b ∷ bs) h = absurd (omega (arith, h))
 
-pub written_all : (p : Project) (s : State) (n : ℕ) (all added : Text) (ls : List Text) → ls ≡ [] → all ≡ added ++ output_from p s n (cut ls) → added ++ [] ≡ all
-written_all p s n all added ls e h = sym (h ∙ ap (λ xs. added ++ output_from p s n (cut xs)) e)
+pub written_all : (p : Project) (buffer : ℕ) (s : State) (n : ℕ) (all added : Text) (ls : List Text) → ls ≡ [] → all ≡ added ++ output_from p buffer s n (cut ls) → added ++ [] ≡ all
+written_all p buffer s n all added ls e h = sym (h ∙ ap (λ xs. added ++ output_from p buffer s n (cut xs)) e)
 
 or_none : (a : Bool) → (a || false) ≡ a
 or_none true = refl
 or_none false = refl
 
-pub refused_all : (p : Project) (s : State) (n : ℕ) (all before : Bool) (ls : List Text) → ls ≡ [] → all ≡ (before || refused_from p s n (cut ls)) → all ≡ before
-refused_all p s n all before ls e h = h ∙ ap (λ xs. before || refused_from p s n (cut xs)) e ∙ or_none before
+pub refused_all : (p : Project) (buffer : ℕ) (s : State) (n : ℕ) (all before : Bool) (ls : List Text) → ls ≡ [] → all ≡ (before || refused_from p buffer s n (cut ls)) → all ≡ before
+refused_all p buffer s n all before ls e h = h ∙ ap (λ xs. before || refused_from p buffer s n (cut xs)) e ∙ or_none before

@@ -76,12 +76,12 @@ fn answer_line<K: Sink>(
     steps: &mut Counts,
 ) -> Result<bool, Stop>
     requires { n < 2 ^ 63 }
-    ensures ok { IfOk result (λ refused. (p : machine.Project) (s : State) → StandsFor engine.old p s
-        → let step = machine.step p s n (take (max_line + 1) line.now) in
-        (refused ≡ step.refused) × StandsFor engine.new p step.state × EndsLine step.text
+    ensures ok { IfOk result (λ refused. (p : machine.Project) (buffer : ℕ) (s : State) → engine.old.buffer ≡ buffer → StandsFor engine.old p s
+        → let step = machine.step p buffer s n (take (max_line + 1) line.now) in
+        (engine.new.buffer ≡ buffer) × (refused ≡ step.refused) × StandsFor engine.new p step.state × EndsLine step.text
         × (K.contents out.new ≡ append (K.contents out.old) step.text) × (K.calls out.new ≤ K.calls out.old + length step.text)) }
-    ensures err { IfErr result (λ stop. (p : machine.Project) (s : State) → StandsFor engine.old p s
-        → let step = machine.step p s n (take (max_line + 1) line.now) in
+    ensures err { IfErr result (λ stop. (p : machine.Project) (buffer : ℕ) (s : State) → engine.old.buffer ≡ buffer → StandsFor engine.old p s
+        → let step = machine.step p buffer s n (take (max_line + 1) line.now) in
         (k : ℕ) × (k ≤ length step.text) × (K.contents out.new ≡ append (K.contents out.old) (take k step.text))
         × (K.calls out.new ≤ K.calls out.old + k + 1) × (stop ≡ Stop.NoMemory → k ≡ 0)) }
     ensures write_fault { result ≡ Err Stop.WriteFault → Rose (K.faults out.old) (K.faults out.new) }

@@ -8,6 +8,8 @@ mod files;
 mod lines;
 mod project_fault;
 mod put;
+#[cfg(test)]
+mod rows;
 mod rules;
 mod script;
 mod status;

@@ -1,4 +1,5 @@
 //! The top call over objects in memory.
+use crate::rows::{DONE, REFUSED, WATCH};
 use crate::status::Status;
 use crate::top::relay_top;
 use gql_plain::{Counts, Words};
@@ -158,18 +159,6 @@ const ONE: [&str; 4] = ["run", "10", "s.graphql", "d.graphql"];
 const TWO: [&str; 5] = ["run", "10", "s.graphql", "d.graphql", "e.graphql"];
 
 #[test]
-fn a_query_is_retained_paid_and_read_in_pieces_of_any_size(rt: HostRuntime) -> Result<(), Fail> {
-    let alloc = rt.alloc();
-    for piece in [1usize, 2, 60, 65_536] {
-        let vault = vault_of(alloc, SCHEMA, QUERY.as_bytes(), "")?;
-        let (status, text) = run_of(alloc, &ONE, vault, SCRIPT, piece, Vec::new(alloc))?;
-        assert_eq!(rt; status, Status::Done, "at {piece}");
-        assert_eq!(rt; text.as_slice(), ANSWERS.as_bytes(), "at {piece}");
-    }
-    Ok(())
-}
-
-#[test]
 fn handles_have_operations_of_their_own(rt: HostRuntime) -> Result<(), Fail> {
     let alloc = rt.alloc();
     let script = "{\"do\":\"retain\",\"handle\":\"h\",\"op\":\"R\"}\n\
@@ -186,39 +175,6 @@ fn handles_have_operations_of_their_own(rt: HostRuntime) -> Result<(), Fail> {
     let (status, text) = run_of(alloc, &TWO, vault, script, 60, Vec::new(alloc))?;
     assert_eq!(rt; status, Status::DoneWithRefusals);
     assert_eq!(rt; text.as_slice(), lines.as_bytes());
-    Ok(())
-}
-
-#[test]
-fn lines_are_refused_by_name(rt: HostRuntime) -> Result<(), Fail> {
-    let alloc = rt.alloc();
-    let rows = [
-        ("", Status::Done, ""),
-        (
-            "x\n{\"do\":\"read\",\"handle\":\"z\"}\n{\"do\":\"collect\"}",
-            Status::DoneWithRefusals,
-            "{\"code\":1,\"error\":\"NotJson\",\"n\":1}\n\
-             {\"code\":7,\"error\":\"UnknownHandle\",\"n\":2,\"name\":\"z\"}\n\
-             {\"code\":90,\"error\":\"NotYet\",\"n\":3}\n",
-        ),
-        (
-            "{\"do\":\"retain\",\"handle\":\"h\",\"op\":\"X\"}\n",
-            Status::DoneWithRefusals,
-            "{\"code\":5,\"error\":\"UnknownOperation\",\"n\":1,\"name\":\"X\"}\n",
-        ),
-        (
-            "{\"do\":\"finish\",\"layer\":\"z\"}\n{\"do\":\"read\"}\n",
-            Status::DoneWithRefusals,
-            "{\"code\":10,\"error\":\"UnknownLayer\",\"n\":1,\"name\":\"z\"}\n\
-             {\"code\":2,\"error\":\"EventShape\",\"n\":2}\n",
-        ),
-    ];
-    for (script, status, text) in rows {
-        let vault = vault_of(alloc, SCHEMA, QUERY.as_bytes(), "")?;
-        let (answer, held) = run_of(alloc, &ONE, vault, script, 60, Vec::new(alloc))?;
-        assert_eq!(rt; answer, status, "at {script}");
-        assert_eq!(rt; held.as_slice(), text.as_bytes(), "at {script}");
-    }
     Ok(())
 }
 
@@ -472,133 +428,47 @@ const CONNECTIONS: &str = "interface Node{id:ID!}
     type UserConnection{edges:[UserEdge] pageInfo:PageInfo!} type UserEdge{cursor:String node:User}
     type PageInfo{hasNextPage:Boolean! hasPreviousPage:Boolean! startCursor:String endCursor:String}";
 
-// What a script is answered over a document that may use connections.
-fn answers_of(alloc: Global, document: &str, script: &str) -> Result<(Status, Vec<u8>), Fail> {
+// The document, the script and the lines of a row.
+fn parts_of(row: &str) -> (&str, &str, &str) {
+    let (document, rest) = row.split_once("\n\n").unwrap_or(("", ""));
+    let (script, lines) = rest.split_once("\n\n").unwrap_or(("", ""));
+    (document, script, lines)
+}
+
+// What a script is answered over a document that may use connections, from a source that gives so
+// many bytes a call.
+fn answers_of(
+    alloc: Global,
+    document: &str,
+    script: &str,
+    piece: usize,
+) -> Result<(Status, Vec<u8>), Fail> {
     let vault = vault_of(alloc, CONNECTIONS, document.as_bytes(), "")?;
-    run_of(alloc, &ONE, vault, script, 60, Vec::new(alloc))
+    run_of(alloc, &ONE, vault, script, piece, Vec::new(alloc))
 }
 
 #[test]
-fn variables_fragments_and_lists_are_read(rt: HostRuntime) -> Result<(), Fail> {
+fn a_script_comes_in_pieces_of_any_size(rt: HostRuntime) -> Result<(), Fail> {
     let alloc = rt.alloc();
-    let rows = [
-        (
-            "query T($n:Int){a:team(size:2){name} b:team(size:$n){name} c:team{name}}",
-            "{\"do\":\"retain\",\"handle\":\"h\",\"op\":\"T\",\"vars\":{\"n\":null}}\n\
-             {\"do\":\"payload\",\"handle\":\"h\",\"response\":{\"data\":{\"a\":[{\"id\":\"1\",\"name\":\"A\"}],\"b\":[],\"c\":[]}}}\n\
-             {\"do\":\"read\",\"handle\":\"h\"}\n",
-            "{\"n\":1,\"ok\":\"retain\"}\n\
-             {\"n\":2,\"ok\":\"payload\"}\n\
-             {\"data\":{\"a\":[{\"name\":\"A\"}],\"b\":[],\"c\":[]},\"missing\":false,\"n\":3,\"ok\":\"read\",\"seen\":[\"1\",\"client:root\"]}\n",
-        ),
-        (
-            "query A{me{address{city} tags{text}}}",
-            "{\"do\":\"retain\",\"handle\":\"h\",\"op\":\"A\"}\n\
-             {\"do\":\"payload\",\"handle\":\"h\",\"response\":{\"data\":{\"me\":{\"id\":\"4\",\"address\":{\"city\":\"Rom\"},\"tags\":[{\"text\":\"x\"},null]}}}}\n\
-             {\"do\":\"read\",\"handle\":\"h\"}\n",
-            "{\"n\":1,\"ok\":\"retain\"}\n\
-             {\"n\":2,\"ok\":\"payload\"}\n\
-             {\"data\":{\"me\":{\"address\":{\"city\":\"Rom\"},\"tags\":[{\"text\":\"x\"},null]}},\"missing\":false,\"n\":3,\"ok\":\"read\",\"seen\":[\"4\",\"client:4:address\",\"client:4:tags:0\",\"client:root\"]}\n",
-        ),
-        (
-            "query F{me{...P}} fragment P on User{name}",
-            "{\"do\":\"retain\",\"handle\":\"h\",\"op\":\"F\"}\n\
-             {\"do\":\"payload\",\"handle\":\"h\",\"response\":{\"data\":{\"me\":{\"id\":\"4\",\"name\":\"Ann\"}}}}\n\
-             {\"do\":\"read\",\"handle\":\"h\"}\n\
-             {\"do\":\"read\",\"fragment\":\"P\",\"handle\":\"h\",\"id\":\"4\"}\n",
-            "{\"n\":1,\"ok\":\"retain\"}\n\
-             {\"n\":2,\"ok\":\"payload\"}\n\
-             {\"data\":{\"me\":{\"__fragments\":{\"P\":{}},\"__id\":\"4\",\"__owner\":\"h\"}},\"missing\":false,\"n\":3,\"ok\":\"read\",\"seen\":[\"4\",\"client:root\"]}\n\
-             {\"data\":{\"name\":\"Ann\"},\"missing\":false,\"n\":4,\"ok\":\"read\",\"seen\":[\"4\"]}\n",
-        ),
-    ];
-    for (document, script, lines) in rows {
-        let (status, held) = answers_of(alloc, document, script)?;
-        assert_eq!(rt; status, Status::Done, "at {document}");
-        assert_eq!(rt; held.as_slice(), lines.as_bytes(), "at {document}");
+    let (document, script, lines) = parts_of(WATCH);
+    for piece in [1usize, 2, 60, 65_536] {
+        let (status, held) = answers_of(alloc, document, script, piece)?;
+        assert_eq!(rt; status, Status::Done, "at {piece}");
+        assert_eq!(rt; held.as_slice(), lines.as_bytes(), "at {piece}");
     }
     Ok(())
 }
 
 #[test]
-fn layers_and_updates_are_read(rt: HostRuntime) -> Result<(), Fail> {
+fn scripts_are_answered(rt: HostRuntime) -> Result<(), Fail> {
     let alloc = rt.alloc();
-    let rows = [
-        (
-            "query G{me{age}}",
-            "{\"do\":\"retain\",\"handle\":\"h\",\"op\":\"G\"}\n\
-             {\"do\":\"payload\",\"handle\":\"h\",\"response\":{\"data\":{\"me\":{\"id\":\"4\",\"age\":5}}}}\n\
-             {\"do\":\"begin\",\"layer\":\"a\",\"updates\":[{\"add\":{\"id\":\"4\",\"field\":\"age\",\"by\":1}}]}\n\
-             {\"do\":\"read\",\"handle\":\"h\"}\n\
-             {\"do\":\"payload\",\"handle\":\"h\",\"response\":{\"data\":{\"me\":{\"id\":\"4\",\"age\":7}}}}\n\
-             {\"do\":\"read\",\"handle\":\"h\"}\n\
-             {\"do\":\"revert\",\"layer\":\"a\"}\n\
-             {\"do\":\"read\",\"handle\":\"h\"}\n",
-            "{\"n\":1,\"ok\":\"retain\"}\n\
-             {\"n\":2,\"ok\":\"payload\"}\n\
-             {\"n\":3,\"ok\":\"begin\"}\n\
-             {\"data\":{\"me\":{\"age\":6}},\"missing\":false,\"n\":4,\"ok\":\"read\",\"seen\":[\"4\",\"client:root\"]}\n\
-             {\"n\":5,\"ok\":\"payload\"}\n\
-             {\"data\":{\"me\":{\"age\":8}},\"missing\":false,\"n\":6,\"ok\":\"read\",\"seen\":[\"4\",\"client:root\"]}\n\
-             {\"n\":7,\"ok\":\"revert\"}\n\
-             {\"data\":{\"me\":{\"age\":7}},\"missing\":false,\"n\":8,\"ok\":\"read\",\"seen\":[\"4\",\"client:root\"]}\n",
-        ),
-        (
-            "query K($after:String){me{friends(first:2,after:$after)@connection(key:\"K_friends\"){edges{node{name}}}}}",
-            "{\"do\":\"retain\",\"handle\":\"h\",\"op\":\"K\"}\n\
-             {\"do\":\"payload\",\"handle\":\"h\",\"response\":{\"data\":{\"me\":{\"id\":\"4\",\"friends\":{\"edges\":[{\"cursor\":\"c1\",\"node\":{\"id\":\"5\",\"name\":\"Al\"}},{\"cursor\":\"c2\",\"node\":{\"id\":\"6\",\"name\":\"Bo\"}}],\"pageInfo\":{\"endCursor\":\"c2\"}}}}}}\n\
-             {\"do\":\"update\",\"updates\":[{\"create\":{\"id\":\"7\",\"type\":\"User\"}},{\"set\":{\"field\":\"name\",\"id\":\"7\",\"value\":\"Cy\"}},{\"prepend_node\":{\"edge_type\":\"UserEdge\",\"id\":\"4\",\"key\":\"K_friends\",\"node\":\"7\"}}]}\n\
-             {\"do\":\"read\",\"handle\":\"h\"}\n\
-             {\"do\":\"update\",\"updates\":[{\"delete_edge\":{\"id\":\"4\",\"key\":\"K_friends\",\"node\":\"5\"}}]}\n\
-             {\"do\":\"read\",\"handle\":\"h\"}\n",
-            "{\"n\":1,\"ok\":\"retain\"}\n\
-             {\"n\":2,\"ok\":\"payload\"}\n\
-             {\"n\":3,\"ok\":\"update\"}\n\
-             {\"data\":{\"me\":{\"friends\":{\"edges\":[{\"node\":{\"name\":\"Cy\"}},{\"node\":{\"name\":\"Al\"}},{\"node\":{\"name\":\"Bo\"}}]}}},\"missing\":false,\"n\":4,\"ok\":\"read\",\"seen\":[\"4\",\"5\",\"6\",\"7\",\"client:4:__K_friends_connection\",\"client:4:__K_friends_connection:edges:0\",\"client:4:__K_friends_connection:edges:1\",\"client:4:__K_friends_connection:edges:2\",\"client:root\"]}\n\
-             {\"n\":5,\"ok\":\"update\"}\n\
-             {\"data\":{\"me\":{\"friends\":{\"edges\":[{\"node\":{\"name\":\"Cy\"}},{\"node\":{\"name\":\"Bo\"}}]}}},\"missing\":false,\"n\":6,\"ok\":\"read\",\"seen\":[\"4\",\"6\",\"7\",\"client:4:__K_friends_connection\",\"client:4:__K_friends_connection:edges:1\",\"client:4:__K_friends_connection:edges:2\",\"client:root\"]}\n",
-        ),
-    ];
-    for (document, script, lines) in rows {
-        let (status, held) = answers_of(alloc, document, script)?;
-        assert_eq!(rt; status, Status::Done, "at {document}");
-        assert_eq!(rt; held.as_slice(), lines.as_bytes(), "at {document}");
-    }
-    Ok(())
-}
-
-#[test]
-fn responses_are_refused_by_their_cause(rt: HostRuntime) -> Result<(), Fail> {
-    let alloc = rt.alloc();
-    let rows = [
-        (
-            "query C{me{name friend{name}}}",
-            "{\"do\":\"retain\",\"handle\":\"h\",\"op\":\"C\"}\n\
-             {\"do\":\"payload\",\"handle\":\"h\",\"response\":{\"data\":{\"me\":{\"id\":\"4\",\"name\":\"Ann\",\"friend\":{\"id\":\"4\",\"name\":\"Eve\"}}}}}\n\
-             {\"do\":\"read\",\"handle\":\"h\"}\n",
-            "{\"n\":1,\"ok\":\"retain\"}\n\
-             {\"cause\":\"Conflict\",\"code\":16,\"error\":\"Payload\",\"first\":\"Eve\",\"id\":\"4\",\"key\":\"name\",\"n\":2,\"path\":[\"me\",\"name\"],\"second\":\"Ann\"}\n\
-             {\"data\":null,\"missing\":true,\"n\":3,\"ok\":\"read\",\"seen\":[\"client:root\"]}\n",
-        ),
-        (
-            "query N{me{age}}",
-            "{\"do\":\"retain\",\"handle\":\"h\",\"op\":\"N\"}\n\
-             {\"do\":\"payload\",\"handle\":\"h\",\"response\":{\"data\":{\"me\":{\"id\":\"4\",\"age\":1.5}}}}\n",
-            "{\"n\":1,\"ok\":\"retain\"}\n\
-             {\"cause\":\"NotWhole\",\"code\":16,\"error\":\"Payload\",\"n\":2,\"path\":[\"me\",\"age\"]}\n",
-        ),
-        (
-            "query Q{me{name}}",
-            "{\"do\":\"retain\",\"handle\":\"h\",\"op\":\"Q\"}\n\
-             {\"do\":\"payload\",\"handle\":\"h\",\"response\":{\"data\":{\"me\":[]}}}\n",
-            "{\"n\":1,\"ok\":\"retain\"}\n\
-             {\"cause\":\"Shape\",\"code\":16,\"error\":\"Payload\",\"n\":2,\"path\":[\"me\"]}\n",
-        ),
-    ];
-    for (document, script, lines) in rows {
-        let (status, held) = answers_of(alloc, document, script)?;
-        assert_eq!(rt; status, Status::DoneWithRefusals, "at {document}");
-        assert_eq!(rt; held.as_slice(), lines.as_bytes(), "at {document}");
+    for (rows, wanted) in [(DONE, Status::Done), (REFUSED, Status::DoneWithRefusals)] {
+        for row in rows.split("=\n") {
+            let (document, script, lines) = parts_of(row);
+            let (status, held) = answers_of(alloc, document, script, 60)?;
+            assert_eq!(rt; status, wanted, "at {document}");
+            assert_eq!(rt; held.as_slice(), lines.as_bytes(), "at {document}");
+        }
     }
     Ok(())
 }

@@ -14,20 +14,21 @@ abbrev IsPart : (h0 h1 : Option Text) (c0 c1 : ℕ) → Stop → Text → Type 0
 IsPart h0 h1 c0 c1 stop text = (k : ℕ) × (k ≤ length text) × (h1 ≡ append h0 (take k text)) × (c1 ≤ c0 + k + 1) × (stop ≡ NoMemory → k ≡ 0)
 
 pub returns-clause-err : goal.returns-clause-err
-returns-clause-err g c = λ p s stands.
+returns-clause-err g c = λ p buffer s same stands.
     let answers = c.in-Ok.ensures.step p s stands in
-    let P : Text → Type 0 = λ l. IsStep p (step p s c.args.n l) c.in-Ok.lines c.step.new.self in
-    let of_line = subst P c.cut.ensures answers in
+    let P : ℕ → Text → Type 0 = λ b l. IsStep p (step p b s c.args.n l) c.in-Ok.lines c.step.new.self in
+    let of_line = subst (P buffer) c.cut.ensures (subst (λ b. P b c.cut.result.now) same answers) in
     subst (IsPart (g.K.Sink.contents c.args.out.now) (g.K.Sink.contents c.put_lines.new.out) (g.K.Sink.calls c.args.out.now) (g.K.Sink.calls c.put_lines.new.out) c.in-Err.stop)
     (ap written c.deref.ensures.value ∙ of_line.text) c.in-Err.ensures.err
 
 pub returns-in-Ok-put_lines-clause-ok : goal.returns-in-Ok-put_lines-clause-ok
-returns-in-Ok-put_lines-clause-ok g c = λ p s stands.
+returns-in-Ok-put_lines-clause-ok g c = λ p buffer s same stands.
     let answers = c.in-Ok.ensures.step p s stands in
-    let P : Text → Type 0 = λ l. IsStep p (step p s c.args.n l) c.in-Ok.lines c.step.new.self in
-    let of_line = subst P c.cut.ensures answers in
+    let P : ℕ → Text → Type 0 = λ b l. IsStep p (step p b s c.args.n l) c.in-Ok.lines c.step.new.self in
+    let of_line = subst (P buffer) c.cut.ensures (subst (λ b. P b c.cut.result.now) same answers) in
     let text_is = ap written c.deref.ensures.value ∙ of_line.text in
     let calls : Text → Type 0 = λ t. g.K.Sink.calls c.put_lines.new.out ≤ g.K.Sink.calls c.args.out.now + length t in (
+      c.in-Ok.ensures.buffer ∙ same,
       of_line.refused,
       of_line.stands,
       subst EndsLine of_line.text (written_ends c.in-Ok.lines.texts.items),

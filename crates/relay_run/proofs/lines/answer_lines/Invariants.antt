@@ -12,9 +12,10 @@ abbrev pub invariant-lines : goal.invariant-lines
 invariant-lines g l = record {
   so_far : (s : State) × StandsFor l.engine (project_shown l.fn.project) s
       × (added : List ℕ) × (g.K.Sink.contents l.out ≡ append (g.K.Sink.contents l.fn.out) added)
-      × (output_text (project_shown l.fn.project) l.fn.buffer l.script true ≡ added ++ output_from (project_shown l.fn.project) s l.n (cut (lines_of l.rest true)))
-      × (has_refusal (project_shown l.fn.project) l.fn.buffer l.script ≡ (l.refused || refused_from (project_shown l.fn.project) s l.n (cut (lines_of l.rest true))))
+      × (output_text (project_shown l.fn.project) l.fn.buffer l.script true ≡ added ++ output_from (project_shown l.fn.project) l.fn.buffer s l.n (cut (lines_of l.rest true)))
+      × (has_refusal (project_shown l.fn.project) l.fn.buffer l.script ≡ (l.refused || refused_from (project_shown l.fn.project) l.fn.buffer s l.n (cut (lines_of l.rest true))))
       × EndsLine added × (g.K.Sink.calls l.out ≤ g.K.Sink.calls l.fn.out + length added);
+  buffer : l.engine.buffer ≡ l.fn.buffer;
   numbered : l.n + length l.rest ≤ length l.script + 1;
   later : g.K.Sink.faults l.fn.out ≤ g.K.Sink.faults l.out;
 }
