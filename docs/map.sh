@@ -7,6 +7,7 @@ cd "$(dirname "$0")"
 exec python3 - "$@" <<'END'
 import sys
 
+ALL_BELOW, LEVELS = {}, {}
 BEGIN, END = "<!-- picture: made by docs/map.sh -->\n", "<!-- end of the picture -->\n"
 
 def crates_of(path):
@@ -18,7 +19,9 @@ def crates_of(path):
 
 def all_below(crates, crate):
     """All that a crate stands on, through others too."""
-    return set().union(*({dep} | all_below(crates, dep) for dep in crates[crate]))
+    if crate not in ALL_BELOW:
+        ALL_BELOW[crate] = set().union(*({dep} | all_below(crates, dep) for dep in crates[crate]))
+    return ALL_BELOW[crate]
 
 def direct(crates, crate):
     """What a crate stands on, but for what one of them stands on."""
@@ -26,7 +29,9 @@ def direct(crates, crate):
     return {dep for dep in deps if not any(dep in all_below(crates, other) for other in deps)}
 
 def level(crates, crate):
-    return max((level(crates, dep) + 1 for dep in crates[crate]), default=0)
+    if crate not in LEVELS:
+        LEVELS[crate] = max((level(crates, dep) + 1 for dep in crates[crate]), default=0)
+    return LEVELS[crate]
 
 def line_of(crates, number):
     """The crates of a level, those together that stand on the same ones."""
