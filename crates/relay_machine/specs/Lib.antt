@@ -2,3 +2,4 @@ pub mod Machine
 pub mod Printed
 pub mod Refusals
 pub mod Script
+pub mod Bulk

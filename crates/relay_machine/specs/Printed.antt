@@ -52,3 +52,8 @@ refusal_line n r = line ((codes "code", number (code_of r)) ∷ (codes "error", 
 abbrev pub project_fault : (file : Text) → (line column : ℕ) → (rule : Text) → Text
 project_fault file at_line column rule =
     line ((codes "column", number column) ∷ (codes "file", text file) ∷ (codes "line", number at_line) ∷ (codes "rule", text rule) ∷ [])
+
+-- the summary of a script: the bytes that are written, the lines of the script, the notices, and the lines that are refused
+abbrev pub summary_line : (bytes lines notices refused : ℕ) → Text
+summary_line bytes lines notices refused =
+    line ((codes "bytes", number bytes) ∷ (codes "lines", number lines) ∷ (codes "notices", number notices) ∷ (codes "refused", number refused) ∷ [])
