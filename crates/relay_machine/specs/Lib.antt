@@ -1,5 +1,6 @@
+pub mod Bulk
+pub mod Effects
 pub mod Machine
 pub mod Printed
 pub mod Refusals
 pub mod Script
-pub mod Bulk

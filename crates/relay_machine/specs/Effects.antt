@@ -1,0 +1,55 @@
+-- What a line does: the entries that it confirms, those of the layers that are live after it, and the reads of its answer.
+use Rattle.std.specs.Prelude.{List, [], ◌∷◌, map, drop, length, Option, Some, None}
+use Rattle.relay_dirs.specs.Locals.{locals_of}
+use Rattle.relay_machine.specs.Machine.{Confirmation, confirmed, swept, Handle, Layer, Project, State, definitions_in, fragment_read, handle_named, operation_read, scope_given, view}
+use Rattle.schema_types.specs.NameRules.{fragment_named, fragments}
+use Rattle.schema_types.specs.Sites.{FragmentAt}
+use Rattle.store_model.specs.Events as e
+use Rattle.store_model.specs.Events.{Event}
+use Rattle.store_model.specs.Records.{Records}
+use Rattle.store_model.specs.Walks.{Found}
+use Rattle.store_model.specs.declared.entry.Entry.{Entry}
+
+-- ---- entries
+
+-- without the sweeps
+abbrev pub entries_in : List Confirmation → List Entry
+entries_in [] = []
+entries_in (confirmed e ∷ cs) = e ∷ entries_in cs
+entries_in (swept rs ∷ cs) = entries_in cs
+
+-- the entries that the state after a line has confirmed, and the one before it has not
+abbrev pub newly_confirmed : (before after : State) → List Entry
+newly_confirmed s t = entries_in (drop (length s.entries) t.entries)
+
+-- the entries of the live layers, in order of start
+abbrev pub layer_entries : State → List Entry
+layer_entries s = map (λ (l : Layer). l.entry) s.layers
+
+-- ---- the reads of an answer: one, where the handle is live and the fragment is there
+
+abbrev pub reads_of_fragment : Project → Records → Handle → e.Part → Option FragmentAt → List Found
+reads_of_fragment p m h part None = []
+reads_of_fragment p m h part (Some f) = fragment_read p m h f (scope_given (locals_of f.directives) part.args) part.id ∷ []
+
+abbrev pub reads_of_part : Project → Records → Handle → Option e.Part → List Found
+reads_of_part p m h None = operation_read p m h ∷ []
+reads_of_part p m h (Some part) = reads_of_fragment p m h part (fragment_named (fragments (definitions_in p)) part.fragment)
+
+abbrev pub reads_of_target : Project → Records → e.Target → Option Handle → List Found
+reads_of_target p m target None = []
+reads_of_target p m target (Some h) = reads_of_part p m h target.part
+
+-- an event that shows something reads it in the view
+abbrev pub answer_reads : Project → State → Event → List Found
+answer_reads p s (e.retain handle op given) = []
+answer_reads p s (e.release handle) = []
+answer_reads p s (e.payload answer commands) = []
+answer_reads p s (e.update commands) = []
+answer_reads p s (e.begin layer answer commands) = []
+answer_reads p s (e.finish layer answer commands) = []
+answer_reads p s (e.revert layer) = []
+answer_reads p s (e.read target) = reads_of_target p (view p s) target (handle_named s.handles target.handle)
+answer_reads p s (e.watch name target) = reads_of_target p (view p s) target (handle_named s.handles target.handle)
+answer_reads p s (e.unwatch name) = []
+answer_reads p s e.collect = []
