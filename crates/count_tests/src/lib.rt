@@ -1,0 +1,7 @@
+//! Tests of what calls of the layers and of the watches count.
+#![tactic(auto)]
+
+#[cfg(test)]
+mod layers;
+#[cfg(test)]
+mod watches;
