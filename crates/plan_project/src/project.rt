@@ -78,6 +78,13 @@ impl Project {
         &self.documents
     }
 
+    /// Law: the schema and the documents are those of an accepted project.
+    pub fn is_accepted(&self)
+        ensures { IsAcceptedProject self.now.0 self.now.1 }
+    {
+        let _ = &self.schema;
+    }
+
     /// The operation of a name, with the plan by which responses to it are normalized and the plan by
     /// which it is read; `None` where the documents have none.
     pub fn operation(&self, name: &str) -> Option<&Compiled>
