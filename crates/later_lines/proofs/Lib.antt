@@ -1,0 +1,3 @@
+pub mod AlikeReads
+pub mod AlikeSteps
+pub mod Sweeping

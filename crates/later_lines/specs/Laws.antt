@@ -1,5 +1,5 @@
 -- The laws of later lines: what a sweep drops makes no difference to a line that does not look at it. They need no accepted project.
-use Rattle.std.specs.Prelude.{◌≡◌, ℕ, Bool, true, false, ◌==◌, List, [], ◌++◌, length}
+use Rattle.std.specs.Prelude.{◌≡◌, ℕ, Bool, true, false, [], ◌++◌, length}
 use Rattle.std.specs.List.{AllByRecursion}
 use Rattle.gql_plain.specs.Order.{has_text}
 use Rattle.later_lines.specs.Alike.{AreAlike, StepsAlike, dropped_ids, swept_state}

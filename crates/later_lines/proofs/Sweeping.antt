@@ -1,0 +1,202 @@
+-- What a sweep leaves, and where two states meet in one.
+use Rattle.std.proofs.Common.{◌≡◌, ℕ, ◌+◌, Bool, true, false, true≢false, not, ◌&&◌, ◌||◌, ◌==◌, cond, List, [], ◌∷◌, ◌++◌, map, drop, length, take, Option, Some, None, is_some, bytes_eq, codes, arith, refl, sym, ap, subst, ◌∙◌}
+use Rattle.std.proofs.Math.Seq.{take-length, drop-length}
+use Rattle.std.proofs.lemmas.List.{append-nil}
+use Rattle.std.proofs.lemmas.Map.Text.{is_eq-slice_cmp}
+use Rattle.std.proofs.lemmas.Map.Views.{any-filter_same}
+use Rattle.std.proofs.lemmas.Slice.Eq.{bytes_eq-Decides}
+use Rattle.std.specs.Cmp.Lexicographic.{slice_cmp, nat_list_cmp_total, nat_list_eq_equiv}
+use Rattle.std.specs.FinMap.{IsAntisymmetric, keys, contains_key-keys, get-retain_keys, same_map, slice_cmp-IsAntisymmetric, nat_cmp-IsAntisymmetric}
+use Rattle.std.specs.List.{list_any}
+use Rattle.std.specs.Ordering.{eq_by_cmp, nat_cmp}
+use Rattle.gql_plain.specs.Order.{has_text}
+use Rattle.gql_plain.specs.ToJson.{compact}
+use Rattle.gql_plain.specs.Tree.{Tree, truth, text, list, trees_of}
+use Rattle.later_lines.proofs.AlikeReads.{SameElsewhere}
+use Rattle.later_lines.proofs.AlikeSteps.{other_is}
+use Rattle.later_lines.specs.Alike.{dropped_ids, swept_state}
+use Rattle.later_lines.specs.Laws.{MeetAgain, QuietSweepsAddNothing, SweepsLeaveAlike, SweepsMeet}
+use Rattle.plan_ir.specs.Expansion as plans
+use Rattle.relay_machine.specs.Effects.{layer_entries}
+use Rattle.relay_machine.specs.Machine.{Confirmation, swept, Project, Retained, State, Watch, accept, base, confirm_one, documents_of, fold_confirmed, is_changed, is_reached, noticed, notices_of, read_again, retained, shown_by, slots_of, started, step_line, sweep_base, sweep_of, view, with_entries, with_watches}
+use Rattle.relay_machine.specs.Printed.{collect_line, in_order, line, notice_line, number}
+use Rattle.relay_model.specs.Collection.{collect, part_of}
+use Rattle.relay_model.specs.Reaches.{operation_reaches, whole_depth}
+use Rattle.relay_model.specs.Readings.{no_place}
+use Rattle.relay_model.specs.Responses.{whole_setting}
+use Rattle.schema_tables.specs.Types.{Text, root}
+use Rattle.store_model.proofs.Least.{In, each_from}
+use Rattle.store_model.proofs.SameReach.{reach_same}
+use Rattle.store_model.specs.Entries.{fold_entries}
+use Rattle.store_model.specs.Events as e
+use Rattle.store_model.specs.Records.{Records, no_records, slot_at}
+use Rattle.store_model.specs.Sweeps.{dropped, sweep}
+use Rattle.store_model.specs.Walks.{Reading, shown_object, type_of_record}
+use Rattle.store_record.specs.Keys as keys_of
+use Rattle.store_record.specs.declared.record.Slot.{Slot}
+
+-- ---- slots
+
+ties_alone : IsAntisymmetric (slice_cmp nat_cmp)
+ties_alone = slice_cmp-IsAntisymmetric nat_cmp-IsAntisymmetric
+
+tied : (id q : Text) → eq_by_cmp (slice_cmp nat_cmp) q id ≡ bytes_eq id q
+tied id q = is_eq-slice_cmp q id ∙ nat_list_eq_equiv.symm q id
+
+slot_at-sweep : (keep : Text → Bool) (m : Records) (id : Text) → slot_at id (sweep keep m) ≡ cond (keep id) (slot_at id m) None
+slot_at-sweep keep m id = get-retain_keys m keep id (λ x e. ap keep (sym (ties_alone id x e)))
+
+-- an id goes exactly if it is there and not kept
+has_text-dropped : (keep : Text → Bool) (m : Records) (id : Text) → has_text (dropped keep m) id ≡ (not (keep id) && is_some (slot_at id m))
+has_text-dropped keep m id =
+    any-filter_same (λ one. bytes_eq one id) (λ one. not (keep one)) (not (keep id)) (λ one e. ap (λ t. not (keep t)) ((bytes_eq-Decides one id).0 e)) (keys m)
+    ∙ ap (λ b. not (keep id) && b) (ap (λ test. list_any test (keys m)) (λ i one. sym (tied one id) i) ∙ sym (contains_key-keys m id))
+
+kept_or_absent : (b : Bool) (s : Option Slot) → (not b && is_some s) ≡ false → s ≡ cond b s None
+kept_or_absent true s h = refl
+kept_or_absent false None h = refl
+kept_or_absent false (Some s) h = absurd (true≢false h)
+
+-- the slots are the same at each id that does not go
+same_swept : (keep : Text → Bool) (m : Records) (id : Text) → has_text (dropped keep m) id ≡ false → slot_at id m ≡ slot_at id (sweep keep m)
+same_swept keep m id h = kept_or_absent (keep id) (slot_at id m) (sym (has_text-dropped keep m id) ∙ h) ∙ sym (slot_at-sweep keep m id)
+
+confirmed_after : (p : Project) (cs : List Confirmation) (c : Confirmation) (m : Records) → fold_confirmed p (cs ++ c ∷ []) m ≡ confirm_one p c (fold_confirmed p cs m)
+confirmed_after p [] c m = refl
+confirmed_after p (x ∷ cs) c m = confirmed_after p cs c (confirm_one p x m)
+
+-- ---- a sweep added
+
+pub sweeps_alike : SweepsLeaveAlike
+sweeps_alike p buffer s = record {
+  layers = refl;
+  handles = refl;
+  released = refl;
+  watches = refl;
+  bases = λ id h. same_swept (is_reached p (retained buffer s) (base p s)) (base p s) id h ∙ sym (ap (slot_at id) (confirmed_after p s.entries (swept (retained buffer s)) no_records));
+}
+
+-- ---- no notice
+
+ended : (xs ys : Text) → xs ++ 10 ∷ [] ++ ys ≡ [] → false ≡ true
+ended [] ys h = absurd (let long : length (10 ∷ ys) ≡ 0 = ap length h in omega (arith, long))
+ended (x ∷ xs) ys h = absurd (let long : length (x ∷ xs ++ 10 ∷ [] ++ ys) ≡ 0 = ap length h in omega (arith, long))
+
+ended_line : (members : List (Text × Tree)) (ys : Text) → line members ++ ys ≡ [] → false ≡ true
+ended_line members ys h = ended (compact (shown_object (in_order members))) ys h
+
+ended_notice : (n : ℕ) (name : Text) (r : Reading) (ys : Text) → notice_line n name r ++ ys ≡ [] → false ≡ true
+ended_notice n name r ys h =
+    ended_line ((codes "data", r.value) ∷ (codes "missing", truth r.missing) ∷ (codes "n", number n) ∷ (codes "notice", text name) ∷ (codes "seen", list (trees_of (map text r.seen))) ∷ []) ys h
+
+-- where none is told, each watch stays as it is
+none_told : (p : Project) (m : Records) (n : ℕ) (ws : List Watch) → notices_of p m n ws ≡ [] → map (read_again p m) ws ≡ ws
+none_told p m n [] h = refl
+none_told p m n (w ∷ ws) h =
+    let r = shown_by p m w in
+    elim (is_changed w r) as (λ b. cond b (notice_line n w.name r) [] ++ notices_of p m n ws ≡ [] → cond b (started w.name w.handle w.part r) w ∷ map (read_again p m) ws ≡ w ∷ ws) [
+      | true ↦ λ told. absurd (true≢false (sym (ended_notice n w.name r (notices_of p m n ws) told)))
+      | false ↦ λ rest. ap (λ vs. w ∷ vs) (none_told p m n ws rest)
+    ] h
+
+pub quiet_sweeps : QuietSweepsAddNothing
+quiet_sweeps p buffer s n now none =
+    let ws = s.watches in
+    let v = view p (swept_state buffer s) in
+    let same : map (read_again p v) (take (length ws) ws) ++ drop (length ws) ws ≡ ws
+    = (λ i. map (read_again p v) (take-length ws i) ++ drop-length ws i) ∙ append-nil (map (read_again p v) ws) ∙ none_told p v n ws none in
+    subst (λ b. (noticed p n (length ws) (cond b (sweep_base p buffer s n) (accept (collect_line n 0 true) s))).state ≡ swept_state buffer s) (sym now)
+    (ap (λ vs. with_watches vs (swept_state buffer s)) same)
+
+-- ---- reaches
+
+left_false : (a b : Bool) → (a || b) ≡ false → a ≡ false
+left_false true b h = absurd (true≢false h)
+left_false false b h = refl
+
+right_false : (a b : Bool) → (a || b) ≡ false → b ≡ false
+right_false true b h = absurd (true≢false h)
+right_false false b h = h
+
+where_kept : (kept d : Bool) (x y : Option Slot) → (d ≡ true → kept ≡ false) → (d ≡ false → x ≡ y) → cond kept x None ≡ cond kept y None
+where_kept true true x y out same = absurd (true≢false (out refl))
+where_kept true false x y out same = same refl
+where_kept false d x y out same = refl
+
+module _ (p : Project) (D : Text → Bool) (m n : Records) (same : SameElsewhere D m n) where
+  -- what one operation reaches
+  abbrev reach_of : Records → Retained → List Text
+  reach_of k r = operation_reaches (documents_of p) no_place r.operation r.values (slots_of k) keys_of.root
+
+  same_at : (r : Retained) (id : Text) → ((id : Text) → D id ≡ true → has_text (reach_of m r) id ≡ false) → In id (reach_of m r) → slots_of m id ≡ slots_of n id
+  same_at r id out is_in =
+      elim (D id) as (λ d. D id ≡ d → slots_of m id ≡ slots_of n id) [
+        | true ↦ λ h. absurd (true≢false (sym is_in ∙ out id h))
+        | false ↦ λ h. same id h
+      ] refl
+
+  reach_alike : (r : Retained) → ((id : Text) → D id ≡ true → has_text (reach_of m r) id ≡ false) → reach_of n r ≡ reach_of m r
+  reach_alike r out =
+      let w = whole_setting (documents_of p) no_place r.values in
+      let part = part_of w r.operation in
+      let T = plans.name_or (root (documents_of p).defs r.operation.kind) in
+      reach_same (collect w) (type_of_record T) (slots_of m) (slots_of n) (whole_depth part.spreads w part.selections + 1) (T ∷ []) (part ∷ []) keys_of.root
+      (each_from (λ j. slots_of m j ≡ slots_of n j) (reach_of m r) (λ id is_in. same_at r id out is_in))
+
+  reached_alike : (rs : List Retained) → ((id : Text) → D id ≡ true → is_reached p rs m id ≡ false) → (id : Text) → is_reached p rs n id ≡ is_reached p rs m id
+  reached_alike [] out id = refl
+  reached_alike (r ∷ rs) out id =
+      let first = reach_alike r (λ j h. left_false (has_text (reach_of m r) j) (is_reached p rs m j) (out j h)) in
+      let rest = reached_alike rs (λ j h. right_false (has_text (reach_of m r) j) (is_reached p rs m j) (out j h)) id in
+      λ i. has_text (first i) id || rest i
+
+  -- both maps are swept to the same
+  swept_same : (rs : List Retained) → ((id : Text) → D id ≡ true → is_reached p rs m id ≡ false) → sweep_of p rs m ≡ sweep_of p rs n
+  swept_same rs out = same_map nat_list_cmp_total ties_alone (sweep_of p rs m) (sweep_of p rs n) (λ id.
+      slot_at-sweep (is_reached p rs m) m id
+      ∙ where_kept (is_reached p rs m id) (D id) (slot_at id m) (slot_at id n) (out id) (same id)
+      ∙ ap (λ b. cond b (slot_at id n) None) (sym (reached_alike rs out id))
+      ∙ sym (slot_at-sweep (is_reached p rs n) n id))
+
+-- ---- meeting again
+
+module _ (p : Project) (buffer : ℕ) (D : Text → Bool) (s : State) (es : List Confirmation) (n : ℕ) (same : SameElsewhere D (base p s) (fold_confirmed p es no_records))
+    (out : (id : Text) → D id ≡ true → is_reached p (retained buffer s) (base p s) id ≡ false) where
+  abbrev other : State
+  other = with_entries es s
+
+  bases_same : base p (swept_state buffer s) ≡ base p (swept_state buffer other)
+  bases_same =
+      confirmed_after p s.entries (swept (retained buffer s)) no_records ∙ swept_same p D (base p s) (fold_confirmed p es no_records) same (retained buffer s) out
+      ∙ sym (confirmed_after p es (swept (retained buffer s)) no_records)
+
+  abbrev view_on : Records → Records
+  view_on m = fold_entries (layer_entries s) m
+
+  meet_now : (b : Bool) → b ≡ true
+      → MeetAgain p n (length (dropped_ids p buffer s)) (length (dropped_ids p buffer other)) (noticed p n (length s.watches) (cond b (sweep_base p buffer s n) (accept (collect_line n 0 true) s)))
+      (noticed p n (length s.watches) (cond b (sweep_base p buffer other n) (accept (collect_line n 0 true) other)))
+  meet_now false now = absurd (true≢false (sym now))
+  meet_now true now =
+      let earlier = length s.watches in
+      record {
+        texts = (
+          notices_of p (view p (swept_state buffer s)) n (take earlier s.watches),
+          refl,
+          ap (λ m. collect_line n (length (dropped_ids p buffer other)) false ++ notices_of p (view_on m) n (take earlier s.watches)) (sym bases_same),
+        );
+        refused = refl;
+        bases = bases_same;
+        states = record {
+          layers = refl;
+          handles = refl;
+          released = refl;
+          watches = ap (λ m. map (read_again p (view_on m)) (take earlier s.watches) ++ drop earlier s.watches) bases_same;
+          bases = λ id h. ap (slot_at id) bases_same;
+        };
+      }
+
+pub sweeps_meet_again : SweepsMeet
+sweeps_meet_again p buffer D s t n alike now out =
+    subst (λ x. MeetAgain p n (length (dropped_ids p buffer s)) (length (dropped_ids p buffer x)) (step_line p buffer s n (e.event e.collect)) (step_line p buffer x n (e.event e.collect))) (other_is p D s t alike)
+    (meet_now p buffer D s t.entries n alike.bases out (length s.layers == 0) now)
