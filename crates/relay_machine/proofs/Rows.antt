@@ -1,8 +1,8 @@
 -- Worked rows, computed from the definitions: lines that scripts give on the schema of a small product.
-use Rattle.std.proofs.Common.{◌≡◌, refl, ℕ, List, [], ◌∷◌, Option, Some, None, codes, true, false}
+use Rattle.std.proofs.Common.{◌≡◌, refl, ℕ, List, [], ◌∷◌, Option, Some, None, codes, true}
 use Rattle.std.specs.FinMap.{gets}
 use Rattle.std.specs.Fmt.{digits}
-use Rattle.std.specs.Prelude.{pos, cond, bytes_eq}
+use Rattle.std.specs.Prelude.{cond, bytes_eq}
 use Rattle.gql_ast.specs.Sels as sels
 use Rattle.gql_ast.specs.Sels.{Sels}
 use Rattle.gql_ast.specs.Ty as ty
@@ -21,7 +21,7 @@ use Rattle.gql_lex.specs.Heads.{head}
 use Rattle.gql_lex.specs.Sources.{read as read_text}
 use Rattle.gql_plain.specs.Tree as t
 use Rattle.plan_ir.specs.Expansion.{operation_named}
-use Rattle.gql_plain.specs.declared.plain.Plain.TheVariants.{Null, Int, Text as Words}
+use Rattle.gql_plain.specs.declared.plain.Plain.TheVariants.{Text as Words}
 use Rattle.relay_machine.specs.Machine.{Handle, Project, State, Step, Watch, accept, beginning, confirmed, definitions_in, documents_of, refuse, slots_of, step_event, step_line, view}
 use Rattle.relay_machine.specs.Printed.{notice_line, read_line}
 use Rattle.relay_machine.specs.Refusals.{handles, layers, watches, too_many}
@@ -31,13 +31,12 @@ use Rattle.schema_types.specs.NameRules.{operations}
 use Rattle.schema_types.specs.Sites.{OperationAt}
 use Rattle.serde_json.proofs.OnLiterals.{serde_json_on_literals}
 use Rattle.serde_json.specs.Data as J
-use Rattle.store_model.specs.Events.{Answer, Event, retain, release, payload, update, begin, finish, revert, read, watch, unwatch, collect, Line, event, too_long, not_json, no_event, no_commands}
-use Rattle.store_model.specs.declared.command.Command.{Command}
+use Rattle.store_model.specs.Events.{Event, retain, release, payload, update, begin, finish, revert, read, watch, unwatch, collect, too_long, not_json, no_event, no_commands}
 use Rattle.store_model.specs.declared.command.Command.TheVariants as C
 use Rattle.store_model.specs.declared.entry.Entry.{Entry}
 use Rattle.store_model.specs.declared.facts.Fact.{Fact}
 use Rattle.store_record.specs.declared.field.Field.{Field}
-use Rattle.store_record.specs.declared.field.Field.TheVariants.{Leaf, Link, Links}
+use Rattle.store_record.specs.declared.field.Field.TheVariants.{Leaf, Link}
 use Rattle.store_record.specs.declared.record.Slot.{Slot}
 use Rattle.store_record.specs.declared.record.Slot.TheVariants.{Alive}
 use Rattle.store_model.specs.Walks.{Reading, Slots, reading}

@@ -1,6 +1,6 @@
 -- The machine: at each line it folds what was confirmed, entries and sweeps, and then the live layers into fresh records, and reads them along
 -- the documents.
-use Rattle.std.specs.Prelude.{ℕ, ◌+◌, ◌-◌, List, [], ◌∷◌, ◌++◌, map, drop, length, take, Bool, true, false, not, ◌&&◌, ◌||◌, ◌==◌, cond, codes, bytes_eq, nat_lt, Option, Some, None, is_some, option_and_then}
+use Rattle.std.specs.Prelude.{ℕ, ◌+◌, ◌-◌, List, [], ◌∷◌, ◌++◌, map, drop, length, take, Bool, true, false, not, ◌&&◌, ◌||◌, ◌==◌, cond, codes, bytes_eq, Option, Some, None, is_some}
 use Rattle.std.specs.Bool.{beq}
 use Rattle.std.specs.List.{filter, list_any}
 use Rattle.gql_ast.specs.Value.{Val}
@@ -11,7 +11,7 @@ use Rattle.plan_ir.specs.Expansion as plans
 use Rattle.plan_ir.specs.Expansion.{operation_named, variable_trees}
 use Rattle.relay_dirs.specs.Locals.{Local, locals_of}
 use Rattle.relay_machine.specs.Printed.{collect_line, event_line, notice_line, read_line, refusal_line, watch_line}
-use Rattle.relay_machine.specs.Refusals.{Refusal, not_json, event_shape, update_shape, line_too_long, unknown_operation, unknown_fragment, unknown_handle, handle_taken, handle_in_use, unknown_layer, layer_taken, unknown_watch, watch_taken, unknown_type, variables, payload, too_many, Limited, handles, layers, watches, most}
+use Rattle.relay_machine.specs.Refusals.{Refusal, not_json, event_shape, update_shape, line_too_long, unknown_operation, unknown_fragment, unknown_handle, handle_taken, handle_in_use, unknown_layer, layer_taken, unknown_watch, watch_taken, unknown_type, variables, payload, too_many, handles, layers, watches, most}
 use Rattle.relay_model.specs.Readings.{fragment_reads, no_place, operation_reads}
 use Rattle.relay_model.specs.Reaches.{operation_reaches}
 use Rattle.relay_model.specs.Responses.{operation_says}

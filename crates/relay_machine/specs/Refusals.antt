@@ -3,7 +3,6 @@ use Rattle.std.specs.Prelude.{ℕ, List, [], ◌∷◌, map, codes, pos, Option,
 use Rattle.gql_plain.specs.Shown.{tree_of}
 use Rattle.gql_plain.specs.Tree.{Tree, null, text, whole, list, object, trees_of, members_of}
 use Rattle.schema_types.specs.Environments.{Failure, missing, unfit}
-use Rattle.store_model.specs.Verdicts.{number_of}
 use Rattle.store_model.specs.declared.payload_fault.Cause.{Cause}
 use Rattle.store_model.specs.declared.payload_fault.Cause.TheVariants.{NoData, Shape, NotWhole, IdShape, ReservedId, Typename, Conflict}
 use Rattle.store_model.specs.declared.payload_fault.PathStep.{PathStep}
