@@ -1,5 +1,5 @@
 -- The reads of a retained operation, and of the pointers that it gives (this project's own).
-use Rattle.std.specs.Prelude.{◌≡◌, ℕ, List, [], Option, Some, None}
+use Rattle.std.specs.Prelude.{◌≡◌, ℕ, List, Option, Some, None}
 use Rattle.std.specs.List.{AllByRecursion}
 use Rattle.plan_ir.specs.Expansion.{name_or, operation_named}
 use Rattle.relay_machine.specs.Machine.{Project, Retained, definitions_in, documents_of, slots_of}

@@ -1,0 +1,134 @@
+-- Environments that give the same to each Name, as names of documents are, and what is the same in them.
+use Rattle.std.proofs.Common.{◌≡◌, Bool, true, false, not, ◌&&◌, ◌||◌, cond, List, [], ◌∷◌, ◌++◌, codes, Option, Some, None, bytes_eq, refl, sym, ap, ◌∙◌}
+use Rattle.std.specs.List.{AllByRecursion}
+use Rattle.std.specs.Option.{IfSome}
+use Rattle.gql_ast.specs.Value as v
+use Rattle.gql_ast.specs.Value.{Val, Vals, Members, members_of}
+use Rattle.gql_ast.specs.declared.directive.Directive.{Directive}
+use Rattle.gql_graph.specs.Rules.{each}
+use Rattle.gql_plain.specs.Order.{member_at}
+use Rattle.gql_plain.specs.Tree as t
+use Rattle.gql_plain.specs.Tree.{Tree}
+use Rattle.gql_syntax.specs.Words.{IsName}
+use Rattle.plan_ir.specs.Substitution.{Arguments, arguments_in}
+use Rattle.plan_project.proofs.SoundNodes.{SoundLocal}
+use Rattle.plan_project.proofs.SoundTrees.{SoundArguments, SoundDirective, SoundDirectives, SoundMembers, SoundValue, SoundValues}
+use Rattle.plan_text.proofs.Evaluating.{found-with_pair}
+use Rattle.plan_text.specs.Collecting.{environment_inside, is_left_out, leaves_out, local_value, with_locals}
+use Rattle.relay_dirs.specs.Connections.{value_of_name}
+use Rattle.relay_dirs.specs.Locals.{Local, locals_of}
+use Rattle.schema_tables.specs.Types.{Text}
+use Rattle.schema_types.specs.Environments.{Values, arguments_in_environment, evaluation, is_true, items_evaluated, or_null, pairs_evaluated, value_in, with_new_pair, with_pair}
+use Rattle.schema_types.specs.Sites.{FragmentAt}
+
+-- the same value under each Name
+abbrev pub Agree : (env other : Values) → Type 0
+Agree env other = (n : Text) → IsName n → member_at env n ≡ member_at other n
+
+-- ---- values of documents
+
+module _ (env other : Values) (agree : Agree env other) where
+  mutual
+    value_same : (x : Val) → SoundValue x → evaluation env x ≡ evaluation other x
+    value_same (v.variable n) h = ap or_null (agree n h)
+    value_same (v.int z) h = refl
+    value_same (v.text s) h = refl
+    value_same (v.truth b) h = refl
+    value_same v.null h = refl
+    value_same (v.enum n) h = refl
+    value_same (v.list xs) h = ap t.list (items_same xs h)
+    value_same (v.object ms) h = ap (λ (ps : Values). t.object (t.members_of ps)) (members_same ms h)
+
+    items_same : (xs : Vals) → SoundValues xs → items_evaluated env xs ≡ items_evaluated other xs
+    items_same v.no_vals h = refl
+    items_same (v.val x xs) h =
+        let first = value_same x h.0 in
+        let rest = items_same xs h.1 in
+        λ i. t.tree (first i) (rest i)
+
+    members_same : (ms : Members) → SoundMembers ms → pairs_evaluated env ms ≡ pairs_evaluated other ms
+    members_same v.no_members h = refl
+    members_same (v.member n x ms) h =
+        let first = value_same x h.1 in
+        let rest = members_same ms h.2 in
+        λ i. with_new_pair n (first i) (rest i)
+
+  pub arguments_same : (xs : Arguments) → SoundArguments xs → arguments_in_environment env xs ≡ arguments_in_environment other xs
+  arguments_same [] h = refl
+  arguments_same (x ∷ xs) h =
+      let first = value_same x.1 h.0.1 in
+      let rest = arguments_same xs h.1 in
+      λ i. with_new_pair x.0 (first i) (rest i)
+
+  leaves_same : (d : Directive) → SoundDirective d → leaves_out env d ≡ leaves_out other d
+  leaves_same d h =
+      ap
+      (λ (ys : Values). (bytes_eq d.name (codes "skip") && is_true (value_in ys (codes "if"))) || (bytes_eq d.name (codes "include") && not (is_true (value_in ys (codes "if")))))
+      (arguments_same d.arguments h.1)
+
+  pub left_same : (ds : List Directive) → SoundDirectives ds → is_left_out env ds ≡ is_left_out other ds
+  left_same [] h = refl
+  left_same (d ∷ ds) h =
+      let first = leaves_same d h.0 in
+      let rest = left_same ds h.1 in
+      λ i. first i || rest i
+
+-- ---- what a spread gives
+
+appended : (xs ys : Arguments) → SoundArguments xs → SoundArguments ys → SoundArguments (xs ++ ys)
+appended [] ys h k = k
+appended (x ∷ xs) ys h k = (h.0, appended xs ys h.1 k)
+
+given_by : (b : Bool) (xs : Arguments) → SoundArguments xs → SoundArguments (cond b xs [])
+given_by true xs h = h
+given_by false xs h = tt
+
+given_in : (ds : List Directive) → SoundDirectives ds → SoundArguments (each arguments_in ds)
+given_in [] h = tt
+given_in (d ∷ ds) h =
+    appended (arguments_in d) (each arguments_in ds) (given_by (bytes_eq d.name (codes "arguments")) d.arguments h.0.1) (given_in ds h.1)
+
+value_found : (xs : Arguments) (n : Text) → SoundArguments xs → IfSome (value_of_name xs n) SoundValue
+value_found [] n h = tt
+value_found (x ∷ xs) n h = on (value_found xs n h.1) (bytes_eq x.0 n)
+  where
+    on : IfSome (value_of_name xs n) SoundValue → (b : Bool) → IfSome (cond b (Some x.1) (value_of_name xs n)) SoundValue
+    on more true = h.0.1
+    on more false = more
+
+module _ (own other env around : Values) (owns : Agree own other) (agree : Agree env around) where
+  local_same : (given default : Option Val) → IfSome given SoundValue → IfSome default SoundValue → local_value own env given default ≡ local_value other around given default
+  local_same (Some x) d h k = value_same env around agree x h
+  local_same None (Some d) h k = value_same own other owns d k
+  local_same None None h k = refl
+
+  module _ (given : Arguments) (sound : SoundArguments given) where
+    each_same : (l : Local) → SoundLocal l → local_value own env (value_of_name given l.name) l.default ≡ local_value other around (value_of_name given l.name) l.default
+    each_same l h = local_same (value_of_name given l.name) l.default (value_found given l.name sound) h
+
+    locals_agree : (ls : List Local) → AllByRecursion SoundLocal ls → Agree (with_locals own env given ls) (with_locals other around given ls)
+    locals_agree [] h = owns
+    locals_agree (l ∷ ls) h = λ n i.
+        let first = each_same l h.0 in
+        let rest = locals_agree ls h.1 n i in
+        found-with_pair l.name (local_value own env (value_of_name given l.name) l.default) (with_locals own env given ls) n
+        ∙ (λ j. cond (bytes_eq l.name n) (Some (first j)) (rest j))
+        ∙ sym (found-with_pair l.name (local_value other around (value_of_name given l.name) l.default) (with_locals other around given ls) n)
+
+-- inside the fragment of a spread the environments still agree
+pub inside_agree : (own other env around : Values) → Agree own other → Agree env around → (ds : List Directive) → SoundDirectives ds → (f : FragmentAt) → AllByRecursion SoundLocal (locals_of f.directives)
+    → Agree (environment_inside own env ds f) (environment_inside other around ds f)
+inside_agree own other env around owns agree ds h f k = locals_agree own other env around owns agree (each arguments_in ds) (given_in ds h) (locals_of f.directives) k
+
+scope_same_from : (env around : Values) → Agree env around → (given : Arguments) → SoundArguments given → (ls : List Local) → AllByRecursion SoundLocal ls
+    → with_locals [] env given ls ≡ with_locals [] around given ls
+scope_same_from env around agree given sound [] h = refl
+scope_same_from env around agree given sound (l ∷ ls) h =
+    let first = each_same [] [] env around (λ n i. refl) agree given sound l h.0 in
+    let rest = scope_same_from env around agree given sound ls h.1 in
+    λ j. with_pair l.name (first j) (rest j)
+
+-- and the values of the local variables are the same
+pub scope_same : (env around : Values) → Agree env around → (ds : List Directive) → SoundDirectives ds → (ls : List Local) → AllByRecursion SoundLocal ls
+    → with_locals [] env (each arguments_in ds) ls ≡ with_locals [] around (each arguments_in ds) ls
+scope_same env around agree ds h ls k = scope_same_from env around agree (each arguments_in ds) (given_in ds h) ls k

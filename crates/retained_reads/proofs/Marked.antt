@@ -1,0 +1,120 @@
+-- No Name is marked. So the environment of a fragment that is read by itself gives each Name what the environment gives in which the fragment
+-- is entered.
+use Rattle.std.proofs.Common.{◌≡◌, Bool, true, false, true≢false, cond, List, [], ◌∷◌, ◌++◌, codes, Option, Some, None, bytes_eq, refl, sym, ap, ◌∙◌}
+use Rattle.std.proofs.lemmas.Slice.Eq.{bytes_eq-Decides}
+use Rattle.gql_ast.specs.Value as v
+use Rattle.gql_ast.specs.Value.{Val, Vals, Members}
+use Rattle.gql_ast.specs.declared.directive.Directive.{Directive}
+use Rattle.gql_graph.specs.Rules.{each}
+use Rattle.gql_plain.specs.Names.{is_name}
+use Rattle.gql_plain.specs.Order.{member_at}
+use Rattle.gql_plain.specs.Tree as t
+use Rattle.gql_plain.specs.Tree.{Tree}
+use Rattle.gql_syntax.specs.Words.{IsName}
+use Rattle.plan_build.proofs.CovarianceLists.{first_true, then_true}
+use Rattle.plan_ir.specs.Substitution.{Arguments, arguments_in}
+use Rattle.plan_read.proofs.KnownDocuments.{HaveConstants, IsConstant}
+use Rattle.plan_text.proofs.Evaluating.{found-with_pair}
+use Rattle.plan_text.specs.Collecting.{environment_inside, local_value, with_locals}
+use Rattle.relay_dirs.specs.Connections.{value_of_name}
+use Rattle.relay_dirs.specs.Locals.{Local, locals_of}
+use Rattle.relay_model.specs.Readings.{shadowed_by, with_marked}
+use Rattle.retained_reads.proofs.Agreeing.{Agree}
+use Rattle.schema_tables.specs.Types.{Text}
+use Rattle.schema_types.specs.Environments.{Values, evaluation, items_evaluated, pairs_evaluated, with_new_pair}
+use Rattle.schema_types.specs.Sites.{FragmentAt}
+use Rattle.schema_values.specs.Fittings.{are_constant, have_constants, is_constant}
+
+-- ---- a constant is the same in each environment
+
+mutual
+  constant_value : (env other : Values) (x : Val) → is_constant x ≡ true → evaluation env x ≡ evaluation other x
+  constant_value env other (v.variable n) e = absurd (true≢false (sym e))
+  constant_value env other (v.int z) e = refl
+  constant_value env other (v.text s) e = refl
+  constant_value env other (v.truth b) e = refl
+  constant_value env other v.null e = refl
+  constant_value env other (v.enum n) e = refl
+  constant_value env other (v.list xs) e = ap t.list (constant_items env other xs e)
+  constant_value env other (v.object ms) e = ap (λ (ps : Values). t.object (t.members_of ps)) (constant_members env other ms e)
+
+  constant_items : (env other : Values) (xs : Vals) → are_constant xs ≡ true → items_evaluated env xs ≡ items_evaluated other xs
+  constant_items env other v.no_vals e = refl
+  constant_items env other (v.val x xs) e =
+      let first = constant_value env other x (first_true (is_constant x) (are_constant xs) e) in
+      let rest = constant_items env other xs (then_true (is_constant x) (are_constant xs) e) in
+      λ i. t.tree (first i) (rest i)
+
+  constant_members : (env other : Values) (ms : Members) → have_constants ms ≡ true → pairs_evaluated env ms ≡ pairs_evaluated other ms
+  constant_members env other v.no_members e = refl
+  constant_members env other (v.member n x ms) e =
+      let first = constant_value env other x (first_true (is_constant x) (have_constants ms) e) in
+      let rest = constant_members env other ms (then_true (is_constant x) (have_constants ms) e) in
+      λ i. with_new_pair n (first i) (rest i)
+
+-- ---- names
+
+not_marked : (m n : Text) → IsName n → bytes_eq (codes ":" ++ m) n ≡ false
+not_marked m n i = on (bytes_eq (codes ":" ++ m) n) refl
+  where
+    on : (b : Bool) → bytes_eq (codes ":" ++ m) n ≡ b → b ≡ false
+    on true e = absurd (true≢false (sym i ∙ sym (ap is_name ((bytes_eq-Decides (codes ":" ++ m) n).0 e))))
+    on false e = refl
+
+abbrev or_else : Option Tree → Option Tree → Option Tree
+or_else (Some x) o = Some x
+or_else None o = o
+
+-- what is put shadows what was there
+found_shadowed : (own scope : Values) (n : Text) → member_at (shadowed_by own scope) n ≡ or_else (member_at scope n) (member_at own n)
+found_shadowed own [] n = refl
+found_shadowed own (x ∷ xs) n = found-with_pair x.0 x.1 (shadowed_by own xs) n ∙ on (bytes_eq x.0 n) (found_shadowed own xs n)
+  where
+    on : (b : Bool) → member_at (shadowed_by own xs) n ≡ or_else (member_at xs n) (member_at own n)
+        → cond b (Some x.1) (member_at (shadowed_by own xs) n) ≡ or_else (cond b (Some x.1) (member_at xs n)) (member_at own n)
+    on true rest = refl
+    on false rest = rest
+
+-- marked names change nothing for Names
+pub marked_agrees : (own scope : Values) → Agree own (with_marked own scope)
+marked_agrees own [] n i = refl
+marked_agrees own (x ∷ xs) n i =
+    marked_agrees own xs n i
+    ∙ sym (ap (λ b. cond b (Some x.1) (member_at (with_marked own xs) n)) (not_marked x.0 n i))
+    ∙ sym (found-with_pair (codes ":" ++ x.0) x.1 (with_marked own xs) n)
+
+-- ---- environments inside
+
+module _ (own env : Values) (given : Arguments) where
+  default_same : (given default : Option Val) → IsConstant default → local_value own env given default ≡ local_value [] env given default
+  default_same (Some x) d c = refl
+  default_same None (Some d) c = constant_value own [] d c
+  default_same None None c = refl
+
+  -- the values of local variables, and then the operation's own
+  entered : (ls : List Local) → HaveConstants ls → (n : Text) → member_at (with_locals own env given ls) n ≡ or_else (member_at (with_locals [] env given ls) n) (member_at own n)
+  entered [] c n = refl
+  entered (l ∷ ls) c n =
+      let value = default_same (value_of_name given l.name) l.default c.0 in
+      found-with_pair l.name (local_value own env (value_of_name given l.name) l.default) (with_locals own env given ls) n
+      ∙ ap (λ x. cond (bytes_eq l.name n) (Some x) (member_at (with_locals own env given ls) n)) value
+      ∙ on (bytes_eq l.name n) (entered ls c.1 n)
+      ∙ sym (ap (λ o. or_else o (member_at own n)) (found-with_pair l.name (local_value [] env (value_of_name given l.name) l.default) (with_locals [] env given ls) n))
+    where
+      on : (b : Bool) → member_at (with_locals own env given ls) n ≡ or_else (member_at (with_locals [] env given ls) n) (member_at own n)
+          → cond b (Some (local_value [] env (value_of_name given l.name) l.default)) (member_at (with_locals own env given ls) n)
+          ≡ or_else (cond b (Some (local_value [] env (value_of_name given l.name) l.default)) (member_at (with_locals [] env given ls) n)) (member_at own n)
+      on true rest = refl
+      on false rest = rest
+
+-- the scope that a spread gives to a fragment
+abbrev pub scope_at : Values → List Directive → FragmentAt → Values
+scope_at env ds f = with_locals [] env (each arguments_in ds) (locals_of f.directives)
+
+-- the environment inside, and that of the fragment by itself under this scope
+pub alone_agrees : (own env : Values) (ds : List Directive) (f : FragmentAt) → HaveConstants (locals_of f.directives)
+    → Agree (environment_inside own env ds f) (shadowed_by (with_marked own (scope_at env ds f)) (scope_at env ds f))
+alone_agrees own env ds f c n i =
+    entered own env (each arguments_in ds) (locals_of f.directives) c n
+    ∙ ap (or_else (member_at (scope_at env ds f) n)) (marked_agrees own (scope_at env ds f) n i)
+    ∙ sym (found_shadowed (with_marked own (scope_at env ds f)) (scope_at env ds f) n)
