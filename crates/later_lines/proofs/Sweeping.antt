@@ -1,14 +1,9 @@
 -- What a sweep leaves, and where two states meet in one.
-use Rattle.std.proofs.Common.{◌≡◌, ℕ, ◌+◌, Bool, true, false, true≢false, not, ◌&&◌, ◌||◌, ◌==◌, cond, List, [], ◌∷◌, ◌++◌, map, drop, length, take, Option, Some, None, is_some, bytes_eq, codes, arith, refl, sym, ap, subst, ◌∙◌}
+use Rattle.std.proofs.Common.{◌≡◌, ℕ, ◌+◌, Bool, true, false, true≢false, ◌||◌, ◌==◌, cond, List, [], ◌∷◌, ◌++◌, map, drop, length, take, Option, None, codes, arith, refl, sym, ap, subst, ◌∙◌}
 use Rattle.std.proofs.Math.Seq.{take-length, drop-length}
 use Rattle.std.proofs.lemmas.List.{append-nil}
-use Rattle.std.proofs.lemmas.Map.Text.{is_eq-slice_cmp}
-use Rattle.std.proofs.lemmas.Map.Views.{any-filter_same}
-use Rattle.std.proofs.lemmas.Slice.Eq.{bytes_eq-Decides}
-use Rattle.std.specs.Cmp.Lexicographic.{slice_cmp, nat_list_cmp_total, nat_list_eq_equiv}
-use Rattle.std.specs.FinMap.{IsAntisymmetric, keys, contains_key-keys, get-retain_keys, same_map, slice_cmp-IsAntisymmetric, nat_cmp-IsAntisymmetric}
-use Rattle.std.specs.List.{list_any}
-use Rattle.std.specs.Ordering.{eq_by_cmp, nat_cmp}
+use Rattle.std.specs.Cmp.Lexicographic.{nat_list_cmp_total}
+use Rattle.std.specs.FinMap.{same_map}
 use Rattle.gql_plain.specs.Order.{has_text}
 use Rattle.gql_plain.specs.ToJson.{compact}
 use Rattle.gql_plain.specs.Tree.{Tree, truth, text, list, trees_of}
@@ -18,52 +13,22 @@ use Rattle.later_lines.specs.Alike.{dropped_ids, swept_state}
 use Rattle.later_lines.specs.Laws.{MeetAgain, QuietSweepsAddNothing, SweepsLeaveAlike, SweepsMeet}
 use Rattle.plan_ir.specs.Expansion as plans
 use Rattle.relay_machine.specs.Effects.{layer_entries}
-use Rattle.relay_machine.specs.Machine.{Confirmation, swept, Project, Retained, State, Watch, accept, base, confirm_one, documents_of, fold_confirmed, is_changed, is_reached, noticed, notices_of, read_again, retained, shown_by, slots_of, started, step_line, sweep_base, sweep_of, view, with_entries, with_watches}
+use Rattle.relay_machine.specs.Machine.{Confirmation, swept, Project, Retained, State, Watch, accept, base, documents_of, fold_confirmed, is_changed, is_reached, noticed, notices_of, read_again, retained, shown_by, slots_of, started, step_line, sweep_base, sweep_of, view, with_entries, with_watches}
 use Rattle.relay_machine.specs.Printed.{collect_line, in_order, line, notice_line, number}
 use Rattle.relay_model.specs.Collection.{collect, part_of}
 use Rattle.relay_model.specs.Reaches.{operation_reaches, whole_depth}
 use Rattle.relay_model.specs.Readings.{no_place}
 use Rattle.relay_model.specs.Responses.{whole_setting}
+use Rattle.relay_machine.proofs.Sweeps.{confirmed_after, same_swept, slot_at-sweep, ties_alone}
 use Rattle.schema_tables.specs.Types.{Text, root}
 use Rattle.store_model.proofs.Least.{In, each_from}
 use Rattle.store_model.proofs.SameReach.{reach_same}
 use Rattle.store_model.specs.Entries.{fold_entries}
 use Rattle.store_model.specs.Events as e
 use Rattle.store_model.specs.Records.{Records, no_records, slot_at}
-use Rattle.store_model.specs.Sweeps.{dropped, sweep}
 use Rattle.store_model.specs.Walks.{Reading, shown_object, type_of_record}
 use Rattle.store_record.specs.Keys as keys_of
 use Rattle.store_record.specs.declared.record.Slot.{Slot}
-
--- ---- slots
-
-ties_alone : IsAntisymmetric (slice_cmp nat_cmp)
-ties_alone = slice_cmp-IsAntisymmetric nat_cmp-IsAntisymmetric
-
-tied : (id q : Text) → eq_by_cmp (slice_cmp nat_cmp) q id ≡ bytes_eq id q
-tied id q = is_eq-slice_cmp q id ∙ nat_list_eq_equiv.symm q id
-
-slot_at-sweep : (keep : Text → Bool) (m : Records) (id : Text) → slot_at id (sweep keep m) ≡ cond (keep id) (slot_at id m) None
-slot_at-sweep keep m id = get-retain_keys m keep id (λ x e. ap keep (sym (ties_alone id x e)))
-
--- an id goes exactly if it is there and not kept
-has_text-dropped : (keep : Text → Bool) (m : Records) (id : Text) → has_text (dropped keep m) id ≡ (not (keep id) && is_some (slot_at id m))
-has_text-dropped keep m id =
-    any-filter_same (λ one. bytes_eq one id) (λ one. not (keep one)) (not (keep id)) (λ one e. ap (λ t. not (keep t)) ((bytes_eq-Decides one id).0 e)) (keys m)
-    ∙ ap (λ b. not (keep id) && b) (ap (λ test. list_any test (keys m)) (λ i one. sym (tied one id) i) ∙ sym (contains_key-keys m id))
-
-kept_or_absent : (b : Bool) (s : Option Slot) → (not b && is_some s) ≡ false → s ≡ cond b s None
-kept_or_absent true s h = refl
-kept_or_absent false None h = refl
-kept_or_absent false (Some s) h = absurd (true≢false h)
-
--- the slots are the same at each id that does not go
-same_swept : (keep : Text → Bool) (m : Records) (id : Text) → has_text (dropped keep m) id ≡ false → slot_at id m ≡ slot_at id (sweep keep m)
-same_swept keep m id h = kept_or_absent (keep id) (slot_at id m) (sym (has_text-dropped keep m id) ∙ h) ∙ sym (slot_at-sweep keep m id)
-
-confirmed_after : (p : Project) (cs : List Confirmation) (c : Confirmation) (m : Records) → fold_confirmed p (cs ++ c ∷ []) m ≡ confirm_one p c (fold_confirmed p cs m)
-confirmed_after p [] c m = refl
-confirmed_after p (x ∷ cs) c m = confirmed_after p cs c (confirm_one p x m)
 
 -- ---- a sweep added
 

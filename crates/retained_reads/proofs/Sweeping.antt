@@ -5,6 +5,7 @@ use Rattle.std.specs.List.{AllByRecursion}
 use Rattle.gql_plain.proofs.Booleans.{or_true}
 use Rattle.gql_plain.specs.Order.{has_text}
 use Rattle.plan_project.specs.Projects.{IsAcceptedProject}
+use Rattle.relay_machine.proofs.Sweeps.{slot_at-sweep}
 use Rattle.relay_machine.specs.Machine.{Project, Retained, documents_of, is_reached, slots_of, sweep_of}
 use Rattle.relay_model.specs.Reaches.{operation_reaches}
 use Rattle.relay_model.specs.Readings.{no_place}
@@ -17,9 +18,6 @@ use Rattle.store_model.proofs.Least.{each_from}
 use Rattle.store_model.specs.Records.{Records, slot_at}
 use Rattle.store_model.specs.Sweeps.{sweep}
 use Rattle.store_record.specs.Keys as keys
-
-slot_at-sweep : (keep : Text → Bool) (m : Records) (id : Text) → slot_at id (sweep keep m) ≡ cond (keep id) (slot_at id m) None
-slot_at-sweep keep m id = get-retain_keys m keep id (λ x e. ap keep (sym (slice_cmp-IsAntisymmetric nat_cmp-IsAntisymmetric id x e)))
 
 slot_stays : (keep : Text → Bool) (m : Records) (id : Text) → keep id ≡ true → slots_of m id ≡ slots_of (sweep keep m) id
 slot_stays keep m id e = sym (slot_at-sweep keep m id ∙ ap (λ b. cond b (slot_at id m) None) e)

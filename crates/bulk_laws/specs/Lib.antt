@@ -1,0 +1,2 @@
+pub mod BulkProject
+pub mod Laws
