@@ -1,5 +1,5 @@
 -- The texts of the large script are its project.
-use Rattle.std.proofs.Common.{◌≡◌, ◌+◌, ℕ, zero, suc, List, [], ◌∷◌, codes, length, take, Option, Some, None, refl, sym, ap, ◌∙◌, true, false, lit<, ltb-true, arith}
+use Rattle.std.proofs.Common.{◌≡◌, ◌+◌, ℕ, zero, suc, List, [], ◌∷◌, codes, length, take, Some, None, refl, sym, ap, ◌∙◌, true, false, lit<, ltb-true, arith}
 use Rattle.std.proofs.lemmas.Bool.{and_parts}
 use Rattle.std.proofs.lemmas.Str.{chars-IsAscii}
 use Rattle.std.specs.Fmt.{digits}

@@ -1,6 +1,6 @@
 -- What the operation of the large script finds in the responses of its lines: no fault.
-use Rattle.std.proofs.Common.{◌≡◌, ◌<◌, ◌^◌, ℕ, List, [], ◌∷◌, Option, Some, None, cond, codes, refl, lt-ltb, arith}
-use Rattle.std.specs.Fmt.{decimal, digits}
+use Rattle.std.proofs.Common.{◌≡◌, ◌<◌, ◌^◌, ℕ, [], ◌∷◌, Some, None, cond, codes, refl, lt-ltb, arith}
+use Rattle.std.specs.Fmt.{decimal}
 use Rattle.std.specs.Prelude.{bytes_eq, pos}
 use Rattle.bulk_laws.proofs.Conflicts.{AreOf, is_content}
 use Rattle.bulk_laws.proofs.ReadLines.{age_response, friend_response}

@@ -1,5 +1,5 @@
 -- What each line of the large script does to a state: it is not refused, and the handle, the watch and the layer stand as the script says.
-use Rattle.std.proofs.Common.{◌≡◌, ◌==◌, ◌++◌, ℕ, Bool, true, false, not, cond, List, [], ◌∷◌, length, take, drop, map, Option, Some, None, codes, refl, sym, ap, subst, ◌∙◌}
+use Rattle.std.proofs.Common.{◌≡◌, ◌==◌, ◌++◌, ℕ, Bool, true, false, not, cond, List, [], ◌∷◌, length, take, drop, map, Some, None, codes, refl, sym, ap, subst, ◌∙◌}
 use Rattle.std.specs.Prelude.{is_some, pos}
 use Rattle.bulk_laws.proofs.ReadLines.{begun, paid, retained, reverted, watched}
 use Rattle.plan_ir.specs.Expansion.{operation_named, variable_trees}

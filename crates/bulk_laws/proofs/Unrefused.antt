@@ -1,5 +1,5 @@
 -- No line of the large script is refused: an induction over its lines.
-use Rattle.std.proofs.Common.{◌≡◌, ◌≢◌, ◌<◌, ◌+◌, ◌%◌, ◌==◌, ◌||◌, ℕ, zero, suc, Bool, true, false, not, cond, inl, inr, refl, sym, ap, subst, ◌∙◌, ne_eqb, arith}
+use Rattle.std.proofs.Common.{◌≡◌, ◌<◌, ◌+◌, ◌%◌, ◌==◌, ◌||◌, ℕ, zero, suc, Bool, true, false, not, cond, inl, inr, refl, sym, ap, subst, ◌∙◌, ne_eqb, arith}
 use Rattle.std.proofs.lemmas.Bool.{cases_eq}
 use Rattle.bulk_laws.proofs.ReadLines.{age_line_is, age_response, begin_line_is, begun, collect_line_is, friend_line_is, friend_response, paid, retain_line_is, retained, revert_line_is, reverted, watch_line_is, watched}
 use Rattle.bulk_laws.proofs.Responses.{IsTaken, age_is_taken, bulk_at, friend_is_taken, no_variables_fail, operation_is_found}

@@ -1,5 +1,5 @@
 -- The project of the large script: what its schema and its document are, as trees.
-use Rattle.std.specs.Prelude.{ℕ, List, [], ◌∷◌, codes, Option, Some, None}
+use Rattle.std.specs.Prelude.{ℕ, List, [], ◌∷◌, codes, Some, None}
 use Rattle.gql_ast.specs.Sels.{Sels, end, field}
 use Rattle.gql_ast.specs.Ty as ty
 use Rattle.gql_ast.specs.declared.document.Definition.TheVariants as D
