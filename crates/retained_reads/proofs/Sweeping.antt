@@ -1,6 +1,5 @@
 -- A sweep keeps the slots of all ids that one of its operations reaches.
 use Rattle.std.proofs.Common.{◌≡◌, Bool, true, cond, ◌||◌, List, [], ◌∷◌, None, sym, ap, ◌∙◌}
-use Rattle.std.specs.FinMap.{get-retain_keys, slice_cmp-IsAntisymmetric, nat_cmp-IsAntisymmetric}
 use Rattle.std.specs.List.{AllByRecursion}
 use Rattle.gql_plain.proofs.Booleans.{or_true}
 use Rattle.gql_plain.specs.Order.{has_text}
