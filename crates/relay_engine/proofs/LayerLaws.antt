@@ -1,5 +1,5 @@
 -- Layers by their names, as the engine keeps them and as the machine has them.
-use Rattle.std.proofs.Common.{◌≡◌, ℕ, ◌+◌, ◌≤◌, List, [], ◌∷◌, ◌++◌, length, map, Bool, true, false, not, ◌||◌, cond, true≢false, bytes_eq, suc, refl, sym, ap, subst, ◌∙◌, arith}
+use Rattle.std.proofs.Common.{◌≡◌, ◌≤◌, List, [], ◌∷◌, ◌++◌, length, map, Bool, true, false, not, ◌||◌, cond, true≢false, bytes_eq, suc, refl, sym, ap, subst, ◌∙◌, arith}
 use Rattle.std.proofs.lemmas.List.{length-map, map-append}
 use Rattle.std.proofs.lemmas.Slice.Eq.{bytes_eq-Decides}
 use Rattle.relay_engine.proofs.Names.{bytes_eq-sym}
@@ -8,7 +8,6 @@ use Rattle.relay_machine.specs.Machine.{Layer, is_layer, without_layer}
 use Rattle.schema_tables.specs.Types.{Text}
 use Rattle.store_layers.specs.Layered as layered
 use Rattle.store_layers.specs.Layered.{above, is_live, without}
-use Rattle.store_model.specs.declared.entry.Entry.{Entry}
 
 pub first_false : (a b : Bool) → (a || b) ≡ false → a ≡ false
 first_false true b h = h

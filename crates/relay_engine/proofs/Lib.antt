@@ -1,7 +1,9 @@
 pub mod Beginnings
 mod ChangeLaws
+mod ChangeWork
 mod HandleLaws
 mod KeepingLaws
+mod LaterLaws
 mod LayerLaws
 mod LocalScopes
 mod MarkedPairs
@@ -12,6 +14,7 @@ mod PlanLaws
 mod QuietLaws
 mod ReachLaws
 mod ReleasedLaws
+mod RetainedLaws
 mod StandingLaws
 mod StepLaws
 mod SweepLaws
@@ -19,3 +22,4 @@ mod TakingLaws
 mod TargetLaws
 mod TellingLaws
 mod WatchLaws
+mod WorkLaws

@@ -5,7 +5,7 @@ use Rattle.gql_ast.specs.declared.place.Placed.{Placed}
 use Rattle.plan_ir.specs.NormalMeaning.{plan_says}
 use Rattle.plan_ir.specs.ReaderMeaning.{plan_reads}
 use Rattle.plan_ir.specs.declared.normal.NormalPlan.{NormalPlan}
-use Rattle.plan_project.specs.Lookups.{IsOperation, KeepsFragment, ReadsFragment, fragment_in, operation_in}
+use Rattle.plan_project.specs.Lookups.{IsOperation, KeepsFragment, ReadsFragment, operation_in}
 use Rattle.plan_project.specs.declared.operations.Compiled.{Compiled}
 use Rattle.plan_project.specs.declared.operations.CompiledFragment.{CompiledFragment}
 use Rattle.plan_read.specs.Laws.{AreLocals}
@@ -14,7 +14,7 @@ use Rattle.relay_engine.specs.Kept.{HandleKept}
 use Rattle.relay_engine.specs.Parts.{IsProject}
 use Rattle.relay_engine.specs.Stands.{KeepsHandle, ShowsPart}
 use Rattle.relay_machine.specs.Machine as machine
-use Rattle.relay_machine.specs.Machine.{Handle, documents_of, root_type}
+use Rattle.relay_machine.specs.Machine.{Handle, documents_of, fragment_read, operation_read, root_type}
 use Rattle.relay_model.specs.Readings.{fragment_reads, no_place, operation_reads, with_marked}
 use Rattle.relay_model.specs.Responses.{operation_says}
 use Rattle.schema_tables.specs.Types.{Text, Defs}
@@ -22,12 +22,14 @@ use Rattle.schema_types.specs.Environments.{Values, environment}
 use Rattle.schema_types.specs.Sites.{FragmentAt, OperationAt}
 use Rattle.schema_values.specs.declared.env.Env.{Env}
 use Rattle.serde_json.specs.Data as J
+use Rattle.store_model.specs.Records.{Records}
 use Rattle.store_model.specs.Verdicts.{Verdict}
 use Rattle.store_model.specs.Walks.{Slots, reading, type_of_record}
 use Rattle.store_read.specs.Reading.{slots}
 use Rattle.store_record.specs.Keys as keys
 use Rattle.store_retain.specs.declared.held.Held.{Held}
 use Rattle.store_watch.specs.Rows.{look_of}
+use Rattle.store_watch.specs.Watching.{read_of}
 use Rattle.store_watch.specs.declared.watched.Watched.{Watched}
 
 -- ---- operations
@@ -67,16 +69,17 @@ pub verdict_is_said : (parts : Defs × List (Placed Document)) (held : Held) (c 
 verdict_is_said parts held c all plan same env under response v e p h is kept =
     sym e ∙ (λ i. plan_says (under i).root (under i).values (same i).steps response) ∙ plan_says_held parts p (held_as h.name held) h c is kept all response
 
-pub operation_is_shown : (parts : Defs × List (Placed Document)) (held : Held) (c : Compiled) → IsHeld parts held.name c → (handle : Text) (what : Watched)
-    → what.handle ≡ handle → what.plan.value ≡ c.reader.value → what.types ≡ c.types → what.env.value ≡ held.env.value → what.id ≡ keys.root
-    → (p : machine.Project) (h : Handle) → IsProject parts p → KeepsHandle p (held_as handle held) h → ShowsPart p (look_of what) h None
-operation_is_shown parts held c all handle what by plan types env id p h is kept = record {
-  handle = by ∙ kept.name;
-  shows = λ m.
-      (λ i. reading (plan_reads (type_of_record (env i).root) (by i) (slots m) (env i).values (plan i).steps (types i) (id i)))
-      ∙ ap reading (plan_reads_held parts p (held_as handle held) h c is kept all handle (slots m) keys.root)
-      ∙ ap (λ (owner : Text). reading (operation_reads (documents_of p) h.operation h.values owner (slots m) keys.root)) kept.name;
-}
+module _ (parts : Defs × List (Placed Document)) (held : Held) (c : Compiled) (all : IsHeld parts held.name c) (handle : Text) (what : Watched)
+    (by : what.handle ≡ handle) (plan : what.plan.value ≡ c.reader.value) (types : what.types ≡ c.types) (env : what.env.value ≡ held.env.value) (id : what.id ≡ keys.root)
+    (p : machine.Project) (h : Handle) (is : IsProject parts p) (kept : KeepsHandle p (held_as handle held) h) where
+  pub operation_is_found : (m : Records) → read_of (slots m) (look_of what) ≡ operation_read p m h
+  operation_is_found m =
+      (λ i. plan_reads (type_of_record (env i).root) (by i) (slots m) (env i).values (plan i).steps (types i) (id i))
+      ∙ plan_reads_held parts p (held_as handle held) h c is kept all handle (slots m) keys.root
+      ∙ ap (λ (owner : Text). operation_reads (documents_of p) h.operation h.values owner (slots m) keys.root) kept.name
+
+  pub operation_is_shown : ShowsPart p (look_of what) h None
+  operation_is_shown = record { handle = by ∙ kept.name; shows = λ m. ap reading (operation_is_found m) }
 
 -- ---- fragments, in an environment that has the marked values of a scope beside the operation's own
 
@@ -89,17 +92,17 @@ plan_reads_marked p k h f n c kept keeps reads scope given are root own at_root 
     ∙ ap (λ (vs : Values). plan_reads (type_of_record (root_type p h)) owner m vs c.reader.value.steps c.types id) (marked ∙ ap (λ (vs : Values). with_marked vs scope) kept.values)
     ∙ reads.reads (root_type p h) h.values scope (subst (λ (vs : Values). AreLocals f vs) (sym are) (keeps.scopes given)) owner m id
 
-pub fragment_is_shown : (held : Held) (c : CompiledFragment) (scope : Values) (handle id : Text) (what : Watched)
-    → what.handle ≡ handle → what.plan.value ≡ c.reader.value → what.types ≡ c.types → what.env.value.root ≡ held.env.value.root
-    → what.env.value.values ≡ with_marked held.env.value.values scope → what.id ≡ id
-    → (p : machine.Project) (h : Handle) (f : FragmentAt) (n : Text) → fragment_in p.defs p.documents n ≡ Some f
-    → KeepsFragment p.defs n f c → ReadsFragment p.defs p.documents f c → KeepsHandle p (held_as handle held) h
-    → (given : Values) → scope ≡ environment c.locals given
-    → ShowsPart p (look_of what) h (Some (record { fragment = f; scope = scope; id = id }))
-fragment_is_shown held c scope handle id what by plan types root values at p h f n there keeps reads kept given are = record {
-  handle = by ∙ kept.name;
-  shows = λ m.
-      (λ i. reading (plan_reads (type_of_record what.env.value.root) (by i) (slots m) what.env.value.values (plan i).steps (types i) (at i)))
-      ∙ ap reading (plan_reads_marked p (held_as handle held) h f n c kept keeps reads scope given are what.env.value.root what.env.value.values root values handle (slots m) id)
-      ∙ ap (λ (owner : Text). reading (fragment_reads (documents_of p) f (root_type p h) h.values scope owner (slots m) id)) kept.name;
-}
+module _ (held : Held) (c : CompiledFragment) (scope : Values) (handle id : Text) (what : Watched)
+    (by : what.handle ≡ handle) (plan : what.plan.value ≡ c.reader.value) (types : what.types ≡ c.types) (root : what.env.value.root ≡ held.env.value.root)
+    (values : what.env.value.values ≡ with_marked held.env.value.values scope) (at : what.id ≡ id)
+    (p : machine.Project) (h : Handle) (f : FragmentAt) (n : Text)
+    (keeps : KeepsFragment p.defs n f c) (reads : ReadsFragment p.defs p.documents f c) (kept : KeepsHandle p (held_as handle held) h)
+    (given : Values) (are : scope ≡ environment c.locals given) where
+  pub fragment_is_found : (m : Records) → read_of (slots m) (look_of what) ≡ fragment_read p m h f scope id
+  fragment_is_found m =
+      (λ i. plan_reads (type_of_record what.env.value.root) (by i) (slots m) what.env.value.values (plan i).steps (types i) (at i))
+      ∙ plan_reads_marked p (held_as handle held) h f n c kept keeps reads scope given are what.env.value.root what.env.value.values root values handle (slots m) id
+      ∙ ap (λ (owner : Text). fragment_reads (documents_of p) f (root_type p h) h.values scope owner (slots m) id) kept.name
+
+  pub fragment_is_shown : ShowsPart p (look_of what) h (Some (record { fragment = f; scope = scope; id = id }))
+  fragment_is_shown = record { handle = by ∙ kept.name; shows = λ m. ap reading (fragment_is_found m) }

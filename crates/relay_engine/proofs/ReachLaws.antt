@@ -1,20 +1,15 @@
 -- What the operations that are held keep is what the retained operations reach.
-use Rattle.std.proofs.Common.{◌≡◌, List, [], ◌∷◌, ◌++◌, map, Bool, ◌||◌, sym, ap, subst, refl, ◌∙◌}
-use Rattle.gql_ast.specs.declared.document.Document.{Document}
-use Rattle.gql_ast.specs.declared.place.Placed.{Placed}
+use Rattle.std.proofs.Common.{◌≡◌, List, [], ◌∷◌, map, ◌||◌, ap, refl, ◌∙◌}
 use Rattle.gql_plain.specs.Order.{has_text}
-use Rattle.plan_ir.specs.Expansion.{name_or}
 use Rattle.plan_ir.specs.NormalReach.{plan_reaches}
-use Rattle.plan_project.specs.Lookups.{operation_in}
 use Rattle.relay_engine.proofs.ReleasedLaws.{all_live, both}
 use Rattle.relay_engine.specs.Handles.{handle_kept, operation_kept}
 use Rattle.relay_engine.specs.Operations.{HoldPlans, HoldsPlan}
 use Rattle.relay_engine.specs.Stands.{KeepsHandles, KeepsOperation, KeepsReleased}
-use Rattle.relay_machine.specs.Machine as machine
-use Rattle.relay_machine.specs.Machine.{Handle, Project, Retained, State, documents_of, is_reached, last_of, retained, retained_by}
+use Rattle.relay_machine.specs.Machine.{Project, Retained, State, documents_of, is_reached, last_of, retained, retained_by}
 use Rattle.relay_model.specs.Reaches.{operation_reaches}
 use Rattle.relay_model.specs.Readings.{no_place}
-use Rattle.schema_tables.specs.Types.{Text, Defs, root}
+use Rattle.schema_tables.specs.Types.{Text}
 use Rattle.schema_types.specs.Environments.{Values}
 use Rattle.store_model.specs.Records.{Records}
 use Rattle.store_model.specs.Walks.{type_of_record}

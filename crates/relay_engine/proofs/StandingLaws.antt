@@ -4,21 +4,18 @@ use Rattle.relay_engine.proofs.LayerLaws as layers
 use Rattle.relay_engine.proofs.LayerLaws.{apart_after, apart_without, layers_after, live_is, without_is}
 use Rattle.relay_engine.specs.Kept.{Kept, with_layers}
 use Rattle.relay_engine.specs.Stands.{StandsFor, StandsUntold, layer_of}
-use Rattle.relay_machine.specs.Machine.{Confirmation, Layer, Project, State, base, confirm, confirm_one, confirmed, drop_layer, fold_confirmed, is_layer, view, with_layer}
+use Rattle.relay_machine.proofs.Sweeps.{confirmed_after}
+use Rattle.relay_machine.specs.Machine.{Layer, Project, State, base, confirm, confirmed, drop_layer, is_layer, view, with_layer}
 use Rattle.schema_tables.specs.Types.{Text}
 use Rattle.store_layers.specs.Layered as layered
 use Rattle.store_layers.specs.Layered.{Layered, begun, committed, entries_of, finished, is_live, reverted, view_of}
 use Rattle.store_model.specs.Entries.{apply, fold_entries}
-use Rattle.store_model.specs.Records.{Records, no_records}
+use Rattle.store_model.specs.Records.{no_records}
 use Rattle.store_model.specs.declared.entry.Entry.{Entry}
 
 -- ---- folds
 
-pub confirmed_after : (p : Project) (cs : List Confirmation) (c : Confirmation) (m : Records) → fold_confirmed p (cs ++ c ∷ []) m ≡ confirm_one p c (fold_confirmed p cs m)
-confirmed_after p [] c m = refl
-confirmed_after p (x ∷ cs) c m = confirmed_after p cs c (confirm_one p x m)
-
-same_entries : (ls : List Layer) → entries_of (map layer_of ls) ≡ map (λ (l : Layer). l.entry) ls
+pub same_entries : (ls : List Layer) → entries_of (map layer_of ls) ≡ map (λ (l : Layer). l.entry) ls
 same_entries [] = refl
 same_entries (l ∷ ls) = ap (λ es. l.entry ∷ es) (same_entries ls)
 

@@ -1,16 +1,7 @@
 -- A sweep of the base is the machine's.
-use Rattle.std.proofs.Common.{◌≡◌, ℕ, Bool, true, false, true≢false, cond, not, ◌&&◌, List, [], ◌∷◌, ◌++◌, length, map, bytes_eq, Option, Some, None, is_some, refl, sym, ap, subst, ◌∙◌, arith}
-use Rattle.std.proofs.lemmas.Map.Text.{is_eq-slice_cmp}
-use Rattle.std.proofs.lemmas.Map.Views.{any-filter_same}
-use Rattle.std.proofs.lemmas.Slice.Eq.{bytes_eq-Decides}
-use Rattle.std.specs.Cmp.Lexicographic.{slice_cmp}
-use Rattle.std.specs.FinMap.{IsAntisymmetric, keys, contains_key-keys, get-retain_keys, slice_cmp-IsAntisymmetric, nat_cmp-IsAntisymmetric}
-use Rattle.std.specs.List.{list_any}
-use Rattle.std.specs.Ordering.{eq_by_cmp, nat_cmp}
+use Rattle.std.proofs.Common.{◌≡◌, ℕ, Bool, false, List, [], ◌∷◌, length, map, refl, sym, ap, subst, ◌∙◌, arith}
 use Rattle.gql_plain.specs.Order.{has_text}
-use Rattle.relay_engine.proofs.Names.{bytes_eq-sym}
 use Rattle.relay_engine.proofs.ReachLaws.{kept_is}
-use Rattle.relay_engine.proofs.StandingLaws.{confirmed_after}
 use Rattle.relay_engine.specs.Answered.{AreLines}
 use Rattle.relay_engine.specs.Handles.{handle_kept, operation_kept}
 use Rattle.relay_engine.specs.Kept as engine
@@ -18,40 +9,24 @@ use Rattle.relay_engine.specs.Notices.{HasAnswered}
 use Rattle.relay_engine.specs.Operations.{HoldPlans}
 use Rattle.relay_engine.specs.Stands.{KeepsHandles, KeepsReleased, StandsFor}
 use Rattle.relay_engine.specs.declared.lines.Lines.{Lines}
+use Rattle.relay_machine.proofs.Sweeps.{confirmed_after, same_swept}
 use Rattle.relay_machine.specs.Machine.{Project, State, base, is_reached, last_of, retained, sweep_base}
 use Rattle.relay_machine.specs.Printed.{collect_line}
 use Rattle.store_layers.specs.Layered.{Layer, Layered, entries_of, swept, view_of}
 use Rattle.store_model.specs.Entries.{fold_entries}
-use Rattle.store_model.specs.Records.{Records, no_records, slot_at}
+use Rattle.store_model.specs.Records.{Records, no_records}
 use Rattle.store_model.specs.Sweeps.{dropped, sweep}
 use Rattle.store_read.specs.Reading.{slots}
 use Rattle.store_record.specs.Keys.{Text}
-use Rattle.store_record.specs.declared.record.Slot.{Slot}
 use Rattle.store_retain.specs.Kept.{Kept, all_held, is_kept}
 use Rattle.store_retain.specs.Steps.{slots_of}
 use Rattle.store_watch.specs.Watching.{DifferAt}
 
 -- ---- slots
 
-tied : (id q : Text) → eq_by_cmp (slice_cmp nat_cmp) q id ≡ bytes_eq id q
-tied id q = is_eq-slice_cmp q id ∙ bytes_eq-sym q id
-
-slot_at-sweep : (keep : Text → Bool) (m : Records) (id : Text) → slot_at id (sweep keep m) ≡ cond (keep id) (slot_at id m) None
-slot_at-sweep keep m id = get-retain_keys m keep id (λ x e. ap keep (sym (slice_cmp-IsAntisymmetric nat_cmp-IsAntisymmetric id x e)))
-
-has_text-dropped : (keep : Text → Bool) (m : Records) (id : Text) → has_text (dropped keep m) id ≡ (not (keep id) && is_some (slot_at id m))
-has_text-dropped keep m id =
-    any-filter_same (λ one. bytes_eq one id) (λ one. not (keep one)) (not (keep id)) (λ one e. ap (λ t. not (keep t)) ((bytes_eq-Decides one id).0 e)) (keys m)
-    ∙ ap (λ b. not (keep id) && b) (ap (λ test. list_any test (keys m)) (λ i one. sym (tied one id) i) ∙ sym (contains_key-keys m id))
-
-kept_or_absent : (b : Bool) (s : Option Slot) → (not b && is_some s) ≡ false → s ≡ cond b s None
-kept_or_absent true s h = refl
-kept_or_absent false None h = refl
-kept_or_absent false (Some s) h = absurd (true≢false h)
-
 -- the slots differ at the ids that go, and nowhere else
 pub differ_swept : (keep : Text → Bool) (m : Records) → DifferAt (dropped keep m) (slots m) (slots (sweep keep m))
-differ_swept keep m = λ id h. kept_or_absent (keep id) (slot_at id m) (sym (has_text-dropped keep m id) ∙ h) ∙ sym (slot_at-sweep keep m id)
+differ_swept keep m = same_swept keep m
 
 -- ---- where no layer is live
 

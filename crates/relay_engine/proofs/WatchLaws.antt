@@ -1,5 +1,5 @@
 -- Watches by their names, as the engine keeps them and as the machine has them.
-use Rattle.std.proofs.Common.{◌≡◌, List, [], ◌∷◌, ◌++◌, length, Bool, true, false, ◌||◌, cond, bytes_eq, suc, refl, sym, ap, subst, ◌∙◌}
+use Rattle.std.proofs.Common.{◌≡◌, List, [], ◌∷◌, ◌++◌, length, Bool, true, false, ◌||◌, cond, bytes_eq, suc, refl, ap, subst, ◌∙◌}
 use Rattle.relay_engine.proofs.Names.{bytes_eq-sym}
 use Rattle.relay_engine.specs.Stands.{KeepsWatch, KeepsWatches}
 use Rattle.relay_machine.specs.Machine as machine

@@ -2,11 +2,14 @@ pub mod Answered
 pub mod Handles
 pub mod Kept
 pub mod KeptCode
+pub mod LaterLines
 pub mod Marked
 pub mod Notices
 pub mod Operations
 pub mod Parts
 pub mod Retained
+pub mod RetainedReads
 pub mod Stands
 pub mod Steps
 pub mod Targets
+pub mod Work

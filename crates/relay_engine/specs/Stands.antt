@@ -5,7 +5,7 @@ use Rattle.plan_project.specs.Lookups.{operation_in}
 use Rattle.relay_engine.specs.Kept.{HandleKept, Kept, OperationKept}
 use Rattle.relay_machine.specs.Machine as machine
 use Rattle.relay_machine.specs.Machine.{Handle, Layer, PartShown, Project, Retained, State, base, is_layer, last_of, shown}
-use Rattle.schema_tables.specs.Types.{Text, root}
+use Rattle.schema_tables.specs.Types.{root}
 use Rattle.std.specs.Prelude.{Option}
 use Rattle.store_layers.specs.Layered as layered
 use Rattle.store_layers.specs.Layered.{view_of}

@@ -1,5 +1,5 @@
 -- When an engine has taken a step of the machine.
-use Rattle.std.specs.Prelude.{◌≡◌, ℕ, List, [], ◌∷◌, ◌++◌}
+use Rattle.std.specs.Prelude.{◌≡◌, List, [], ◌∷◌, ◌++◌}
 use Rattle.relay_engine.specs.Kept.{Kept}
 use Rattle.relay_engine.specs.Stands.{StandsFor}
 use Rattle.relay_engine.specs.declared.lines.Lines.{Lines}

@@ -78,7 +78,8 @@ pub(crate) fn refuse_variables(alloc: Global, fault: VarFault, n: u64) -> Result
 /// The answer of a line that gives no event.
 pub(crate) fn refuse_fault(alloc: Global, fault: LineFault, n: u64) -> Result<Lines, NoMemory>
     requires { n < 2 ^ 63 }
-    ensures { IfOk result (IsFaultOf n fault) }
+    ensures fault { IfOk result (IsFaultOf n fault) }
+    ensures refused { IfOk result (λ lines. lines.refused ≡ true) }
 {
     match fault {
         LineFault::NotJson => refuse(alloc, Refusal::NotJson, n),

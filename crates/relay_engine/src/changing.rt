@@ -1,12 +1,12 @@
 //! Changes of the records, and the notices that follow an answer.
-ghost use Rattle.std.specs.Prelude.{◌≡◌, ◌<◌, ◌^◌, length, IfOk, OnErr};
+ghost use Rattle.std.specs.Prelude.{◌≡◌, ◌+◌, ◌<◌, ◌≤◌, ◌^◌, length, IfOk, OnErr};
 ghost use Rattle.relay_engine.specs.Notices.{HasAnswered};
 ghost use Rattle.relay_engine.specs.Stands.{StandsFor};
 ghost use Rattle.relay_engine.specs.Steps.{IsStep};
 ghost use Rattle.relay_machine.specs.Machine as machine;
 ghost use Rattle.store_layers.specs.Layered.{view_of};
 ghost use Rattle.store_read.specs.Reading.{slots};
-ghost use Rattle.store_watch.specs.Watching.{DifferAt};
+ghost use Rattle.store_watch.specs.Watching.{DifferAt, work};
 
 use crate::engine::Engine;
 use crate::lines::Lines;
@@ -34,6 +34,7 @@ impl<S: RecordSource> Engine<S> {
         ensures refused { IfOk result (λ lines. lines.refused ≡ answer.refused) }
         ensures err { OnErr result (self.new ≡ self.old) }
         ensures applies { S.Count.applies steps.new ≡ S.Count.applies steps.old }
+        ensures looks { S.Count.looks steps.new ≤ S.Count.looks steps.old + work (slots (view_of layers)) touched.now self.old.watches }
     {
         let notices = self.watches.notify(layers.view(), touched, steps)?;
         let lines = with_notices(self.alloc, answer, &self.watches, &notices, n)?;

@@ -2,8 +2,10 @@
 ghost use Rattle.std.specs.Prelude.{◌≡◌, ◌+◌, ◌<◌, ◌≤◌, ◌^◌, true, length, option_map, IfOk, OnErr};
 ghost use Rattle.event_script.specs.Seen.{answer_seen};
 ghost use Rattle.relay_engine.specs.Steps.{HasStepped};
+ghost use Rattle.relay_engine.specs.Work.{ChangesWithin, EventWithin, confirming};
 ghost use Rattle.relay_machine.specs.Machine as machine;
 ghost use Rattle.relay_machine.specs.Printed as printed;
+ghost use Rattle.store_model.specs.Events as events;
 
 use crate::answers::accept;
 use crate::engine::Engine;
@@ -31,6 +33,7 @@ impl<S: RecordSource> Engine<S> {
         ensures refused { IfOk result (λ lines. lines.refused ≡ true → self.new ≡ self.old) }
         ensures err { OnErr result (self.new ≡ self.old) }
         ensures applies { S.Count.applies steps.new ≤ S.Count.applies steps.old + (length self.old.layers.live + 1) }
+        ensures looks { EventWithin self.old (events.update commands) (λ p s. machine.result_of p s n (option_map answer_seen answer.now) commands (λ step. step) (λ entry. machine.accept (printed.event_line event.now n) (machine.confirm entry s))) (S.Count.looks steps.old) (S.Count.looks steps.new) }
     {
         match self.take(answer, commands, false, n)? {
             Taken::Entry(entry) => self.commit(event, entry, n, steps),
@@ -52,6 +55,7 @@ impl<S: RecordSource> Engine<S> {
         ensures refused { IfOk result (λ lines. lines.refused ≡ true → self.new ≡ self.old) }
         ensures err { OnErr result (self.new ≡ self.old) }
         ensures applies { S.Count.applies steps.new ≤ S.Count.applies steps.old + (length self.old.layers.live + 1) }
+        ensures looks { ChangesWithin self.old confirming (machine.confirm entry) (S.Count.looks steps.old) (S.Count.looks steps.new) }
     {
         let answer = accept(self.alloc, event, n)?;
         let mut layers = self.layers.copy()?;

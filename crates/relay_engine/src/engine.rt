@@ -3,8 +3,13 @@ ghost use Rattle.std.specs.Prelude.{◌≡◌, ◌+◌, ◌<◌, ◌≤◌, ◌^
 ghost use Rattle.event_script.specs.Seen.{event_seen};
 ghost use Rattle.relay_engine.specs.Answered.{IsFaultOf};
 ghost use Rattle.relay_engine.specs.Kept.{begun};
+ghost use Rattle.relay_engine.specs.LaterLines.{KeepsLaterLines};
+ghost use Rattle.relay_engine.specs.RetainedReads.{KeepsRetainedReads};
 ghost use Rattle.relay_engine.specs.Steps.{HasStepped};
+ghost use Rattle.relay_engine.specs.Work.{AppliesAbove, IsWithinWork};
 ghost use Rattle.relay_machine.specs.Machine as machine;
+ghost use Rattle.store_model.specs.Events as events;
+ghost use Rattle.store_model.specs.Events.{line_of};
 ghost use Rattle.store_model.specs.Records.{no_records};
 
 use crate::answers::refuse_fault;
@@ -89,8 +94,27 @@ impl<S: RecordSource> Engine<S> {
         ensures refused { IfOk result (λ lines. lines.refused ≡ true → self.new ≡ self.old) }
         ensures err { OnErr result (self.new ≡ self.old) }
         ensures applies { S.Count.applies steps.new ≤ S.Count.applies steps.old + (length self.old.layers.live + 1) }
+        ensures exact { IfOk result (λ lines. AppliesAbove self.old (line_of line.now) lines.refused (S.Count.applies steps.old) (S.Count.applies steps.new)) }
+        ensures looks { IsWithinWork self.old n (line_of line.now) (S.Count.looks steps.old) (S.Count.looks steps.new) }
+        ensures later { IfOk result (λ lines. KeepsLaterLines self.old self.new n (line_of line.now) lines) }
+        ensures retained { IfOk result (λ lines. KeepsRetainedReads self.old self.new (line_of line.now)) }
     {
+        self.project.is_accepted();
         self.watches.refresh()?;
+        self.step_line(line, n, steps)
+    }
+
+    /// The same, where the watches are prepared.
+    fn step_line(&mut self, line: &[u8], n: u64, steps: &mut S::Count) -> Result<Lines, NoMemory>
+        requires { n < 2 ^ 63 }
+        ensures step { IfOk result (λ lines. HasStepped self.old self.new lines (λ p s. machine.step p self.old.buffer s n line.now)) }
+        ensures buffer { self.new.buffer ≡ self.old.buffer }
+        ensures refused { IfOk result (λ lines. lines.refused ≡ true → self.new ≡ self.old) }
+        ensures err { OnErr result (self.new ≡ self.old) }
+        ensures applies { S.Count.applies steps.new ≤ S.Count.applies steps.old + (length self.old.layers.live + 1) }
+        ensures exact { IfOk result (λ lines. AppliesAbove self.old (line_of line.now) lines.refused (S.Count.applies steps.old) (S.Count.applies steps.new)) }
+        ensures looks { IsWithinWork self.old n (line_of line.now) (S.Count.looks steps.old) (S.Count.looks steps.new) }
+    {
         match self.reader.read(line) {
             Ok(event) => self.step_event(event, n, steps),
             Err(fault) => refuse_fault(self.alloc, fault, n),
@@ -105,6 +129,8 @@ impl<S: RecordSource> Engine<S> {
         ensures refused { IfOk result (λ lines. lines.refused ≡ true → self.new ≡ self.old) }
         ensures err { OnErr result (self.new ≡ self.old) }
         ensures applies { S.Count.applies steps.new ≤ S.Count.applies steps.old + (length self.old.layers.live + 1) }
+        ensures exact { IfOk result (λ lines. AppliesAbove self.old (events.event (event_seen event)) lines.refused (S.Count.applies steps.old) (S.Count.applies steps.new)) }
+        ensures looks { IsWithinWork self.old n (events.event (event_seen event)) (S.Count.looks steps.old) (S.Count.looks steps.new) }
     {
         match event {
             Event::Retain { handle, op, vars } => self.retain(&handle, &op, &vars, n),

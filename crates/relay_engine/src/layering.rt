@@ -2,9 +2,13 @@
 ghost use Rattle.std.specs.Prelude.{◌≡◌, ◌+◌, ◌<◌, ◌≤◌, ◌^◌, codes, true, false, length, option_map, IfOk, OnErr};
 ghost use Rattle.event_script.specs.Seen.{answer_seen};
 ghost use Rattle.relay_engine.specs.Steps.{HasStepped};
+ghost use Rattle.relay_engine.specs.Work.{ChangesWithin, EventWithin, confirming, starting};
 ghost use Rattle.relay_machine.specs.Machine as machine;
 ghost use Rattle.relay_machine.specs.Printed as printed;
 ghost use Rattle.store_layers.specs.Layered as layered;
+ghost use Rattle.store_layers.specs.Layered.{above};
+ghost use Rattle.store_layers.specs.Work.{counted};
+ghost use Rattle.store_model.specs.Events as events;
 
 use crate::answers::{accept, refuse};
 use crate::engine::Engine;
@@ -34,6 +38,7 @@ impl<S: RecordSource> Engine<S> {
         ensures refused { IfOk result (λ lines. lines.refused ≡ true → self.new ≡ self.old) }
         ensures err { OnErr result (self.new ≡ self.old) }
         ensures applies { S.Count.applies steps.new ≤ S.Count.applies steps.old + (length self.old.layers.live + 1) }
+        ensures looks { EventWithin self.old (events.begin layer (option_map answer_seen answer.now) commands) (λ p s. machine.step_begin p s n layer (option_map answer_seen answer.now) commands) (S.Count.looks steps.old) (S.Count.looks steps.new) }
     {
         if self.layers.is_live(layer.as_str()) {
             return refuse(self.alloc, Refusal::LayerTaken(layer.as_str()), n);
@@ -60,6 +65,7 @@ impl<S: RecordSource> Engine<S> {
         ensures refused { IfOk result (λ lines. lines.refused ≡ true → self.new ≡ self.old) }
         ensures err { OnErr result (self.new ≡ self.old) }
         ensures applies { S.Count.applies steps.new ≤ S.Count.applies steps.old + (length self.old.layers.live + 1) }
+        ensures looks { ChangesWithin self.old starting (machine.with_layer layer entry) (S.Count.looks steps.old) (S.Count.looks steps.new) }
     {
         let answer = accept(self.alloc, "begin", n)?;
         let mut layers = self.layers.copy()?;
@@ -83,6 +89,7 @@ impl<S: RecordSource> Engine<S> {
         ensures refused { IfOk result (λ lines. lines.refused ≡ true → self.new ≡ self.old) }
         ensures err { OnErr result (self.new ≡ self.old) }
         ensures applies { S.Count.applies steps.new ≤ S.Count.applies steps.old + (length self.old.layers.live + 1) }
+        ensures looks { EventWithin self.old (events.finish layer.now (option_map answer_seen answer.now) commands) (λ p s. machine.step_finish p s n layer.now (option_map answer_seen answer.now) commands) (S.Count.looks steps.old) (S.Count.looks steps.new) }
     {
         if !self.layers.is_live(layer.as_str()) {
             return refuse(self.alloc, Refusal::UnknownLayer(layer.as_str()), n);
@@ -108,6 +115,7 @@ impl<S: RecordSource> Engine<S> {
         ensures refused { IfOk result (λ lines. lines.refused ≡ true → self.new ≡ self.old) }
         ensures err { OnErr result (self.new ≡ self.old) }
         ensures applies { S.Count.applies steps.new ≤ S.Count.applies steps.old + (length self.old.layers.live + 1) }
+        ensures looks { ChangesWithin self.old confirming (λ s. machine.confirm entry (machine.drop_layer layer.now s)) (S.Count.looks steps.old) (S.Count.looks steps.new) }
     {
         let answer = accept(self.alloc, "finish", n)?;
         let mut layers = self.layers.copy()?;
@@ -128,6 +136,8 @@ impl<S: RecordSource> Engine<S> {
         ensures refused { IfOk result (λ lines. lines.refused ≡ true → self.new ≡ self.old) }
         ensures err { OnErr result (self.new ≡ self.old) }
         ensures applies { S.Count.applies steps.new ≤ S.Count.applies steps.old + (length self.old.layers.live + 1) }
+        ensures looks { EventWithin self.old (events.revert layer.now) (λ p s. machine.step_revert s n layer.now) (S.Count.looks steps.old) (S.Count.looks steps.new) }
+        ensures exact { IfOk result (λ lines. lines.refused ≡ false → S.Count.applies steps.new ≡ counted (length (above layer.now self.old.layers.live)) (S.Count.applies steps.old)) }
     {
         if !self.layers.is_live(layer.as_str()) {
             return refuse(self.alloc, Refusal::UnknownLayer(layer.as_str()), n);

@@ -1,5 +1,5 @@
 //! What reads and watches show.
-ghost use Rattle.std.specs.Prelude.{◌≡◌, List, ℕ, true, is_some, None, Some, IfOk};
+ghost use Rattle.std.specs.Prelude.{◌≡◌, ◌+◌, ◌≤◌, List, ℕ, true, is_some, None, Some, IfOk};
 ghost use Rattle.plan_project.specs.Lookups.{fragment_in, operation_in, KeepsFragment, ReadsFragment};
 ghost use Rattle.relay_engine.specs.Handles.{held_as};
 ghost use Rattle.relay_engine.specs.Parts.{IsProject};
@@ -7,9 +7,11 @@ ghost use Rattle.relay_engine.specs.Stands.{KeepsHandle, ShowsPart};
 ghost use Rattle.relay_machine.specs.Machine as machine;
 ghost use Rattle.schema_types.specs.Environments.{Values, environment};
 ghost use Rattle.schema_types.specs.Sites.{FragmentAt};
+ghost use Rattle.store_model.specs.Records.{Records};
+ghost use Rattle.store_model.specs.Walks.{standings};
 ghost use Rattle.store_read.specs.Reading.{reading_of, slots};
 ghost use Rattle.store_watch.specs.Rows.{look_of};
-ghost use Rattle.store_watch.specs.Watching.{shows};
+ghost use Rattle.store_watch.specs.Watching.{read_of, shows};
 
 use crate::environments::with_locals;
 use crate::said::operation_held;
@@ -34,8 +36,10 @@ pub(crate) fn whole_operation(
     handle: &Words,
 ) -> Result<Watched, NoMemory>
     requires { is_some (operation_in project.now.0 project.now.1 held.now.name) ≡ true }
-    ensures { IfOk result (λ what. (p : machine.Project) (h : machine.Handle) → IsProject project.now p → KeepsHandle p (held_as handle.now held.now) h
+    ensures shown { IfOk result (λ what. (p : machine.Project) (h : machine.Handle) → IsProject project.now p → KeepsHandle p (held_as handle.now held.now) h
         → ShowsPart p (look_of what) h None) }
+    ensures found { IfOk result (λ what. (p : machine.Project) (h : machine.Handle) → IsProject project.now p → KeepsHandle p (held_as handle.now held.now) h
+        → (m : Records) → machine.operation_read p m h ≡ read_of (slots m) (look_of what)) }
 {
     let compiled = operation_held(project, held);
     Ok(Watched {
@@ -58,10 +62,13 @@ pub(crate) fn fragment_at(
     handle: &Words,
     id: &Id,
 ) -> Result<Watched, NoMemory>
-    ensures { IfOk result (λ what. (p : machine.Project) (h : machine.Handle) (f : FragmentAt) (n : List ℕ) → fragment_in p.defs p.documents n ≡ Some f
+    ensures shown { IfOk result (λ what. (p : machine.Project) (h : machine.Handle) (f : FragmentAt) (n : List ℕ) → fragment_in p.defs p.documents n ≡ Some f
         → KeepsFragment p.defs n f fragment.now → ReadsFragment p.defs p.documents f fragment.now → KeepsHandle p (held_as handle.now held.now) h
         → (given : Values) → scope.now.values ≡ environment fragment.now.locals given
         → ShowsPart p (look_of what) h (Some (record { fragment = f; scope = scope.now.values; id = id.now }))) }
+    ensures found { IfOk result (λ what. (p : machine.Project) (h : machine.Handle) (f : FragmentAt) (n : List ℕ) → KeepsFragment p.defs n f fragment.now
+        → ReadsFragment p.defs p.documents f fragment.now → KeepsHandle p (held_as handle.now held.now) h → (given : Values) → scope.now.values ≡ environment fragment.now.locals given
+        → (m : Records) → machine.fragment_read p m h f scope.now.values id.now ≡ read_of (slots m) (look_of what)) }
 {
     let env = with_locals(alloc, &held.env, &scope.values)?;
     Ok(Watched {
@@ -82,6 +89,7 @@ pub(crate) fn look<S: RecordSource>(
     steps: &mut S::Count,
 ) -> Result<Snapshot, NoMemory>
     ensures read { IfOk result (λ snapshot. reading_of snapshot ≡ shows (slots (S.records source.now)) (look_of what.now)) }
+    ensures looks { S.Count.looks steps.new ≤ S.Count.looks steps.old + standings (read_of (slots (S.records source.now)) (look_of what.now)) }
     ensures applies { S.Count.applies steps.new ≡ S.Count.applies steps.old }
 {
     let plan = what.plan.as_ref();

@@ -5,7 +5,9 @@ ghost use Rattle.relay_engine.specs.Steps.{HasStepped};
 ghost use Rattle.relay_machine.specs.Machine as machine;
 ghost use Rattle.relay_engine.specs.Stands.{ShowsPart, StandsFor};
 ghost use Rattle.relay_engine.specs.Steps.{IsStep};
+ghost use Rattle.relay_engine.specs.Work.{EventWithin, ReadsWithin};
 ghost use Rattle.std.specs.Prelude.{Option};
+ghost use Rattle.store_model.specs.Events as events;
 ghost use Rattle.store_watch.specs.Rows.{look_of};
 ghost use Rattle.store_watch.specs.Watching as watch_list;
 
@@ -34,6 +36,7 @@ impl<S: RecordSource> Engine<S> {
         requires { n < 2 ^ 63 }
         ensures step { IfOk result (λ lines. HasStepped self.now self.now lines (λ p s. machine.step_read p s n (target_seen target.now))) }
         ensures applies { S.Count.applies steps.new ≡ S.Count.applies steps.old }
+        ensures looks { EventWithin self.now (events.read (target_seen target.now)) (λ p s. machine.step_read p s n (target_seen target.now)) (S.Count.looks steps.old) (S.Count.looks steps.new) }
     {
         match self.target(target, false, n)? {
             Targeted::Shown(what) => {
@@ -58,6 +61,7 @@ impl<S: RecordSource> Engine<S> {
         ensures refused { IfOk result (λ lines. lines.refused ≡ true → self.new ≡ self.old) }
         ensures err { OnErr result (self.new ≡ self.old) }
         ensures applies { S.Count.applies steps.new ≡ S.Count.applies steps.old }
+        ensures looks { EventWithin self.old (events.watch watch (target_seen target.now)) (λ p s. machine.step_watch p s n watch (target_seen target.now)) (S.Count.looks steps.old) (S.Count.looks steps.new) }
     {
         if self.watches.is_live(watch.as_str()) {
             return refuse(self.alloc, Refusal::WatchTaken(watch.as_str()), n);
@@ -85,6 +89,7 @@ impl<S: RecordSource> Engine<S> {
         ensures refused { IfOk result (λ lines. lines.refused ≡ true → self.new ≡ self.old) }
         ensures err { OnErr result (self.new ≡ self.old) }
         ensures applies { S.Count.applies steps.new ≡ S.Count.applies steps.old }
+        ensures looks { ReadsWithin self.old (look_of what) (S.Count.looks steps.old) (S.Count.looks steps.new) }
     {
         let snapshot = look(self.alloc, self.layers.view(), &what, steps)?;
         let lines = show_watch(self.alloc, &snapshot, n)?;

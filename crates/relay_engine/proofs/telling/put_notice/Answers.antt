@@ -1,4 +1,3 @@
-use Rattle.std.proofs.Common.{sym}
 use Rattle.relay_engine.proofs.TellingLaws.{is_told, not_told}
 use Rattle.relay_engine.proofs.telling.put_notice.Goals as goal
 use Rattle.relay_engine.specs.Notices.{names_of}

@@ -1,6 +1,7 @@
-use Rattle.std.proofs.Common.{◌<◌, length, map, List, ap, sym, subst, ◌∙◌}
+use Rattle.std.proofs.Common.{◌<◌, length, map, List, ap, sym, subst}
 use Rattle.std.specs.List.{AllByRecursion}
 use Rattle.relay_engine.proofs.ChangeLaws.{Notified, step_noticed, with_changes}
+use Rattle.relay_engine.proofs.WorkLaws.{notified}
 use Rattle.relay_engine.proofs.engine.Engine.change.Goals as goal
 use Rattle.relay_engine.specs.Handles.{handle_kept, operation_kept}
 use Rattle.relay_engine.specs.Kept.{Kept}
@@ -40,3 +41,18 @@ returns-clause-step g c = λ p s step stands differ has.
     let answered : HasAnswered old ls p s step c.args.answer = subst (λ (x : Kept). HasAnswered x ls p s step c.args.answer) (sym c.self.view_is) has in
     subst (λ (ws : List Watch). IsStep p (noticed p c.args.n (length s.watches) step) c.in_ok-lines.lines (with_changes old ls ws)) (sym c.accept.ensures)
     (step_noticed old ls ids told c.args.answer c.in_ok-lines.lines c.args.n notified c.in_ok-lines.ensures.text c.in_ok-lines.ensures.refused p s step here apart answered)
+
+pub returns-clause-looks : goal.returns-clause-looks
+returns-clause-looks g c =
+    notified c.args.layers c.self.inside.watches c.args.self.now c.args.touched.now (g.S.RecordSource.records c.view.result.now) c.view.ensures
+    (ap (λ (x : Kept). x.watches) c.self.view_is) (g.S.Count.Steps.looks c.args.steps.now) (g.S.Count.Steps.looks c.notify.new.steps) c.notify.ensures.looks
+
+pub returns-in_err-notices-clause-looks : goal.returns-in_err-notices-clause-looks
+returns-in_err-notices-clause-looks g c =
+    notified c.args.layers c.self.inside.watches c.args.self.now c.args.touched.now (g.S.RecordSource.records c.view.result.now) c.view.ensures
+    (ap (λ (x : Kept). x.watches) c.self.view_is) (g.S.Count.Steps.looks c.args.steps.now) (g.S.Count.Steps.looks c.notify.new.steps) c.notify.ensures.looks
+
+pub returns-in_err-lines-clause-looks : goal.returns-in_err-lines-clause-looks
+returns-in_err-lines-clause-looks g c =
+    notified c.args.layers c.self.inside.watches c.args.self.now c.args.touched.now (g.S.RecordSource.records c.view.result.now) c.view.ensures
+    (ap (λ (x : Kept). x.watches) c.self.view_is) (g.S.Count.Steps.looks c.args.steps.now) (g.S.Count.Steps.looks c.notify.new.steps) c.notify.ensures.looks

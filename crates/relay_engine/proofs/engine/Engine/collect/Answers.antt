@@ -1,4 +1,4 @@
-use Rattle.std.proofs.Common.{◌≡◌, ◌==◌, ℕ, List, [], ◌∷◌, length, true, false, cond, ap, sym, arith, ◌∙◌, refl}
+use Rattle.std.proofs.Common.{◌≡◌, ◌==◌, length, true, false, cond, ap, sym, arith, ◌∙◌}
 use Rattle.std.proofs.lemmas.Result.{IfOk-weaker}
 use Rattle.relay_engine.proofs.Names.{equal, unequal}
 use Rattle.relay_engine.proofs.QuietLaws.{quiet}
@@ -8,9 +8,8 @@ use Rattle.relay_engine.proofs.SweepLaws.{none_of}
 use Rattle.relay_engine.proofs.engine.Engine.collect.Goals as goal
 use Rattle.relay_engine.specs.Answered.{AreLines}
 use Rattle.relay_engine.specs.Kept.{Kept}
-use Rattle.relay_engine.specs.Stands.{StandsFor}
 use Rattle.relay_engine.specs.Steps.{HasStepped}
-use Rattle.relay_machine.specs.Machine.{Project, State, accept, noticed, step_collect, sweep_base}
+use Rattle.relay_machine.specs.Machine.{accept, noticed, step_collect, sweep_base}
 use Rattle.relay_machine.specs.Printed.{collect_line}
 
 pub returns-then-count-gt0-clause-step : goal.returns-then-count-gt0-clause-step

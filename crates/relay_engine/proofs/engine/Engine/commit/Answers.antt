@@ -1,12 +1,15 @@
 use Rattle.std.proofs.Common.{◌≡◌, ◌∷◌, refl, ap, subst, ◌∙◌}
 use Rattle.relay_engine.proofs.ChangeLaws.{committed_differ, never_refused, on_change}
+use Rattle.relay_engine.proofs.ChangeWork.{commits, committing, seen_committed}
 use Rattle.relay_engine.proofs.StandingLaws.{stands_committed}
+use Rattle.relay_engine.proofs.WorkLaws.{call_within, noticed_within}
 use Rattle.relay_engine.proofs.engine.Engine.commit.Goals as goal
 use Rattle.relay_engine.specs.Kept.{Kept}
+use Rattle.relay_engine.specs.Work.{confirming}
 use Rattle.relay_machine.specs.Machine.{confirm}
 use Rattle.relay_machine.specs.Printed.{event_line}
 use Rattle.store_layers.specs.Changed.{AreChanged}
-use Rattle.store_layers.specs.Layered.{Layered, committed, entries_of}
+use Rattle.store_layers.specs.Layered.{Layered, committed, entries_of, view_of}
 
 pub returns-clause-step : goal.returns-clause-step
 returns-clause-step g c =
@@ -23,3 +26,21 @@ returns-clause-step g c =
 pub returns-clause-refused : goal.returns-clause-refused
 returns-clause-refused g c =
     never_refused c.change.result (c.change.new.self ≡ c.args.self.now) c.in_ok-answer.answer (event_line c.args.event.now c.args.n) c.change.ensures.refused c.in_ok-answer.ensures
+
+pub returns-in_err-touched-clause-looks : goal.returns-in_err-touched-clause-looks
+returns-in_err-touched-clause-looks g c = λ p s stands.
+    let k : Kept = c.args.self.now in
+    let e = c.args.entry in
+    let same : c.in_ok-layers.layers ≡ k.layers = c.in_ok-layers.ensures ∙ ap (λ (x : Kept). x.layers) c.self.view_is in
+    call_within p k (confirm e s) (committing e c.in_ok-layers.layers) (confirming p s (confirm e s)) (ap (committing e) same ∙ commits k p s stands e)
+    (g.S.Count.Steps.looks c.args.steps.now) (g.S.Count.Steps.looks c.commit.new.steps) c.commit.ensures.looks
+
+pub returns-clause-looks : goal.returns-clause-looks
+returns-clause-looks g c = λ p s stands.
+    let k : Kept = c.args.self.now in
+    let e = c.args.entry in
+    let same : c.in_ok-layers.layers ≡ k.layers = c.in_ok-layers.ensures ∙ ap (λ (x : Kept). x.layers) c.self.view_is in
+    let made : c.commit.new.self ≡ committed e k.layers = c.in_ok-touched.ensures.ok ∙ ap (committed e) same in
+    noticed_within p k (confirm e s) (committing e c.in_ok-layers.layers) (confirming p s (confirm e s)) (ap (committing e) same ∙ commits k p s stands e)
+    (g.S.Count.Steps.looks c.args.steps.now) (g.S.Count.Steps.looks c.commit.new.steps) c.commit.ensures.looks c.in_ok-touched.touched c.in_ok-touched.ensures.changed.only
+    c.commit.new.self (ap view_of made ∙ seen_committed k p s stands e) (g.S.Count.Steps.looks c.change.new.steps) c.change.ensures.looks

@@ -3,11 +3,13 @@ use Rattle.event_script.specs.Seen.{answer_seen}
 use Rattle.relay_engine.proofs.QuietLaws.{quiet}
 use Rattle.relay_engine.proofs.StandingLaws.{whether_layer}
 use Rattle.relay_engine.proofs.StepLaws.{is_entry, is_refused, on_refusal, on_step, same_step, unless-false, unless-true}
+use Rattle.relay_engine.proofs.WorkLaws.{event_changes}
 use Rattle.relay_engine.proofs.engine.Engine.finish.Goals as goal
 use Rattle.relay_engine.specs.Kept.{Kept}
 use Rattle.relay_machine.specs.Machine.{State, Step, accept, confirm, drop_layer, is_layer, noticed, refuse, result_of, step_finish}
 use Rattle.relay_machine.specs.Printed.{event_line}
 use Rattle.relay_machine.specs.Refusals.{unknown_layer}
+use Rattle.store_model.specs.Events as events
 use Rattle.store_model.specs.declared.entry.Entry.{Entry}
 
 pub returns-then-not-is_live-clause-step : goal.returns-then-not-is_live-clause-step
@@ -49,3 +51,18 @@ returns-in-Refused-clause-step g c = λ p s stands.
     (same_step k p (result_of p s n answer c.args.commands (λ step. step) (take s)) (step_finish p s n name answer c.args.commands) c.in-Refused.lines
     (unless-false s n (not (is_layer s.layers name)) (unknown_layer name) (result_of p s n answer c.args.commands (λ step. step) (take s)) (ap not live))
     (is_refused k (λ p s take. result_of p s n answer c.args.commands (λ step. step) take) c.in_ok-entry.field-0 c.in_ok-entry.ensures take c.in-Refused.lines c.in-Refused.is p s stands))
+
+pub returns-in-Entry-clause-looks : goal.returns-in-Entry-clause-looks
+returns-in-Entry-clause-looks g c = λ p s stands.
+    let k : Kept = c.args.self.now in
+    let n = c.args.n in
+    let name = c.args.layer.now in
+    let e = c.in-Entry.entry in
+    let line = event_line (codes "finish") n in
+    let answer = option_map answer_seen c.args.answer.now in
+    let live : is_layer s.layers name ≡ true = whether_layer k p s stands c.self.inside.layers.live c.as_str.result.now name c.is_live.result (ap (λ (x : Kept). x.layers.live) c.self.view_is) c.as_str.ensures c.is_live.ensures ∙ c.if-not-is_live.false in
+    let take : State → Entry → Step = λ s e. accept line (confirm e (drop_layer name s)) in
+    event_changes p k s (events.finish name answer c.args.commands) (step_finish p s n name answer c.args.commands) line (confirm e (drop_layer name s))
+    (unless-false s n (not (is_layer s.layers name)) (unknown_layer name) (result_of p s n answer c.args.commands (λ step. step) (take s)) (ap not live)
+    ∙ is_entry k (λ p s take. result_of p s n answer c.args.commands (λ step. step) take) c.in_ok-entry.field-0 c.in_ok-entry.ensures take e c.in-Entry.is p s stands)
+    (g.S.Count.Steps.looks c.args.steps.now) (g.S.Count.Steps.looks c.replace.new.steps) (c.replace.ensures.looks p s stands)

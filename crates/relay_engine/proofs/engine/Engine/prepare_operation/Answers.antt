@@ -1,4 +1,4 @@
-use Rattle.std.proofs.Common.{◌≡◌, ◌==◌, true, false, codes, length, Option, Some, None, ap, sym, subst, ◌∙◌, refl}
+use Rattle.std.proofs.Common.{◌≡◌, ◌==◌, false, codes, length, Option, None, ap, sym, ◌∙◌, refl}
 use Rattle.plan_ir.specs.Expansion.{variable_trees}
 use Rattle.plan_project.specs.Lookups.{operation_in}
 use Rattle.relay_engine.proofs.Names.{equal, unequal}

@@ -1,21 +1,26 @@
-use Rattle.std.proofs.Common.{◌≡◌, false, Option, ap, subst, ◌∙◌}
+use Rattle.std.proofs.Common.{◌≡◌, ◌+◌, ◌≤◌, [], ◌∷◌, false, Option, ap, subst, ◌∙◌}
 use Rattle.std.proofs.lemmas.Result.{IfOk-weaker}
 use Rattle.event_script.specs.Seen.{target_seen}
 use Rattle.relay_engine.proofs.KeepingLaws.{shown_is}
+use Rattle.relay_engine.proofs.StandingLaws.{view_is}
 use Rattle.relay_engine.proofs.StepLaws.{accepting, same_step}
+use Rattle.relay_engine.proofs.WorkLaws.{event_reads}
 use Rattle.relay_engine.proofs.engine.Engine.read.Goals as goal
 use Rattle.relay_engine.specs.Answered.{AreLines}
 use Rattle.relay_engine.specs.Kept.{Kept}
 use Rattle.relay_engine.specs.Stands.{ShowsPart}
 use Rattle.relay_engine.specs.Steps.{HasStepped}
-use Rattle.relay_engine.specs.Targets.{Targets}
-use Rattle.relay_engine.specs.declared.targets.Targeted.TheVariants as T
-use Rattle.relay_machine.specs.Machine.{Handle, PartShown, Project, State, Step, accept, shown, step_read, view}
+use Rattle.relay_engine.specs.Targets.{ReadsTarget, Targets}
+use Rattle.relay_machine.specs.Effects.{reads_of_target}
+use Rattle.relay_machine.specs.Machine.{Handle, PartShown, Step, accept, handle_named, shown, step_read, view}
 use Rattle.relay_machine.specs.Printed.{read_line}
 use Rattle.store_layers.specs.Layered.{view_of}
+use Rattle.store_model.specs.Events as events
+use Rattle.store_model.specs.Records.{Records}
+use Rattle.store_model.specs.Walks.{standings}
 use Rattle.store_read.specs.Reading.{reading_of, slots}
 use Rattle.store_watch.specs.Rows.{look_of}
-use Rattle.store_watch.specs.Watching.{shows}
+use Rattle.store_watch.specs.Watching.{read_of, shows}
 
 pub returns-in_ok-snapshot-in-Shown-clause-step : goal.returns-in_ok-snapshot-in-Shown-clause-step
 returns-in_ok-snapshot-in-Shown-clause-step g c =
@@ -28,7 +33,7 @@ returns-in_ok-snapshot-in-Shown-clause-step g c =
     (λ lines are p s stands.
     let take : Handle → Option PartShown → Step = λ h part. accept (read_line n (shown p (view p s) h part)) s in
     let made : (h : Handle) × (part : Option PartShown) × (step_read p s n target ≡ take h part) × ShowsPart p (look_of what) h part =
-    subst (Targets k p (step_read p s n target) take) c.in-Shown.is (c.in_ok-what.ensures p s stands take) in
+    subst (Targets k p (step_read p s n target) take) c.in-Shown.is (c.in_ok-what.ensures.step p s stands take) in
     let records : g.S.RecordSource.records c.view.result.now ≡ view_of k.layers = c.view.ensures ∙ ap (λ (x : Kept). view_of x.layers) c.self.view_is in
     let read : reading_of snapshot ≡ shown p (view p s) made.0 made.1 =
     shown_is k p s stands (look_of what) made.0 made.1 (reading_of snapshot) made.3 (c.in_ok-snapshot-in-Shown.ensures.read ∙ ap (λ m. shows (slots m) (look_of what)) records) in
@@ -41,4 +46,40 @@ returns-in-Refused-clause-step g c = λ p s stands.
     let k : Kept = c.args.self.now in
     let n = c.args.n in
     let take : Handle → Option PartShown → Step = λ h part. accept (read_line n (shown p (view p s) h part)) s in
-    subst (Targets k p (step_read p s n (target_seen c.args.target.now)) take) c.in-Refused.is (c.in_ok-what.ensures p s stands take)
+    subst (Targets k p (step_read p s n (target_seen c.args.target.now)) take) c.in-Refused.is (c.in_ok-what.ensures.step p s stands take)
+
+pub returns-in_err-snapshot-in-Shown-clause-looks : goal.returns-in_err-snapshot-in-Shown-clause-looks
+returns-in_err-snapshot-in-Shown-clause-looks g c = λ p s stands.
+    let k : Kept = c.args.self.now in
+    let n = c.args.n in
+    let target = target_seen c.args.target.now in
+    let what = c.in-Shown.what in
+    let before = g.S.Count.Steps.looks c.args.steps.now in
+    let after = g.S.Count.Steps.looks c.look.new.steps in
+    let take : Handle → Option PartShown → Step = λ h part. accept (read_line n (shown p (view p s) h part)) s in
+    let made : (h : Handle) × (part : Option PartShown) × (step_read p s n target ≡ take h part) × ShowsPart p (look_of what) h part =
+    subst (Targets k p (step_read p s n target) take) c.in-Shown.is (c.in_ok-what.ensures.step p s stands take) in
+    let reads : (m : Records) → reads_of_target p m target (handle_named s.handles target.handle) ≡ read_of (slots m) (look_of what) ∷ [] =
+    subst (ReadsTarget p s target) c.in-Shown.is (c.in_ok-what.ensures.found p s stands) in
+    let records : g.S.RecordSource.records c.view.result.now ≡ view p s =
+    c.view.ensures ∙ ap (λ (x : Kept). view_of x.layers) c.self.view_is ∙ view_is k.layers p s stands.base stands.layers in
+    event_reads p k s (events.read target) (step_read p s n target) (read_line n (shown p (view p s) made.0 made.1)) s made.2 before after
+    (read_of (slots (view p s)) (look_of what)) (reads (view p s)) (subst (λ (m : Records). after ≤ before + standings (read_of (slots m) (look_of what))) records c.look.ensures.looks)
+
+pub returns-in_ok-snapshot-in-Shown-clause-looks : goal.returns-in_ok-snapshot-in-Shown-clause-looks
+returns-in_ok-snapshot-in-Shown-clause-looks g c = λ p s stands.
+    let k : Kept = c.args.self.now in
+    let n = c.args.n in
+    let target = target_seen c.args.target.now in
+    let what = c.in-Shown.what in
+    let before = g.S.Count.Steps.looks c.args.steps.now in
+    let after = g.S.Count.Steps.looks c.look.new.steps in
+    let take : Handle → Option PartShown → Step = λ h part. accept (read_line n (shown p (view p s) h part)) s in
+    let made : (h : Handle) × (part : Option PartShown) × (step_read p s n target ≡ take h part) × ShowsPart p (look_of what) h part =
+    subst (Targets k p (step_read p s n target) take) c.in-Shown.is (c.in_ok-what.ensures.step p s stands take) in
+    let reads : (m : Records) → reads_of_target p m target (handle_named s.handles target.handle) ≡ read_of (slots m) (look_of what) ∷ [] =
+    subst (ReadsTarget p s target) c.in-Shown.is (c.in_ok-what.ensures.found p s stands) in
+    let records : g.S.RecordSource.records c.view.result.now ≡ view p s =
+    c.view.ensures ∙ ap (λ (x : Kept). view_of x.layers) c.self.view_is ∙ view_is k.layers p s stands.base stands.layers in
+    event_reads p k s (events.read target) (step_read p s n target) (read_line n (shown p (view p s) made.0 made.1)) s made.2 before after
+    (read_of (slots (view p s)) (look_of what)) (reads (view p s)) (subst (λ (m : Records). after ≤ before + standings (read_of (slots m) (look_of what))) records c.look.ensures.looks)

@@ -1,4 +1,4 @@
-use Rattle.std.proofs.Common.{◌≡◌, Bool, true, false, codes, is_some, option_copied, ap, sym, subst, ◌∙◌}
+use Rattle.std.proofs.Common.{◌≡◌, true, false, codes, is_some, option_copied, ap, sym, subst, ◌∙◌}
 use Rattle.std.proofs.lemmas.Result.{IfOk-weaker}
 use Rattle.plan_project.specs.Lookups.{operation_in}
 use Rattle.relay_engine.proofs.HandleLaws.{is_some-under, whether_some}
@@ -11,11 +11,9 @@ use Rattle.relay_engine.specs.Retained.{IsPrepared}
 use Rattle.relay_engine.specs.Stands.{KeepsHandle, StandsFor}
 use Rattle.relay_engine.specs.Steps.{HasStepped, IsStep}
 use Rattle.relay_engine.specs.declared.retaining.Prepared.TheVariants as P
-use Rattle.relay_machine.specs.Machine.{Handle, Project, State, Step, accept, handle_named, refuse, retain_named, step_retain, with_handle}
+use Rattle.relay_machine.specs.Machine.{Handle, Project, State, accept, handle_named, refuse, retain_named, step_retain, with_handle}
 use Rattle.relay_machine.specs.Printed.{event_line}
 use Rattle.relay_machine.specs.Refusals.{handle_taken}
-use Rattle.schema_tables.specs.Types.{Text}
-use Rattle.store_retain.specs.Kept.{held_under}
 
 pub returns-then-is_some-clause-step : goal.returns-then-is_some-clause-step
 returns-then-is_some-clause-step g c =

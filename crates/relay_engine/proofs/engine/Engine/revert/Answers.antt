@@ -1,17 +1,25 @@
-use Rattle.std.proofs.Common.{◌≡◌, true, false, not, length, refl, ap, sym, subst, ◌∙◌, arith}
+use Rattle.std.proofs.Common.{◌≡◌, true, false, true≢false, not, length, map, refl, ap, sym, subst, ◌∙◌, arith}
+use Rattle.std.proofs.lemmas.Result.{IfOk-weaker}
 use Rattle.relay_engine.proofs.ChangeLaws.{never_refused, on_change, reverted_differ}
+use Rattle.relay_engine.proofs.ChangeWork.{reverting, reverts, seen_reverted}
 use Rattle.relay_engine.proofs.LayerLaws.{fewer_above}
 use Rattle.relay_engine.proofs.StandingLaws.{stands_reverted, whether_layer}
 use Rattle.relay_engine.proofs.StepLaws.{on_refusal, on_step, unless-false, unless-true}
+use Rattle.relay_engine.proofs.WorkLaws.{always, call_within, event_changes, noticed_within}
 use Rattle.relay_engine.proofs.engine.Engine.revert.Goals as goal
+use Rattle.relay_engine.specs.Answered.{AreLines}
 use Rattle.relay_engine.specs.Kept.{Kept}
+use Rattle.relay_engine.specs.Stands.{layer_of}
+use Rattle.relay_engine.specs.Work.{dropping}
 use Rattle.relay_machine.specs.Machine.{accept, drop_layer, is_layer, noticed, refuse, step_revert}
-use Rattle.relay_machine.specs.Printed.{event_line}
+use Rattle.relay_machine.specs.Printed.{event_line, refusal_line}
 use Rattle.relay_machine.specs.Refusals.{unknown_layer}
 use Rattle.std.specs.Prelude.{codes}
 use Rattle.store_layers.specs.Changed.{AreChanged}
-use Rattle.store_layers.specs.Layered.{Layered, above, below, entries_of, from_on, is_live, reverted}
+use Rattle.store_layers.specs.Layered.{Layered, above, below, entries_of, from_on, is_live, reverted, view_of}
+use Rattle.store_layers.specs.Work.{counted}
 use Rattle.store_model.specs.Entries.{fold_entries}
+use Rattle.store_model.specs.Events as events
 
 pub returns-then-not-is_live-clause-step : goal.returns-then-not-is_live-clause-step
 returns-then-not-is_live-clause-step g c =
@@ -63,3 +71,51 @@ returns-clause-applies g c =
     let same : length c.in_ok-layers.layers.live ≡ length c.args.self.now.layers.live = ap (λ (l : Layered). length l.live) (c.in_ok-layers.ensures ∙ ap (λ (x : Kept). x.layers) c.self.view_is) in
     let fewer = fewer_above c.args.layer.now c.in_ok-layers.layers.live in
     omega (arith, fewer, same, c.revert.ensures.applies, c.change.ensures.applies)
+
+pub returns-in_err-touched-clause-looks : goal.returns-in_err-touched-clause-looks
+returns-in_err-touched-clause-looks g c = λ p s stands.
+    let k : Kept = c.args.self.now in
+    let n = c.args.n in
+    let name = c.args.layer.now in
+    let line = event_line (codes "revert") n in
+    let next = drop_layer name s in
+    let before = g.S.Count.Steps.looks c.args.steps.now in
+    let same : c.in_ok-layers.layers ≡ k.layers = c.in_ok-layers.ensures ∙ ap (λ (x : Kept). x.layers) c.self.view_is in
+    let live : is_layer s.layers name ≡ true = whether_layer k p s stands c.self.inside.layers.live c.as_str.result.now name c.is_live.result (ap (λ (x : Kept). x.layers.live) c.self.view_is) c.as_str.ensures c.is_live.ensures ∙ c.if-not-is_live.false in
+    let taken : step_revert s n name ≡ accept line next = unless-false s n (not (is_layer s.layers name)) (unknown_layer name) (accept line next) (ap not live) in
+    let after = g.S.Count.Steps.looks c.revert.new.steps in
+    event_changes p k s (events.revert name) (step_revert s n name) line next taken before after
+    (call_within p k next (reverting name c.in_ok-layers.layers) (dropping p s (map layer_of s.layers) name) (ap (reverting name) same ∙ reverts k p s stands name)
+    before after c.revert.ensures.looks)
+
+pub returns-clause-looks : goal.returns-clause-looks
+returns-clause-looks g c = λ p s stands.
+    let k : Kept = c.args.self.now in
+    let n = c.args.n in
+    let name = c.args.layer.now in
+    let line = event_line (codes "revert") n in
+    let next = drop_layer name s in
+    let before = g.S.Count.Steps.looks c.args.steps.now in
+    let same : c.in_ok-layers.layers ≡ k.layers = c.in_ok-layers.ensures ∙ ap (λ (x : Kept). x.layers) c.self.view_is in
+    let live : is_layer s.layers name ≡ true = whether_layer k p s stands c.self.inside.layers.live c.as_str.result.now name c.is_live.result (ap (λ (x : Kept). x.layers.live) c.self.view_is) c.as_str.ensures c.is_live.ensures ∙ c.if-not-is_live.false in
+    let taken : step_revert s n name ≡ accept line next = unless-false s n (not (is_layer s.layers name)) (unknown_layer name) (accept line next) (ap not live) in
+    let after = g.S.Count.Steps.looks c.change.new.steps in
+    let made : c.revert.new.self ≡ reverted name k.layers = c.in_ok-touched.ensures.ok ∙ ap (reverted name) same in
+    event_changes p k s (events.revert name) (step_revert s n name) line next taken before after
+    (noticed_within p k next (reverting name c.in_ok-layers.layers) (dropping p s (map layer_of s.layers) name) (ap (reverting name) same ∙ reverts k p s stands name)
+    before (g.S.Count.Steps.looks c.revert.new.steps) c.revert.ensures.looks c.in_ok-touched.touched c.in_ok-touched.ensures.changed.only
+    c.revert.new.self (ap view_of made ∙ seen_reverted k p s stands name) after c.change.ensures.looks)
+
+pub returns-then-not-is_live-clause-exact : goal.returns-then-not-is_live-clause-exact
+returns-then-not-is_live-clause-exact g c =
+    IfOk-weaker c.refuse.result (AreLines (refusal_line c.args.n (unknown_layer c.as_str-then-not-is_live.result.now)) true)
+    (λ lines. lines.refused ≡ false → g.S.Count.Steps.applies c.args.steps.now ≡ counted (length (above c.args.layer.now c.args.self.now.layers.live)) (g.S.Count.Steps.applies c.args.steps.now))
+    (λ lines are taken. absurd (true≢false (sym are.refused ∙ taken))) c.refuse.ensures
+
+pub returns-clause-exact : goal.returns-clause-exact
+returns-clause-exact g c =
+    let name = c.args.layer.now in
+    let before = g.S.Count.Steps.applies c.args.steps.now in
+    let same : c.in_ok-layers.layers ≡ c.args.self.now.layers = c.in_ok-layers.ensures ∙ ap (λ (x : Kept). x.layers) c.self.view_is in
+    always c.change.result (λ lines. lines.refused ≡ false → g.S.Count.Steps.applies c.change.new.steps ≡ counted (length (above name c.args.self.now.layers.live)) before)
+    (λ lines taken. c.change.ensures.applies ∙ c.in_ok-touched.ensures.exact ∙ ap (λ (l : Layered). counted (length (above name l.live)) before) same)

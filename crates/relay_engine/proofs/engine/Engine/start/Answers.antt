@@ -1,8 +1,11 @@
 use Rattle.std.proofs.Common.{◌≡◌, false, codes, [], ◌∷◌, refl, ap, sym, subst, ◌∙◌}
 use Rattle.relay_engine.proofs.ChangeLaws.{begun_differ, never_refused, on_change}
+use Rattle.relay_engine.proofs.ChangeWork.{beginning, begins, one_weight, seen_begun}
 use Rattle.relay_engine.proofs.StandingLaws.{stands_begun}
+use Rattle.relay_engine.proofs.WorkLaws.{call_within, noticed_within}
 use Rattle.relay_engine.proofs.engine.Engine.start.Goals as goal
 use Rattle.relay_engine.specs.Kept.{Kept}
+use Rattle.relay_engine.specs.Work.{starting}
 use Rattle.relay_machine.specs.Machine.{with_layer}
 use Rattle.relay_machine.specs.Printed.{event_line}
 use Rattle.store_layers.specs.Changed.{AreChanged}
@@ -28,3 +31,27 @@ returns-clause-step g c =
 pub returns-clause-refused : goal.returns-clause-refused
 returns-clause-refused g c =
     never_refused c.change.result (c.change.new.self ≡ c.args.self.now) c.in_ok-answer.answer (event_line (codes "begin") c.args.n) c.change.ensures.refused c.in_ok-answer.ensures
+
+pub returns-in_err-touched-clause-looks : goal.returns-in_err-touched-clause-looks
+returns-in_err-touched-clause-looks g c = λ p s stands.
+    let k : Kept = c.args.self.now in
+    let e = c.args.entry in
+    let name = c.args.layer in
+    let before = g.S.Count.Steps.looks c.args.steps.now in
+    let between = g.S.Count.Steps.looks c.begin.new.steps in
+    let same : c.in_ok-layers.layers ≡ k.layers = c.in_ok-layers.ensures ∙ ap (λ (x : Kept). x.layers) c.self.view_is in
+    call_within p k (with_layer name e s) (beginning e c.in_ok-layers.layers) (starting p s (with_layer name e s)) (ap (beginning e) same ∙ begins k p s stands name e)
+    before between (one_weight before between e (view_of c.in_ok-layers.layers) c.begin.ensures.looks)
+
+pub returns-clause-looks : goal.returns-clause-looks
+returns-clause-looks g c = λ p s stands.
+    let k : Kept = c.args.self.now in
+    let e = c.args.entry in
+    let name = c.args.layer in
+    let before = g.S.Count.Steps.looks c.args.steps.now in
+    let between = g.S.Count.Steps.looks c.begin.new.steps in
+    let same : c.in_ok-layers.layers ≡ k.layers = c.in_ok-layers.ensures ∙ ap (λ (x : Kept). x.layers) c.self.view_is in
+    let made : c.begin.new.self ≡ begun name e k.layers = c.in_ok-touched.ensures.ok ∙ ap (begun name e) same in
+    noticed_within p k (with_layer name e s) (beginning e c.in_ok-layers.layers) (starting p s (with_layer name e s)) (ap (beginning e) same ∙ begins k p s stands name e)
+    before between (one_weight before between e (view_of c.in_ok-layers.layers) c.begin.ensures.looks) c.in_ok-touched.touched c.in_ok-touched.ensures.changed.only
+    c.begin.new.self (ap view_of made ∙ seen_begun k p s stands name e c.requires.free) (g.S.Count.Steps.looks c.change.new.steps) c.change.ensures.looks

@@ -1,91 +1,55 @@
-use Rattle.std.proofs.Common.{◌≡◌, true, List, map, ap, sym, subst, ◌∙◌, IfOk, OnErr}
+-- Each clause is the one of the line, where what is kept is the same with the watches that are prepared.
+use Rattle.std.proofs.Common.{◌≡◌, true, ap, subst, ◌∙◌, IfOk, OnErr}
 use Rattle.std.proofs.lemmas.Result.{IfOk-weaker}
+use Rattle.plan_project.specs.Projects.{IsAcceptedProject}
+use Rattle.relay_engine.proofs.KeepingLaws.{kept_of}
+use Rattle.relay_engine.proofs.LaterLaws.{later_lines}
+use Rattle.relay_engine.proofs.RetainedLaws.{retained_reads}
 use Rattle.relay_engine.proofs.engine.Engine.step.Goals as goal
-use Rattle.relay_engine.specs.Answered.{IsFaultOf}
-use Rattle.relay_engine.specs.Handles.{handle_kept, operation_kept}
 use Rattle.relay_engine.specs.Kept.{Kept}
+use Rattle.relay_engine.specs.LaterLines.{KeepsLaterLines}
+use Rattle.relay_engine.specs.RetainedReads.{KeepsRetainedReads}
 use Rattle.relay_engine.specs.Steps.{HasStepped}
-use Rattle.relay_machine.specs.Machine.{step, step_line}
+use Rattle.relay_engine.specs.Work.{AppliesAbove, IsWithinWork}
+use Rattle.relay_machine.specs.Machine.{step}
 use Rattle.store_model.specs.Events.{line_of}
-use Rattle.store_watch.specs.Watching.{Watch}
 
-pub returns-in-Ok-clause-step : goal.returns-in-Ok-clause-step
-returns-in-Ok-clause-step g c =
-    let inside = c.self.inside in
-    let n = c.args.n in
-    let fresh : List Watch → Kept = λ ws. record {
-      defs = inside.project.0;
-      documents = inside.project.1;
-      buffer = inside.retained.buffer;
-      layers = inside.layers;
-      handles = map handle_kept inside.retained.live;
-      released = map operation_kept inside.retained.released;
-      watches = ws;
-    } in
-    let same : fresh c.refresh.new.self ≡ c.args.self.now = ap fresh c.refresh.ensures ∙ c.self.view_is in
-    subst (λ (k : Kept). IfOk c.step_event.result (λ lines. HasStepped k c.step_event.new.self lines (λ p s. step p k.buffer s n c.args.line.now))) same
-    (subst (λ l. IfOk c.step_event.result (λ lines. HasStepped (fresh c.refresh.new.self) c.step_event.new.self lines (λ p s. step_line p inside.retained.buffer s n l))) (sym c.in-Ok.ensures)
-    c.step_event.ensures.step)
+pub returns-clause-step : goal.returns-clause-step
+returns-clause-step g c =
+    subst (λ (k : Kept). IfOk c.step_line.result (λ lines. HasStepped k c.step_line.new.self lines (λ p s. step p k.buffer s c.args.n c.args.line.now)))
+    (ap (kept_of c.self.inside.project c.self.inside.layers c.self.inside.retained) c.refresh.ensures ∙ c.self.view_is) c.step_line.ensures.step
 
-pub returns-in-Ok-clause-refused : goal.returns-in-Ok-clause-refused
-returns-in-Ok-clause-refused g c =
-    let inside = c.self.inside in
-    let fresh : List Watch → Kept = λ ws. record {
-      defs = inside.project.0;
-      documents = inside.project.1;
-      buffer = inside.retained.buffer;
-      layers = inside.layers;
-      handles = map handle_kept inside.retained.live;
-      released = map operation_kept inside.retained.released;
-      watches = ws;
-    } in
-    let same : fresh c.refresh.new.self ≡ c.args.self.now = ap fresh c.refresh.ensures ∙ c.self.view_is in
-    subst (λ (k : Kept). IfOk c.step_event.result (λ lines. lines.refused ≡ true → c.step_event.new.self ≡ k)) same c.step_event.ensures.refused
+pub returns-clause-refused : goal.returns-clause-refused
+returns-clause-refused g c =
+    subst (λ (k : Kept). IfOk c.step_line.result (λ lines. lines.refused ≡ true → c.step_line.new.self ≡ k))
+    (ap (kept_of c.self.inside.project c.self.inside.layers c.self.inside.retained) c.refresh.ensures ∙ c.self.view_is) c.step_line.ensures.refused
 
-pub returns-in-Ok-clause-err : goal.returns-in-Ok-clause-err
-returns-in-Ok-clause-err g c =
-    let inside = c.self.inside in
-    let fresh : List Watch → Kept = λ ws. record {
-      defs = inside.project.0;
-      documents = inside.project.1;
-      buffer = inside.retained.buffer;
-      layers = inside.layers;
-      handles = map handle_kept inside.retained.live;
-      released = map operation_kept inside.retained.released;
-      watches = ws;
-    } in
-    let same : fresh c.refresh.new.self ≡ c.args.self.now = ap fresh c.refresh.ensures ∙ c.self.view_is in
-    subst (λ (k : Kept). OnErr c.step_event.result (c.step_event.new.self ≡ k)) same c.step_event.ensures.err
+pub returns-clause-err : goal.returns-clause-err
+returns-clause-err g c =
+    subst (λ (k : Kept). OnErr c.step_line.result (c.step_line.new.self ≡ k))
+    (ap (kept_of c.self.inside.project c.self.inside.layers c.self.inside.retained) c.refresh.ensures ∙ c.self.view_is) c.step_line.ensures.err
 
-pub returns-in-Err-clause-step : goal.returns-in-Err-clause-step
-returns-in-Err-clause-step g c =
+pub returns-clause-exact : goal.returns-clause-exact
+returns-clause-exact g c =
+    subst (λ (k : Kept). IfOk c.step_line.result (λ lines. AppliesAbove k (line_of c.args.line.now) lines.refused (g.S.Count.Steps.applies c.args.steps.now) (g.S.Count.Steps.applies c.step_line.new.steps)))
+    (ap (kept_of c.self.inside.project c.self.inside.layers c.self.inside.retained) c.refresh.ensures ∙ c.self.view_is) c.step_line.ensures.exact
+
+pub returns-clause-looks : goal.returns-clause-looks
+returns-clause-looks g c =
+    subst (λ (k : Kept). IsWithinWork k c.args.n (line_of c.args.line.now) (g.S.Count.Steps.looks c.args.steps.now) (g.S.Count.Steps.looks c.step_line.new.steps))
+    (ap (kept_of c.self.inside.project c.self.inside.layers c.self.inside.retained) c.refresh.ensures ∙ c.self.view_is) c.step_line.ensures.looks
+
+pub returns-clause-later : goal.returns-clause-later
+returns-clause-later g c =
     let old : Kept = c.args.self.now in
-    let inside = c.self.inside in
-    let line = c.args.line.now in
-    let fresh : List Watch → Kept = λ ws. record {
-      defs = inside.project.0;
-      documents = inside.project.1;
-      buffer = inside.retained.buffer;
-      layers = inside.layers;
-      handles = map handle_kept inside.retained.live;
-      released = map operation_kept inside.retained.released;
-      watches = ws;
-    } in
-    let same : fresh c.refresh.new.self ≡ old = ap fresh c.refresh.ensures ∙ c.self.view_is in
-    IfOk-weaker c.refuse_fault.result (IsFaultOf c.args.n c.in-Err.fault) (λ lines. HasStepped old (fresh c.refresh.new.self) lines (λ p s. step p old.buffer s c.args.n line))
-    (λ lines is. subst (λ k. HasStepped old k lines (λ p s. step p old.buffer s c.args.n line)) (sym same) (is (line_of line) c.in-Err.ensures old)) c.refuse_fault.ensures
+    IfOk-weaker c.step_line.result (λ lines. HasStepped old c.step_line.new.self lines (λ p s. step p old.buffer s c.args.n c.args.line.now))
+    (λ lines. KeepsLaterLines old c.step_line.new.self c.args.n (line_of c.args.line.now) lines) (λ lines stepped. later_lines old c.step_line.new.self c.args.n (line_of c.args.line.now) lines stepped)
+    (returns-clause-step g c)
 
-pub returns-in-Err-clause-refused : goal.returns-in-Err-clause-refused
-returns-in-Err-clause-refused g c =
-    let inside = c.self.inside in
-    let fresh : List Watch → Kept = λ ws. record {
-      defs = inside.project.0;
-      documents = inside.project.1;
-      buffer = inside.retained.buffer;
-      layers = inside.layers;
-      handles = map handle_kept inside.retained.live;
-      released = map operation_kept inside.retained.released;
-      watches = ws;
-    } in
-    let same : fresh c.refresh.new.self ≡ c.args.self.now = ap fresh c.refresh.ensures ∙ c.self.view_is in
-    IfOk-weaker c.refuse_fault.result (IsFaultOf c.args.n c.in-Err.fault) (λ lines. lines.refused ≡ true → fresh c.refresh.new.self ≡ c.args.self.now) (λ lines is refused. same) c.refuse_fault.ensures
+pub returns-clause-retained : goal.returns-clause-retained
+returns-clause-retained g c =
+    let old : Kept = c.args.self.now in
+    let accepted : IsAcceptedProject old.defs old.documents = subst (λ (k : Kept). IsAcceptedProject k.defs k.documents) c.self.view_is c.is_accepted.ensures in
+    IfOk-weaker c.step_line.result (λ lines. HasStepped old c.step_line.new.self lines (λ p s. step p old.buffer s c.args.n c.args.line.now))
+    (λ lines. KeepsRetainedReads old c.step_line.new.self (line_of c.args.line.now))
+    (λ lines stepped. retained_reads old c.step_line.new.self c.args.n (line_of c.args.line.now) lines accepted stepped) (returns-clause-step g c)

@@ -1,10 +1,13 @@
-use Rattle.std.proofs.Common.{length, sym, subst, IfOk}
+use Rattle.std.proofs.Common.{true≢false, sym, ap, subst, ◌∙◌, IfOk}
 use Rattle.event_script.specs.Seen.{event_seen, target_seen}
 use Rattle.relay_engine.proofs.QuietLaws.{on_quiet}
+use Rattle.relay_engine.proofs.WorkLaws.{is_reverted, not_reverted, reverted_by}
 use Rattle.relay_engine.proofs.engine.Engine.step_event.Goals as goal
 use Rattle.relay_engine.specs.Kept.{Kept}
 use Rattle.relay_engine.specs.Steps.{HasStepped}
+use Rattle.relay_engine.specs.Work.{IsWithinWork, is_collect}
 use Rattle.relay_machine.specs.Machine.{step_event, step_read, step_release, step_retain, step_unwatch, step_watch}
+use Rattle.store_model.specs.Events.{event}
 
 pub returns-in-Retain-clause-step : goal.returns-in-Retain-clause-step
 returns-in-Retain-clause-step g c =
@@ -45,3 +48,91 @@ returns-in-Unwatch-clause-step g c =
     let a = c.in-Unwatch in
     subst (λ e. IfOk c.unwatch.result (λ lines. HasStepped k c.unwatch.new.self lines (λ p s. step_event p k.buffer s n (event_seen e)))) (sym a.is)
     (on_quiet c.unwatch.result k c.unwatch.new.self n (λ p s. step_unwatch s n a.watch) c.unwatch.ensures.step)
+
+pub returns-in-Retain-clause-exact : goal.returns-in-Retain-clause-exact
+returns-in-Retain-clause-exact g c =
+    not_reverted c.retain.result c.args.self.now (event (event_seen c.args.event)) (g.S.Count.Steps.applies c.args.steps.now) _ (ap (λ e. reverted_by (event_seen e)) c.in-Retain.is)
+
+pub returns-in-Release-clause-exact : goal.returns-in-Release-clause-exact
+returns-in-Release-clause-exact g c =
+    not_reverted c.release.result c.args.self.now (event (event_seen c.args.event)) (g.S.Count.Steps.applies c.args.steps.now) _ (ap (λ e. reverted_by (event_seen e)) c.in-Release.is)
+
+pub returns-in-Payload-clause-exact : goal.returns-in-Payload-clause-exact
+returns-in-Payload-clause-exact g c =
+    not_reverted c.confirm.result c.args.self.now (event (event_seen c.args.event)) (g.S.Count.Steps.applies c.args.steps.now) _ (ap (λ e. reverted_by (event_seen e)) c.in-Payload.is)
+
+pub returns-in-Update-clause-exact : goal.returns-in-Update-clause-exact
+returns-in-Update-clause-exact g c =
+    not_reverted c.confirm-in-Update.result c.args.self.now (event (event_seen c.args.event)) (g.S.Count.Steps.applies c.args.steps.now) _ (ap (λ e. reverted_by (event_seen e)) c.in-Update.is)
+
+pub returns-in-Begin-clause-exact : goal.returns-in-Begin-clause-exact
+returns-in-Begin-clause-exact g c =
+    not_reverted c.begin.result c.args.self.now (event (event_seen c.args.event)) (g.S.Count.Steps.applies c.args.steps.now) _ (ap (λ e. reverted_by (event_seen e)) c.in-Begin.is)
+
+pub returns-in-Finish-clause-exact : goal.returns-in-Finish-clause-exact
+returns-in-Finish-clause-exact g c =
+    not_reverted c.finish.result c.args.self.now (event (event_seen c.args.event)) (g.S.Count.Steps.applies c.args.steps.now) _ (ap (λ e. reverted_by (event_seen e)) c.in-Finish.is)
+
+pub returns-in-Read-clause-exact : goal.returns-in-Read-clause-exact
+returns-in-Read-clause-exact g c =
+    not_reverted c.read.result c.args.self.now (event (event_seen c.args.event)) (g.S.Count.Steps.applies c.args.steps.now) _ (ap (λ e. reverted_by (event_seen e)) c.in-Read.is)
+
+pub returns-in-Watch-clause-exact : goal.returns-in-Watch-clause-exact
+returns-in-Watch-clause-exact g c =
+    not_reverted c.watch.result c.args.self.now (event (event_seen c.args.event)) (g.S.Count.Steps.applies c.args.steps.now) _ (ap (λ e. reverted_by (event_seen e)) c.in-Watch.is)
+
+pub returns-in-Unwatch-clause-exact : goal.returns-in-Unwatch-clause-exact
+returns-in-Unwatch-clause-exact g c =
+    not_reverted c.unwatch.result c.args.self.now (event (event_seen c.args.event)) (g.S.Count.Steps.applies c.args.steps.now) _ (ap (λ e. reverted_by (event_seen e)) c.in-Unwatch.is)
+
+pub returns-in-Collect-clause-exact : goal.returns-in-Collect-clause-exact
+returns-in-Collect-clause-exact g c =
+    not_reverted c.collect.result c.args.self.now (event (event_seen c.args.event)) (g.S.Count.Steps.applies c.args.steps.now) _ (ap (λ e. reverted_by (event_seen e)) c.in-Collect.is)
+
+pub returns-in-Revert-clause-exact : goal.returns-in-Revert-clause-exact
+returns-in-Revert-clause-exact g c =
+    is_reverted c.revert.result c.args.self.now (event (event_seen c.args.event)) (g.S.Count.Steps.applies c.args.steps.now) (g.S.Count.Steps.applies c.revert.new.steps) c.in-Revert.layer
+    (ap (λ e. reverted_by (event_seen e)) c.in-Revert.is) c.revert.ensures.exact
+
+pub returns-in-Payload-clause-looks : goal.returns-in-Payload-clause-looks
+returns-in-Payload-clause-looks g c =
+    subst (λ e. IsWithinWork c.args.self.now c.args.n (event (event_seen e)) (g.S.Count.Steps.looks c.args.steps.now) (g.S.Count.Steps.looks c.confirm.new.steps)) (sym c.in-Payload.is)
+    (λ p s stands quiet. c.confirm.ensures.looks p s stands)
+
+pub returns-in-Update-clause-looks : goal.returns-in-Update-clause-looks
+returns-in-Update-clause-looks g c =
+    subst (λ e. IsWithinWork c.args.self.now c.args.n (event (event_seen e)) (g.S.Count.Steps.looks c.args.steps.now) (g.S.Count.Steps.looks c.confirm-in-Update.new.steps)) (sym c.in-Update.is)
+    (λ p s stands quiet. c.confirm-in-Update.ensures.looks p s stands)
+
+pub returns-in-Begin-clause-looks : goal.returns-in-Begin-clause-looks
+returns-in-Begin-clause-looks g c =
+    subst (λ e. IsWithinWork c.args.self.now c.args.n (event (event_seen e)) (g.S.Count.Steps.looks c.args.steps.now) (g.S.Count.Steps.looks c.begin.new.steps)) (sym c.in-Begin.is)
+    (λ p s stands quiet. c.begin.ensures.looks p s stands)
+
+pub returns-in-Finish-clause-looks : goal.returns-in-Finish-clause-looks
+returns-in-Finish-clause-looks g c =
+    subst (λ e. IsWithinWork c.args.self.now c.args.n (event (event_seen e)) (g.S.Count.Steps.looks c.args.steps.now) (g.S.Count.Steps.looks c.finish.new.steps)) (sym c.in-Finish.is)
+    (λ p s stands quiet. c.finish.ensures.looks p s stands)
+
+pub returns-in-Revert-clause-looks : goal.returns-in-Revert-clause-looks
+returns-in-Revert-clause-looks g c =
+    subst (λ e. IsWithinWork c.args.self.now c.args.n (event (event_seen e)) (g.S.Count.Steps.looks c.args.steps.now) (g.S.Count.Steps.looks c.revert.new.steps)) (sym c.in-Revert.is)
+    (λ p s stands quiet. c.revert.ensures.looks p s stands)
+
+pub returns-in-Read-clause-looks : goal.returns-in-Read-clause-looks
+returns-in-Read-clause-looks g c =
+    subst (λ e. IsWithinWork c.args.self.now c.args.n (event (event_seen e)) (g.S.Count.Steps.looks c.args.steps.now) (g.S.Count.Steps.looks c.read.new.steps)) (sym c.in-Read.is)
+    (λ p s stands quiet. c.read.ensures.looks p s stands)
+
+pub returns-in-Watch-clause-looks : goal.returns-in-Watch-clause-looks
+returns-in-Watch-clause-looks g c =
+    subst (λ e. IsWithinWork c.args.self.now c.args.n (event (event_seen e)) (g.S.Count.Steps.looks c.args.steps.now) (g.S.Count.Steps.looks c.watch.new.steps)) (sym c.in-Watch.is)
+    (λ p s stands quiet. c.watch.ensures.looks p s stands)
+
+pub returns-in-Collect-clause-looks : goal.returns-in-Collect-clause-looks
+returns-in-Collect-clause-looks g c = λ p s stands quiet. absurd (true≢false (sym (ap (λ e. is_collect (event_seen e)) c.in-Collect.is) ∙ quiet))
+
+pub returns-in-Revert-clause-step : goal.returns-in-Revert-clause-step
+returns-in-Revert-clause-step g c =
+    let k : Kept = c.args.self.now in
+    subst (λ e. IfOk c.revert.result (λ lines. HasStepped k c.revert.new.self lines (λ p s. step_event p k.buffer s c.args.n (event_seen e)))) (sym c.in-Revert.is) c.revert.ensures.step

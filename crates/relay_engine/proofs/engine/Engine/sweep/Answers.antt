@@ -1,4 +1,4 @@
-use Rattle.std.proofs.Common.{◌≡◌, [], length, map, false, ap, sym, subst, ◌∙◌}
+use Rattle.std.proofs.Common.{◌≡◌, length, map, false, ap, subst, ◌∙◌}
 use Rattle.std.proofs.lemmas.Result.{IfOk-weaker}
 use Rattle.relay_engine.proofs.SweepLaws.{has_differed, has_swept}
 use Rattle.relay_engine.proofs.engine.Engine.sweep.Goals as goal

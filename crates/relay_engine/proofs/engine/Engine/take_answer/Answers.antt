@@ -1,4 +1,4 @@
-use Rattle.std.proofs.Common.{◌≡◌, true, None, Some, Option, is_some, map, option_map, option_copied, ap, sym, subst, ◌∙◌}
+use Rattle.std.proofs.Common.{◌≡◌, true, None, Some, is_some, option_copied, ap, sym, subst, ◌∙◌}
 use Rattle.std.proofs.lemmas.Result.{IfOk-weaker}
 use Rattle.event_script.specs.Seen.{answer_seen}
 use Rattle.plan_project.specs.Lookups.{operation_in}
@@ -15,7 +15,6 @@ use Rattle.relay_machine.specs.Machine.{Handle, Project, State, Step, answer_to,
 use Rattle.relay_machine.specs.Refusals.{layers, too_many, unknown_handle}
 use Rattle.serde_json.specs.View.{view}
 use Rattle.store_model.specs.declared.entry.Entry.{Entry}
-use Rattle.store_retain.specs.Kept.{held_under}
 
 pub returns-in_default : goal.returns-in_default
 returns-in_default g c = λ p s stands take.

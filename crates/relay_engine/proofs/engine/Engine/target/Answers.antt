@@ -5,17 +5,17 @@ use Rattle.plan_project.specs.Lookups.{operation_in}
 use Rattle.relay_engine.proofs.KeepingLaws.{no_handle, the_handle}
 use Rattle.relay_engine.proofs.PlanLaws.{is_there}
 use Rattle.relay_engine.proofs.StepLaws.{refusing, same_step}
-use Rattle.relay_engine.proofs.TargetLaws.{of_handle}
+use Rattle.relay_engine.proofs.TargetLaws.{of_handle, reads_known}
 use Rattle.relay_engine.proofs.engine.Engine.target.Goals as goal
 use Rattle.relay_engine.specs.Handles.{held_as}
 use Rattle.relay_engine.specs.Kept.{Kept}
 use Rattle.relay_engine.specs.Stands.{KeepsHandle, StandsFor}
-use Rattle.relay_engine.specs.Targets.{Targets, TargetsPart}
+use Rattle.relay_engine.specs.Targets.{ReadsPart, ReadsTarget, Targets, TargetsPart}
 use Rattle.relay_machine.specs.Machine.{Handle, PartShown, Project, State, Step, handle_named, of_part, of_target, refuse, unless}
 use Rattle.relay_machine.specs.Refusals.{too_many, unknown_handle, watches}
 
-pub returns-in_default : goal.returns-in_default
-returns-in_default g c = λ p s stands take.
+pub returns-in_default-clause-step : goal.returns-in_default-clause-step
+returns-in_default-clause-step g c = λ p s stands take.
     let k : Kept = c.args.self.now in
     let n = c.args.n in
     let target = target_seen c.args.target.now in
@@ -35,8 +35,8 @@ target_whole-requires-clause-there g c =
     subst (λ (x : Kept). is_some (operation_in x.defs x.documents held.name) ≡ true) c.self.view_is
     (is_there c.self.inside.project.0 c.self.inside.project.1 c.self.inside.retained name held c.self.invariant (sym c.held.ensures ∙ ap option_copied c.in-Some.is)).there
 
-pub returns-in-Some-part : goal.returns-in-Some-part
-returns-in-Some-part g c =
+pub returns-in-Some-part-clause-step : goal.returns-in-Some-part-clause-step
+returns-in-Some-part-clause-step g c =
     let k : Kept = c.args.self.now in
     let n = c.args.n in
     let target = target_seen c.args.target.now in
@@ -56,10 +56,10 @@ returns-in-Some-part g c =
     of_handle k p (of_target p s n target (handle_named s.handles target.handle) (before s) take) (of_part p s n (Some part) (before s) (take h.0)) h.0
     (ap (λ o. of_target p s n target o (before s) take) h.1 ∙ ap (λ o. of_part p s n (option_map part_seen o) (before s) (take h.0)) c.in-Some-part.is)
     take targeted (has p s h.0 stands h.2 (take h.0)))
-    c.target_part.ensures
+    c.target_part.ensures.step
 
-pub returns-in-None : goal.returns-in-None
-returns-in-None g c =
+pub returns-in-None-clause-step : goal.returns-in-None-clause-step
+returns-in-None-clause-step g c =
     let k : Kept = c.args.self.now in
     let n = c.args.n in
     let target = target_seen c.args.target.now in
@@ -78,4 +78,37 @@ returns-in-None g c =
     of_handle k p (of_target p s n target (handle_named s.handles target.handle) (before s) take) (of_part p s n None (before s) (take h.0)) h.0
     (ap (λ o. of_target p s n target o (before s) take) h.1 ∙ ap (λ o. of_part p s n (option_map part_seen o) (before s) (take h.0)) c.in-None.is)
     take targeted (has p s h.0 stands h.2 (take h.0)))
-    c.target_whole.ensures
+    c.target_whole.ensures.step
+
+pub returns-in-Some-part-clause-found : goal.returns-in-Some-part-clause-found
+returns-in-Some-part-clause-found g c =
+    let k : Kept = c.args.self.now in
+    let target = target_seen c.args.target.now in
+    let name = c.as_str.result.now in
+    let held = c.in-Some.held.now in
+    let part = part_seen c.in-Some-part.part in
+    IfOk-weaker c.target_part.result
+    (λ targeted. (p : Project) (s : State) (h : Handle) → StandsFor k p s → KeepsHandle p (held_as target.handle held) h → ReadsPart p h (Some part) targeted)
+    (λ targeted. (p : Project) (s : State) → StandsFor k p s → ReadsTarget p s target targeted)
+    (λ targeted has p s stands.
+    let h : (h : Handle) × (handle_named s.handles target.handle ≡ Some h) × KeepsHandle p (held_as target.handle held) h =
+    the_handle k p s stands c.self.inside.retained.live name target.handle (option_copied c.held.result) held (ap (λ (x : Kept). x.handles) c.self.view_is) c.as_str.ensures c.held.ensures
+    (ap option_copied c.in-Some.is) in
+    reads_known p s target h.0 (Some part) h.1 (ap (option_map part_seen) c.in-Some-part.is) targeted (has p s h.0 stands h.2))
+    c.target_part.ensures.found
+
+pub returns-in-None-clause-found : goal.returns-in-None-clause-found
+returns-in-None-clause-found g c =
+    let k : Kept = c.args.self.now in
+    let target = target_seen c.args.target.now in
+    let name = c.as_str.result.now in
+    let held = c.in-Some.held.now in
+    IfOk-weaker c.target_whole.result
+    (λ targeted. (p : Project) (s : State) (h : Handle) → StandsFor k p s → KeepsHandle p (held_as target.handle held) h → ReadsPart p h None targeted)
+    (λ targeted. (p : Project) (s : State) → StandsFor k p s → ReadsTarget p s target targeted)
+    (λ targeted has p s stands.
+    let h : (h : Handle) × (handle_named s.handles target.handle ≡ Some h) × KeepsHandle p (held_as target.handle held) h =
+    the_handle k p s stands c.self.inside.retained.live name target.handle (option_copied c.held.result) held (ap (λ (x : Kept). x.handles) c.self.view_is) c.as_str.ensures c.held.ensures
+    (ap option_copied c.in-Some.is) in
+    reads_known p s target h.0 None h.1 (ap (option_map part_seen) c.in-None.is) targeted (has p s h.0 stands h.2))
+    c.target_whole.ensures.found

@@ -1,4 +1,4 @@
-use Rattle.std.proofs.Common.{◌≡◌, None, Some, Option, map, ap, sym, subst, ◌∙◌}
+use Rattle.std.proofs.Common.{◌≡◌, [], ◌∷◌, None, Some, Option, map, ap, sym, ◌∙◌}
 use Rattle.event_script.specs.Seen.{part_seen}
 use Rattle.relay_dirs.specs.Locals.{locals_of}
 use Rattle.relay_dirs.specs.View.{local_view}
@@ -6,12 +6,13 @@ use Rattle.relay_engine.proofs.StepLaws.{failing, same_step}
 use Rattle.relay_engine.proofs.TargetLaws.{under_scope}
 use Rattle.relay_engine.proofs.engine.Engine.target_fragment.Goals as goal
 use Rattle.relay_engine.specs.Kept.{Kept}
-use Rattle.relay_machine.specs.Machine.{PartShown, Step, first_local_failure, of_fragment, scope_given, unless_failure}
-use Rattle.schema_types.specs.Environments.{Failure}
+use Rattle.relay_machine.specs.Machine.{PartShown, Step, first_local_failure, fragment_read, of_fragment, scope_given, unless_failure}
+use Rattle.schema_types.specs.Environments.{Failure, Values}
+use Rattle.store_model.specs.Walks.{Found}
 use Rattle.store_watch.specs.Rows.{look_of}
 
-pub returns-in_ok-what-in-Ok : goal.returns-in_ok-what-in-Ok
-returns-in_ok-what-in-Ok g c = λ p s h f stands keeps named kept reads take.
+pub returns-in_ok-what-in-Ok-clause-step : goal.returns-in_ok-what-in-Ok-clause-step
+returns-in_ok-what-in-Ok-clause-step g c = λ p s h f stands keeps named kept reads take.
     let n = c.args.n in
     let part = part_seen c.args.part.now in
     let fragment = c.args.fragment.now in
@@ -23,11 +24,11 @@ returns-in_ok-what-in-Ok g c = λ p s h f stands keeps named kept reads take.
       Some shown,
       ap (λ x. unless_failure s n x (take (Some shown))) sound,
       under_scope p (look_of c.in_ok-what-in-Ok.what) h f part.id c.in-Ok.scope.values (scope_given (locals_of f.directives) part.args) values
-          (c.in_ok-what-in-Ok.ensures p h f part.fragment named kept reads keeps part.args c.in-Ok.ensures.environment),
+          (c.in_ok-what-in-Ok.ensures.shown p h f part.fragment named kept reads keeps part.args c.in-Ok.ensures.environment),
     )
 
-pub returns-in_ok-refuse_variables-in-Err : goal.returns-in_ok-refuse_variables-in-Err
-returns-in_ok-refuse_variables-in-Err g c = λ p s h f stands keeps named kept reads take.
+pub returns-in_ok-refuse_variables-in-Err-clause-step : goal.returns-in_ok-refuse_variables-in-Err-clause-step
+returns-in_ok-refuse_variables-in-Err-clause-step g c = λ p s h f stands keeps named kept reads take.
     let k : Kept = c.args.self.now in
     let n = c.args.n in
     let part = part_seen c.args.part.now in
@@ -39,3 +40,10 @@ returns-in_ok-refuse_variables-in-Err g c = λ p s h f stands keeps named kept r
     same_step k p (unless_failure s n found last) (of_fragment p s n part (Some f) (λ step. step) take) c.in_ok-refuse_variables-in-Err.field-0
     (ap (λ x. unless_failure s n x last) same)
     (failing k p s n found c.in-Err.fault c.in_ok-refuse_variables-in-Err.field-0 last stands c.in-Err.ensures.fault c.in_ok-refuse_variables-in-Err.ensures)
+
+pub returns-in_ok-what-in-Ok-clause-found : goal.returns-in_ok-what-in-Ok-clause-found
+returns-in_ok-what-in-Ok-clause-found g c = λ p h f keeps kept reads m.
+    let part = part_seen c.args.part.now in
+    let values : c.in-Ok.scope.values ≡ scope_given (locals_of f.directives) part.args = c.in-Ok.ensures.values ∙ ap (λ ls. scope_given ls part.args) kept.locals in
+    ap (λ (r : Found). r ∷ [])
+    (ap (λ (vs : Values). fragment_read p m h f vs part.id) (sym values) ∙ c.in_ok-what-in-Ok.ensures.found p h f part.fragment kept reads keeps part.args c.in-Ok.ensures.environment m)
