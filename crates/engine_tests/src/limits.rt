@@ -7,7 +7,8 @@ fragment M on Query@argumentDefinitions(size:{type:\"Int!\"}){m:team(size:$size)
 
 const FIRST: &str = r#"{"do":"retain","handle":"h","op":"Q"}"#;
 
-const LAYERS: &str = r#"> {"do":"begin","layer":"z","handle":"h","response":null,"updates":[{"create":{"id":"t","type":"X"}}]}
+const LAYERS: &str =
+    r#"> {"do":"begin","layer":"z","handle":"h","response":null,"updates":[{"create":{"id":"t","type":"X"}}]}
 {"code":17,"error":"TooMany","kind":"layers","limit":1000,"n":1002}
 > {"do":"begin","layer":"z","handle":"y","response":null}
 {"code":7,"error":"UnknownHandle","n":1003,"name":"y"}

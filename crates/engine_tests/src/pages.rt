@@ -141,7 +141,8 @@ fn a_page_has_no_information_or_no_edges_or_is_null(rt: HostRuntime) -> Result<(
     Ok(())
 }
 
-const FILTERS: &str = r#"query A{me{friends(first:1)@connection(key:"A_friends",filters:["first"]){edges{node{name}}}}}
+const FILTERS: &str =
+    r#"query A{me{friends(first:1)@connection(key:"A_friends",filters:["first"]){edges{node{name}}}}}
 query B{me{friends(first:2)@connection(key:"A_friends",filters:["first"]){edges{node{name}}}}}"#;
 
 const TWO: &str = r#"> {"do":"retain","handle":"a","op":"A"}

@@ -201,7 +201,8 @@ fn names_are_known_and_handles_are_free(rt: HostRuntime) -> Result<(), Fail> {
     Ok(())
 }
 
-const TWICE: &str = r#"query D($s:Boolean=false){me{...R@arguments(b:true)@skip(if:$s) ...R@arguments(b:false)}}
+const TWICE: &str =
+    r#"query D($s:Boolean=false){me{...R@arguments(b:true)@skip(if:$s) ...R@arguments(b:false)}}
 fragment R on User@argumentDefinitions(b:{type:"Boolean",defaultValue:false}){name@include(if:$b)}"#;
 
 const SECOND: &str = r#"> {"do":"retain","handle":"h","op":"D"}
@@ -229,7 +230,8 @@ fn the_first_spread_of_a_name_counts(rt: HostRuntime) -> Result<(), Fail> {
     Ok(())
 }
 
-const NULLS: &str = "query Q($b:Int!,$a:Int!){me{name address{city} tags{text}} team(size:$a){name} x:team(size:$b){age}}
+const NULLS: &str =
+    "query Q($b:Int!,$a:Int!){me{name address{city} tags{text}} team(size:$a){name} x:team(size:$b){age}}
 query U{node(id:\"4\"){__typename}}";
 
 const EVERYWHERE: &str = r#"> {"do":"retain","handle":"h","op":"Q"}

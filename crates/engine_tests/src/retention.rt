@@ -212,11 +212,15 @@ const THROUGH_LINKS: &str = r#"> {"do":"retain","handle":"a","op":"A"}
 #[test]
 fn a_walk_goes_through_spreads_and_links_of_others(rt: HostRuntime) -> Result<(), Fail> {
     let alloc = rt.alloc();
-    assert_eq!(rt; replayed(alloc, SPREADS, THROUGH_LINKS)?.as_str(), THROUGH_LINKS);
+    assert_eq!(rt;
+        replayed(alloc, SPREADS, THROUGH_LINKS)?.as_str(),
+        THROUGH_LINKS
+    );
     Ok(())
 }
 
-const PAGES: &str = r#"query K($after:String){me{friends(first:2,after:$after)@connection(key:"K_friends"){edges{node{name}}}}}
+const PAGES: &str =
+    r#"query K($after:String){me{friends(first:2,after:$after)@connection(key:"K_friends"){edges{node{name}}}}}
 query E{me{id}} fragment P on User{name}"#;
 
 const BOTH_KEYS: &str = r#"> {"do":"retain","handle":"h","op":"K"}

@@ -74,8 +74,14 @@ const COMES_BACK: &str = r#"> {"do":"retain","handle":"h","op":"N"}
 #[test]
 fn a_watched_record_is_absent_then_deleted_then_back(rt: HostRuntime) -> Result<(), Fail> {
     let alloc = rt.alloc();
-    assert_eq!(rt; replayed(alloc, ON_FRAGMENT, COMES_BACK)?.as_str(), COMES_BACK);
-    assert_eq!(rt; replayed_flat(alloc, ON_FRAGMENT, COMES_BACK)?.as_str(), COMES_BACK);
+    assert_eq!(rt;
+        replayed(alloc, ON_FRAGMENT, COMES_BACK)?.as_str(),
+        COMES_BACK
+    );
+    assert_eq!(rt;
+        replayed_flat(alloc, ON_FRAGMENT, COMES_BACK)?.as_str(),
+        COMES_BACK
+    );
     Ok(())
 }
 
