@@ -1,6 +1,9 @@
-//! Tests of the persistent tree, of record maps, and of sweeps of them through layers.
+//! Tests of the persistent tree, of record maps, of sweeps of them through layers, and of connections
+//! in them whose counter is at its end.
 #![tactic(auto)]
 
+#[cfg(test)]
+mod counters;
 #[cfg(test)]
 mod sources;
 #[cfg(test)]
