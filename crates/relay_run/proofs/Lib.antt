@@ -8,3 +8,7 @@ pub mod FileLaws
 pub mod Opening
 pub mod ArtifactLines
 pub mod Finished
+pub mod Decimals
+pub mod BulkLaws
+pub mod OneLine
+pub mod SummaryLaws

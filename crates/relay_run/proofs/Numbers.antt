@@ -13,10 +13,10 @@ same_truth false false to from = refl
 abbrev digit : ℕ → Bool
 digit b = nat_le 48 b && nat_le b 57
 
-abbrev more : ℕ → ℕ → ℕ
+abbrev pub more : ℕ → ℕ → ℕ
 more n b = 10 * n + (b - 48)
 
-more_of : (n : ℕ) (bs : List ℕ) → n ≤ fold more n bs
+pub more_of : (n : ℕ) (bs : List ℕ) → n ≤ fold more n bs
 more_of n [] = omega arith
 more_of n (b ∷ bs) = omega (arith, more_of (more n b) bs)
 

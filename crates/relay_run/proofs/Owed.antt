@@ -3,17 +3,19 @@ use Rattle.std.proofs.Common.{◌≡◌, ◌⊎◌, ◌↔◌, ◌≤◌, ◌+�
 use Rattle.std.specs.Io.KnownBytes.{IsAtEnd}
 use Rattle.std.proofs.lemmas.Bool.{cases_eq}
 use Rattle.std.proofs.lemmas.List.{append-nil, take_all}
+use Rattle.bulk_laws.specs.BulkProject.{bulk_project}
 use Rattle.relay_io.specs.Streams.{append, prepend}
 use Rattle.schema_tables.specs.Types.{Text}
+use Rattle.relay_machine.specs.Bulk.{bulk_summary}
 use Rattle.relay_machine.specs.Machine.{Project}
 use Rattle.relay_machine.specs.Printed.{project_fault}
-use Rattle.relay_run.specs.Answers.{Course, unknown, refused, accepted, IsCourse, IsTheProjectOf, IsTheFaultOf, Answering, AnsweringBy, IsCall, Ran, Took, output_of, has_refusal_in, due, refuses, left_over, IsReadWhole, IsReadBy, IsEndedFor, IsScriptFor, IsUntouched}
+use Rattle.relay_run.specs.Answers.{Course, unknown, refused, accepted, IsCourse, IsTheProjectOf, IsTheFaultOf, Answering, AnsweringBy, IsCall, Ran, Took, output_of, has_refusal_in, due, refuses, left_over, IsReadWhole, IsReadBy, IsEndedFor, IsScriptFor, IsUntouched, EndsLine, AnsweringBulk, IsAnswered, IsBulkCall}
 use Rattle.relay_run.specs.Files.{Files, Contents, absent, contents_of, IsProject, IsFault, IsFirstAbsent}
-use Rattle.relay_run.specs.Output.{max_script, output_text}
+use Rattle.relay_run.specs.Output.{max_script, output_text, AddsPartOf}
 use Rattle.relay_run.specs.Statuses.{IsDone}
-use Rattle.relay_run.specs.Words.{Form, run, compile}
+use Rattle.relay_run.specs.Words.{Asked, Form, run, compile, on_files, bulk}
 use Rattle.relay_run.specs.declared.status.Status.{Status}
-use Rattle.relay_run.specs.declared.status.Status.TheVariants.{DoneWithRefusals, Usage, ProjectRefused, ReadFault, WriteFault, NoMemory, ScriptTooLong}
+use Rattle.relay_run.specs.declared.status.Status.TheVariants.{Done, DoneWithRefusals, Usage, ProjectRefused, ReadFault, WriteFault, NoMemory, ScriptTooLong}
 use Rattle.relay_run.proofs.Courses.{not_done, nothing_given}
 
 all_given : (bytes taken : Text) (after : Option Text) → Some bytes ≡ prepend taken after → IsAtEnd after → (after ≡ Some []) × (taken ≡ bytes)
@@ -300,3 +302,148 @@ module _ (status : Status) (script sink : Type 0) (left left_now : Option Text) 
   -- to compile, the script is not called
   pub owed_scriptless : (files : Option Files) (schema : Text) (documents : List Text) (vault : Type 0) → Called files (compile schema documents) vault → (left_now ≡ left) × (reads_now ≡ reads)
   owed_scriptless files schema documents vault w = scriptless_in schema documents w.0 w.3
+
+  -- ---- a call by what is asked for
+
+  abbrev pub Answered : Option Files → Asked → Type 0 → (looks looks_now : ℕ) → Type 0
+  Answered files asked vault looks looks_now =
+      IsAnswered files asked status vault script sink looks looks_now left left_now reads reads_now held held_now puts puts_now
+
+  bulk_usage : AnsweringBulk status sink → status ≡ Usage → ⊥
+  bulk_usage answers e = elim answers [
+    | inl done ↦ other_than Usage Done (λ x. cc) done e
+    | inr f ↦ elim f [
+      | inl w ↦ other_than Usage WriteFault (λ x. cc) w.0 e
+      | inr m ↦ other_than Usage NoMemory (λ x. cc) m e
+    ]
+  ]
+
+  -- the words are a form
+  pub any_usage : (files : Option Files) (asked : Asked) (vault : Type 0) (looks looks_now : ℕ) → Answered files asked vault looks looks_now → status ≡ Usage → ⊥
+  any_usage files (on_files form) vault looks looks_now w e = owed_usage files form vault w.0 e
+  any_usage files (bulk seed count) vault looks looks_now w e = bulk_usage w.answers e
+
+  pub any_unread : (files : Option Files) (asked : Asked) (vault : Type 0) (looks looks_now : ℕ) → Answered files asked vault looks looks_now → status ≡ ProjectRefused
+      → (left_now ≡ left) × (reads_now ≡ reads)
+  any_unread files (on_files form) vault looks looks_now w e = owed_unread files form vault w.0 e
+  any_unread files (bulk seed count) vault looks looks_now w e = w.unread
+
+  no_read_fault : AnsweringBulk status sink → status ≡ ReadFault → ⊥
+  no_read_fault answers e = elim answers [
+    | inl done ↦ other_than ReadFault Done (λ x. cc) done e
+    | inr f ↦ elim f [
+      | inl w ↦ other_than ReadFault WriteFault (λ x. cc) w.0 e
+      | inr m ↦ other_than ReadFault NoMemory (λ x. cc) m e
+    ]
+  ]
+
+  pub any_unopened : (files : Option Files) (asked : Asked) (vault : Type 0) (looks looks_now : ℕ) → Answered files asked vault looks looks_now → status ≡ ReadFault → (script → ⊥)
+      → (left_now ≡ left) × (reads_now ≡ reads) × (held_now ≡ held) × (puts_now ≡ puts)
+  any_unopened files (on_files form) vault looks looks_now w e none = owed_unopened files form vault w.0 e none
+  any_unopened files (bulk seed count) vault looks looks_now w e none = absurd (no_read_fault w.answers e)
+
+  ran_ends : (form : Form) (course : Course) → Ran form course status left left_now reads reads_now held held_now puts puts_now
+      → (status ≡ WriteFault) ⊎ ((added : Text) × (held_now ≡ append held added) × EndsLine added)
+  ran_ends form course r = elim r.ends [ inl e ↦ inl e | inr e ↦ inr (r.added, r.adds, e) ]
+
+  -- what is written ends a line
+  pub any_ends : (files : Option Files) (asked : Asked) (vault : Type 0) (looks looks_now : ℕ) → Answered files asked vault looks looks_now
+      → (status ≡ WriteFault) ⊎ ((added : Text) × (held_now ≡ append held added) × EndsLine added)
+  any_ends files (on_files form) vault looks looks_now w = ran_ends form w.0.0 w.0.3
+  any_ends files (bulk seed count) vault looks looks_now w =
+      let s = w.wrote in elim s.ends [ inl e ↦ inl e | inr e ↦ inr (s.added, s.adds, e) ]
+
+  untaken : IsUntouched left left_now reads reads_now → (taken : Text) × (left ≡ prepend taken left_now) × (reads_now ≤ reads + length taken + 1)
+  untaken u = let few = u.1 in ([], sym u.0 ∙ nothing_given left_now, omega (arith, few))
+
+  pub any_script_calls : (files : Option Files) (asked : Asked) (vault : Type 0) (looks looks_now : ℕ) → Answered files asked vault looks looks_now
+      → (taken : Text) × (left ≡ prepend taken left_now) × (reads_now ≤ reads + length taken + 1)
+  any_script_calls files (on_files form) vault looks looks_now w = let r = w.0.3 in (r.taken, r.took.is, r.reads_most)
+  any_script_calls files (bulk seed count) vault looks looks_now w = untaken w.unread
+
+  pub any_sink_calls : (files : Option Files) (asked : Asked) (vault : Type 0) (looks looks_now : ℕ) → Answered files asked vault looks looks_now
+      → (added : Text) × (held_now ≡ append held added) × (puts_now ≤ puts + length added + 1)
+  any_sink_calls files (on_files form) vault looks looks_now w = let r = w.0.3 in (r.added, r.adds, r.puts_most)
+  any_sink_calls files (bulk seed count) vault looks looks_now w = let s = w.wrote in (s.added, s.adds, s.puts_most)
+
+  -- a put failed
+  write_fault_in : (form : Form) (course : Course) (vault : Type 0) → Answering form course status vault script sink → status ≡ WriteFault → sink
+  write_fault_in form unknown vault answering e = absurd (elim answering [
+    | inl f ↦ other_than WriteFault ReadFault (λ x. cc) f.0 e
+    | inr f ↦ other_than WriteFault NoMemory (λ x. cc) f e
+  ])
+  write_fault_in form (refused f l k g) vault answering e = elim answering [
+    | inl h ↦ absurd (other_than WriteFault ProjectRefused (λ x. cc) h e)
+    | inr h ↦ elim h [ inl w ↦ w.1 | inr m ↦ absurd (other_than WriteFault NoMemory (λ x. cc) m e) ]
+  ]
+  write_fault_in form (accepted p) vault answering e = elim (among_all form status script sink answering) [
+    | inl done ↦ let d : ⊥ = subst IsDone e done in absurd d
+    | inr f ↦ elim f [
+      | inl g ↦ absurd (other_than WriteFault ReadFault (λ x. cc) g.0 e)
+      | inr f ↦ elim f [
+        | inl g ↦ g.1
+        | inr f ↦ elim f [
+          | inl g ↦ absurd (other_than WriteFault NoMemory (λ x. cc) g e)
+          | inr g ↦ absurd (other_than WriteFault ScriptTooLong (λ x. cc) g e)
+        ]
+      ]
+    ]
+  ]
+
+  bulk_write_fault : AnsweringBulk status sink → status ≡ WriteFault → sink
+  bulk_write_fault answers e = elim answers [
+    | inl done ↦ absurd (other_than WriteFault Done (λ x. cc) done e)
+    | inr f ↦ elim f [
+      | inl w ↦ w.1
+      | inr m ↦ absurd (other_than WriteFault NoMemory (λ x. cc) m e)
+    ]
+  ]
+
+  pub any_write_fault : (files : Option Files) (asked : Asked) (vault : Type 0) (looks looks_now : ℕ) → Answered files asked vault looks looks_now → status ≡ WriteFault → sink
+  any_write_fault files (on_files form) vault looks looks_now w e = write_fault_in form w.0.0 (vault ⊎ IsFirstAbsent files form) w.0.2 e
+  any_write_fault files (bulk seed count) vault looks looks_now w e = bulk_write_fault w.answers e
+
+  read_fault_in : (form : Form) (course : Course) (vault : Type 0) → Answering form course status vault script sink → status ≡ ReadFault → vault ⊎ script
+  read_fault_in form unknown vault answering e = elim answering [
+    | inl f ↦ inl f.1
+    | inr f ↦ absurd (other_than ReadFault NoMemory (λ x. cc) f e)
+  ]
+  read_fault_in form (refused f l k g) vault answering e = absurd (elim answering [
+    | inl h ↦ other_than ReadFault ProjectRefused (λ x. cc) h e
+    | inr h ↦ elim h [ inl w ↦ other_than ReadFault WriteFault (λ x. cc) w.0 e | inr m ↦ other_than ReadFault NoMemory (λ x. cc) m e ]
+  ])
+  read_fault_in form (accepted p) vault answering e =
+      inr (not_accepted ReadFault (λ d. d) (λ x. cc) (λ x. cc) (λ x. cc) form p vault answering e).1
+
+  -- why a file or the script could not be read
+  pub owed_read_fault : (files : Option Files) (form : Form) (vault : Type 0) → Called files form vault → status ≡ ReadFault → vault ⊎ (script ⊎ IsFirstAbsent files form)
+  owed_read_fault files form vault w e = elim (read_fault_in form w.0 (vault ⊎ IsFirstAbsent files form) w.2 e) [
+    | inl h ↦ elim h [ inl v ↦ inl v | inr a ↦ inr (inr a) ]
+    | inr s ↦ inr (inl s)
+  ]
+
+  -- at each answer
+  pub owed_part : (files : Option Files) (form : Form) (vault : Type 0) → Called files form vault
+      → (course : Course) × IsCourse files form course × (taken : Text) × (ended : Bool) × Took form course status left left_now taken ended
+      × AddsPartOf held held_now (due form course (take max_script taken) ended)
+  owed_part files form vault w = let r = w.3 in (w.0, w.1, r.taken, r.ended, r.took, (r.added, r.more, r.adds, r.part))
+
+  -- ---- the summary
+
+  abbrev IsSummed : (seed count : ℕ) → (looks looks_now : ℕ) → Type 0
+  IsSummed seed count looks looks_now = IsBulkCall seed count status sink looks looks_now left left_now reads reads_now held held_now puts puts_now
+
+  pub owed_bulk : (seed count looks looks_now : ℕ) → IsSummed seed count looks looks_now → status ≡ Done → held_now ≡ append held (bulk_summary bulk_project seed count)
+  owed_bulk seed count looks looks_now w done =
+      let s = w.wrote in s.adds ∙ ap (append held) (sym (append-nil s.added) ∙ ap (λ m. s.added ++ m) (sym (s.whole done)) ∙ s.part)
+
+  pub owed_bulk_part : (seed count looks looks_now : ℕ) → IsSummed seed count looks looks_now → AddsPartOf held held_now (bulk_summary bulk_project seed count)
+  owed_bulk_part seed count looks looks_now w = let s = w.wrote in (s.added, s.more, s.adds, s.part)
+
+  -- where nothing fails and memory is had
+  pub owed_bulk_complete : (seed count looks looks_now : ℕ) → IsSummed seed count looks looks_now → (sink → ⊥)
+      → (status ≡ NoMemory) ⊎ ((status ≡ Done) × (held_now ≡ append held (bulk_summary bulk_project seed count)))
+  owed_bulk_complete seed count looks looks_now w none = elim w.answers [
+    | inl done ↦ inr (done, owed_bulk seed count looks looks_now w done)
+    | inr f ↦ elim f [ inl h ↦ absurd (none h.1) | inr m ↦ inl m ]
+  ]

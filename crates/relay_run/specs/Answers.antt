@@ -1,18 +1,20 @@
 -- What the answers of a call owe.
 use Rattle.std.specs.Prelude.{◌≡◌, ◌⊎◌, ◌↔◌, ℕ, ◌+◌, ◌≤◌, [], ◌∷◌, ◌++◌, length, take, Bool, false, Option, Some, None, Result, Ok, Err, Vec, ⊤, IsTrue, IsFalse}
 use Rattle.std.specs.Io.KnownBytes.{IsAtEnd}
+use Rattle.bulk_laws.specs.BulkProject.{bulk_project}
 use Rattle.relay_io.specs.Streams.{append, prepend}
 use Rattle.schema_tables.specs.Types.{Text}
+use Rattle.relay_machine.specs.Bulk.{bulk_summary}
 use Rattle.relay_machine.specs.Machine.{Project}
 use Rattle.relay_machine.specs.Printed.{project_fault}
 use Rattle.relay_run.specs.Files.{Files, contents_of, IsProject, IsFault, IsFirstAbsent}
 use Rattle.relay_run.specs.Output.{max_script, output_text, has_refusal, artifacts_text}
 use Rattle.relay_run.specs.Statuses.{IsDone}
-use Rattle.relay_run.specs.Words.{Form, run, compile}
+use Rattle.relay_run.specs.Words.{Asked, Form, run, compile, on_files, bulk, file_names}
 use Rattle.relay_run.specs.declared.script.ScriptFault.{ScriptFault}
 use Rattle.relay_run.specs.declared.script.ScriptFault.TheVariants.{Failed, TooLong, NoMemory as NoRoom}
 use Rattle.relay_run.specs.declared.status.Status.{Status}
-use Rattle.relay_run.specs.declared.status.Status.TheVariants.{DoneWithRefusals, ProjectRefused, ReadFault, WriteFault, NoMemory, ScriptTooLong}
+use Rattle.relay_run.specs.declared.status.Status.TheVariants.{Done, DoneWithRefusals, ProjectRefused, ReadFault, WriteFault, NoMemory, ScriptTooLong}
 
 -- ---- files
 
@@ -185,3 +187,33 @@ abbrev pub IsCall : (files : Option Files) (form : Form) (status : Status) (vaul
 IsCall files form status vault script sink left left_now reads reads_now held held_now puts puts_now =
     (course : Course) × IsCourse files form course × Answering form course status (vault ⊎ IsFirstAbsent files form) script sink
     × Ran form course status left left_now reads reads_now held held_now puts puts_now
+
+-- ---- the summary of the large script
+
+-- which answers come where the summary is asked for, each with what it comes by
+abbrev pub AnsweringBulk : Status → (sink : Type 0) → Type 0
+AnsweringBulk status sink = (status ≡ Done) ⊎ (((status ≡ WriteFault) × sink) ⊎ (status ≡ NoMemory))
+
+-- what a call that writes a text, and is answered so, gave to the sink, and how often it called it at most
+pub record Wrote (text : Text) (status : Status) (held held_now : Option Text) (puts puts_now : ℕ) : Type 0 where
+  pub added : Text
+  pub adds : held_now ≡ append held added
+  pub puts_most : puts_now ≤ puts + length added + 1
+  pub ends : (status ≡ WriteFault) ⊎ EndsLine added
+  pub more : Text
+  pub part : added ++ more ≡ text
+  pub whole : status ≡ Done → more ≡ []
+
+-- a call that asks for the summary, and is answered so: neither files nor the script are called
+pub record IsBulkCall (seed count : ℕ) (status : Status) (sink : Type 0) (looks looks_now : ℕ) (left left_now : Option Text) (reads reads_now : ℕ) (held held_now : Option Text) (puts puts_now : ℕ) : Type 0 where
+  pub answers : AnsweringBulk status sink
+  pub wrote : Wrote (bulk_summary bulk_project seed count) status held held_now puts puts_now
+  pub unread : IsUntouched left left_now reads reads_now
+  pub unopened : looks_now ≡ looks
+
+-- a call by what is asked for
+abbrev pub IsAnswered : (files : Option Files) (asked : Asked) (status : Status) (vault script sink : Type 0) (looks looks_now : ℕ) (left left_now : Option Text) (reads reads_now : ℕ) (held held_now : Option Text) (puts puts_now : ℕ) → Type 0
+IsAnswered files (on_files form) status vault script sink looks looks_now left left_now reads reads_now held held_now puts puts_now =
+    IsCall files form status vault script sink left left_now reads reads_now held held_now puts puts_now × (looks_now ≤ looks + length (file_names form))
+IsAnswered files (bulk seed count) status vault script sink looks looks_now left left_now reads reads_now held held_now puts puts_now =
+    IsBulkCall seed count status sink looks looks_now left left_now reads reads_now held held_now puts puts_now

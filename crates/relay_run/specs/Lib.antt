@@ -1,6 +1,7 @@
 pub mod Words
 pub mod Statuses
 pub mod FormShown
+pub mod BulkShown
 pub mod Projects
 pub mod Files
 pub mod Output

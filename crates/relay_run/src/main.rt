@@ -3,6 +3,7 @@
 
 ghost use Rattle.std.specs.Prelude.{◌≡◌, ◌⊎◌, IfErr};
 
+mod bulk;
 mod compiling;
 mod files;
 mod lines;
@@ -13,6 +14,7 @@ mod rows;
 mod rules;
 mod script;
 mod status;
+mod summary;
 #[cfg(test)]
 mod tests;
 mod top;

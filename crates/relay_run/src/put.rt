@@ -57,7 +57,7 @@ pub fn put_lines<K: Sink>(alloc: Global, lines: &[Words], out: &mut K) -> Result
 }
 
 /// The bytes of lines, each with its LF.
-fn bytes_of(alloc: Global, lines: &[Words]) -> Result<Vec<u8>, NoMemory>
+pub fn bytes_of(alloc: Global, lines: &[Words]) -> Result<Vec<u8>, NoMemory>
     ensures { IfOk result (λ bytes. bytes.items ≡ written lines.now) }
 {
     let mut bytes = Vec::new(alloc);

@@ -77,6 +77,32 @@ fn words_are_a_form_or_usage(rt: HostRuntime) -> Result<(), Fail> {
     Ok(())
 }
 
+// Words after `bulk` that are no form, a row a line.
+const NO_BULK: &str = "7\n7 3 1\n07 3\n+7 3\n7x 3\n18446744073709551616 3\n7 0\n7 03\n7 1000001";
+
+#[test]
+fn words_sum_up_a_script_or_are_usage(rt: HostRuntime) -> Result<(), Fail> {
+    let alloc = rt.alloc();
+    assert_eq!(rt; answer_of(alloc, &["bulk"])?, Status::Usage);
+    for row in NO_BULK.lines() {
+        let mut words = Vec::new(alloc);
+        words.push("bulk")?;
+        for word in row.split(' ') {
+            words.push(word)?;
+        }
+        assert_eq!(rt; answer_of(alloc, &words)?, Status::Usage, "at {row}");
+    }
+    let vault = MemVault::new(Vec::new(alloc), Vec::new(alloc));
+    let words = ["bulk", "7", "3"];
+    let (status, held) = run_of(alloc, &words, vault, "", 60, Vec::new(alloc))?;
+    assert_eq!(rt; status, Status::Done);
+    assert_eq!(rt;
+        held.as_slice(),
+        b"{\"bytes\":205,\"lines\":3,\"notices\":1,\"refused\":0}\n".as_slice()
+    );
+    Ok(())
+}
+
 #[test]
 fn words_compile_one_to_a_thousand_documents(rt: HostRuntime) -> Result<(), Fail> {
     let alloc = rt.alloc();

@@ -1,12 +1,15 @@
 //! The words of the program.
 ghost use Rattle.std.specs.Prelude.{◌≡◌, true, map, option_map, IfSome};
-ghost use Rattle.relay_run.specs.FormShown.{form_shown};
-ghost use Rattle.relay_run.specs.Words.{form_of, run_form, compile_form, is_buffer, are_documents, decimal, IsWithin};
+ghost use Rattle.relay_run.specs.FormShown.{asked_shown};
+ghost use Rattle.relay_run.specs.Words.{asked_by, run_form, compile_form, bulk_form, is_buffer, is_plain, are_documents, decimal, decimal_in, seed_in, count_in, IsAskedWithin};
 
 /// The most documents of a project.
 const MAX_DOCUMENTS: usize = 1_000;
 
-/// What the words ask for.
+/// The most lines that are asked for of the large script.
+const MAX_LINES: u64 = 1_000_000;
+
+/// What the words ask for over files.
 #[derive(Clone, Copy, Debug)]
 pub enum Form<'a, 'b> {
     /// Runs a script against the project of these files, and keeps at most `buffer` released
@@ -23,45 +26,70 @@ pub enum Form<'a, 'b> {
     },
 }
 
+/// What the words ask for.
+#[derive(Clone, Copy, Debug)]
+pub enum Asked<'a, 'b> {
+    OnFiles(Form<'a, 'b>),
+    /// The summary of the first `count` lines of the large script of this seed.
+    Bulk { seed: u64, count: u64 },
+}
+
 /// What the words ask for: `run B SCHEMA DOC..`, with a B of 1 to 100, or `compile SCHEMA DOC..`, each
-/// with 1 to 1,000 documents. None where they are no form; takes no memory.
-pub fn form_of<'a, 'b>(words: &'b [&'a str]) -> Option<Form<'a, 'b>>
-    ensures asked { option_map form_shown result ≡ form_of (map (λ w. w.now) words.now) }
-    ensures within { IfSome result (λ f. IsWithin (form_shown f)) }
+/// with 1 to 1,000 documents, or `bulk SEED COUNT`, with a SEED below 2^64 and a COUNT of 1 to
+/// 1,000,000. None where they are no form; takes no memory.
+pub fn asked_by<'a, 'b>(words: &'b [&'a str]) -> Option<Asked<'a, 'b>>
+    ensures asked { option_map asked_shown result ≡ asked_by (map (λ w. w.now) words.now) }
+    ensures within { IfSome result (λ a. IsAskedWithin (asked_shown a)) }
 {
     match words {
         [first, words @ ..] if *first == "run" => run_form(words),
         [first, words @ ..] if *first == "compile" => compile_form(words),
+        [first, words @ ..] if *first == "bulk" => bulk_form(words),
         _ => None,
     }
 }
 
 /// What the words after `run` ask for.
-fn run_form<'a, 'b>(words: &'b [&'a str]) -> Option<Form<'a, 'b>>
-    ensures asked { option_map form_shown result ≡ run_form (map (λ w. w.now) words.now) }
-    ensures within { IfSome result (λ f. IsWithin (form_shown f)) }
+fn run_form<'a, 'b>(words: &'b [&'a str]) -> Option<Asked<'a, 'b>>
+    ensures asked { option_map asked_shown result ≡ run_form (map (λ w. w.now) words.now) }
+    ensures within { IfSome result (λ a. IsAskedWithin (asked_shown a)) }
 {
     match words {
         [word, schema, documents @ ..] if is_buffer(word) && are_documents(documents) => {
             let buffer = number(word);
-            Some(Form::Run {
+            Some(Asked::OnFiles(Form::Run {
                 buffer,
                 schema,
                 documents,
-            })
+            }))
         }
         _ => None,
     }
 }
 
 /// What the words after `compile` ask for.
-fn compile_form<'a, 'b>(words: &'b [&'a str]) -> Option<Form<'a, 'b>>
-    ensures asked { option_map form_shown result ≡ compile_form (map (λ w. w.now) words.now) }
-    ensures within { IfSome result (λ f. IsWithin (form_shown f)) }
+fn compile_form<'a, 'b>(words: &'b [&'a str]) -> Option<Asked<'a, 'b>>
+    ensures asked { option_map asked_shown result ≡ compile_form (map (λ w. w.now) words.now) }
+    ensures within { IfSome result (λ a. IsAskedWithin (asked_shown a)) }
 {
     match words {
         [schema, documents @ ..] if are_documents(documents) => {
-            Some(Form::Compile { schema, documents })
+            Some(Asked::OnFiles(Form::Compile { schema, documents }))
+        }
+        _ => None,
+    }
+}
+
+/// What the words after `bulk` ask for.
+fn bulk_form<'a, 'b>(words: &'b [&'a str]) -> Option<Asked<'a, 'b>>
+    ensures asked { option_map asked_shown result ≡ bulk_form (map (λ w. w.now) words.now) }
+    ensures within { IfSome result (λ a. IsAskedWithin (asked_shown a)) }
+{
+    match words {
+        [seed, count] => {
+            let seed = seed_of(seed)?;
+            let count = count_of(count)?;
+            Some(Asked::Bulk { seed, count })
         }
         _ => None,
     }
@@ -97,4 +125,53 @@ fn number(word: &str) -> u64
         [_, _, _, ..] => 100,
         [] => 0,
     }
+}
+
+/// The number of 1 to 1,000,000 that the word is: decimal digits without a sign and without a zero in
+/// front.
+fn count_of(word: &str) -> Option<u64>
+    ensures { result ≡ count_in word.now }
+{
+    let count = seed_of(word)?;
+    if 1 <= count && count <= MAX_LINES {
+        Some(count)
+    } else {
+        None
+    }
+}
+
+/// The number below 2^64 that the word is: decimal digits without a sign and without a zero in front.
+fn seed_of(word: &str) -> Option<u64>
+    ensures { result ≡ seed_in word.now }
+{
+    let digits = word.as_bytes();
+    if !is_plain(digits) {
+        return None;
+    }
+    decimal_of(digits)
+}
+
+/// Whether there is something, and no zero in front of more.
+fn is_plain(digits: &[u8]) -> bool
+    ensures { result ≡ is_plain digits.now }
+{
+    match digits {
+        [] => false,
+        [_] => true,
+        [first, _, ..] => *first != b'0',
+    }
+}
+
+/// The number below 2^64 that these digits write.
+fn decimal_of(digits: &[u8]) -> Option<u64>
+    ensures { result ≡ decimal_in digits.now }
+{
+    let mut number = 0u64;
+    'digits: for digit in digits {
+        if !digit.is_ascii_digit() {
+            return None;
+        }
+        number = number.checked_mul(10)?.checked_add((*digit - b'0') as u64)?;
+    }
+    Some(number)
 }
