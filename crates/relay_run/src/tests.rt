@@ -78,10 +78,11 @@ fn words_are_a_form_or_usage(rt: HostRuntime) -> Result<(), Fail> {
 }
 
 // Words after `bulk` that are no form, a row a line.
-const NO_BULK: &str = "7\n7 3 1\n07 3\n+7 3\n7x 3\n18446744073709551616 3\n7 0\n7 03\n7 1000001";
+const NO_BULK: &str =
+    "7\n7 3 4\n07 3\n-7 3\n+7 3\n7x 3\n18446744073709551616 3\n7 0\n7 03\n7 1000001";
 
 #[test]
-fn words_sum_up_a_script_or_are_usage(rt: HostRuntime) -> Result<(), Fail> {
+fn words_that_ask_for_no_summary_are_usage(rt: HostRuntime) -> Result<(), Fail> {
     let alloc = rt.alloc();
     assert_eq!(rt; answer_of(alloc, &["bulk"])?, Status::Usage);
     for row in NO_BULK.lines() {
@@ -92,14 +93,48 @@ fn words_sum_up_a_script_or_are_usage(rt: HostRuntime) -> Result<(), Fail> {
         }
         assert_eq!(rt; answer_of(alloc, &words)?, Status::Usage, "at {row}");
     }
-    let vault = MemVault::new(Vec::new(alloc), Vec::new(alloc));
-    let words = ["bulk", "7", "3"];
-    let (status, held) = run_of(alloc, &words, vault, "", 60, Vec::new(alloc))?;
-    assert_eq!(rt; status, Status::Done);
-    assert_eq!(rt;
-        held.as_slice(),
-        b"{\"bytes\":205,\"lines\":3,\"notices\":1,\"refused\":0}\n".as_slice()
-    );
+    Ok(())
+}
+
+// What these words are answered where the sink takes so many bytes a call, and what it holds then.
+fn summary_of(
+    alloc: Global,
+    seed: &str,
+    count: &str,
+    piece: usize,
+    failing: Vec<u64>,
+) -> Result<(Status, Vec<u8>), Fail> {
+    let mut vault = MemVault::new(Vec::new(alloc), Vec::new(alloc));
+    let mut script = MemSource::new(Vec::new(alloc), 1, Vec::new(alloc));
+    let mut out = MemSink::new(alloc, 4096, piece.max(1), failing)?;
+    let mut steps = Counts::new();
+    let words = ["bulk", seed, count];
+    let status = relay_top(alloc, &words, &mut vault, &mut script, &mut out, &mut steps);
+    Ok((status, out.contents().to_vec(alloc)?))
+}
+
+const THREE_LINES: &str = "{\"bytes\":205,\"lines\":3,\"notices\":1,\"refused\":0}\n";
+
+#[test]
+fn a_script_is_summed_up_in_pieces_of_any_size(rt: HostRuntime) -> Result<(), Fail> {
+    let alloc = rt.alloc();
+    for piece in [1, 7, 65_536] {
+        let (status, held) = summary_of(alloc, "7", "3", piece, Vec::new(alloc))?;
+        assert_eq!(rt; status, Status::Done, "at {piece}");
+        assert_eq!(rt; held.as_slice(), THREE_LINES.as_bytes(), "at {piece}");
+    }
+    Ok(())
+}
+
+#[test]
+fn a_sink_that_fails_holds_the_summary_before(rt: HostRuntime) -> Result<(), Fail> {
+    let alloc = rt.alloc();
+    for call in [1, 2, 5] {
+        let (status, held) = summary_of(alloc, "7", "3", 10, one(alloc, call)?)?;
+        assert_eq!(rt; status, Status::WriteFault, "at {call}");
+        assert_eq!(rt; held.len() as u64, 10 * (call - 1), "at {call}");
+        assert!(rt; THREE_LINES.as_bytes().starts_with(&held), "at {call}");
+    }
     Ok(())
 }
 
