@@ -1,42 +1,108 @@
-"""Times the program named first on the scripts of the group named second: measure.py PROGRAM GROUP.
+"""Times the program named first on the rows of a bench: measure.py PROGRAM [WORD..]; with words those rows alone whose names have one of them.
 
-Times are processor times, the least of some rounds over all sizes. It tells of each script whether its last line is the one that is due."""
+The rows stand in rows.py of the bench. Times are processor times, the least of some rounds over all sizes. It tells of each script
+whether its last line is the one that is due. Columns: the whole time; what is left of it where another script's time is taken off; how
+many times what is left at the size before; microseconds for each part; the time of what it is held against, and the ratio to it."""
 
-import os, resource, subprocess, sys
-from scripts import GROUPS, SCHEMA
+import os, resource, subprocess, sys, traceback
+from rows import ROWS
+from scripts import BUFFER, SCHEMA
 
-LONGEST, ROUNDS = 120, 5
+LONGEST, ROUNDS = 300, int(os.environ.get("ROUNDS", "5"))
 
-def run(program, script):
-    """The processor time of a run, its most memory in MiB, its status and its last line."""
-    with open(script, "rb") as lines, open("answer", "w+b") as answer:
+def timed(words, script=os.devnull):
+    """The processor time of a run, its most memory in MiB, and its status. Its last line is put into the file `last`."""
+    with open(script, "rb") as lines, open("answer", "wb") as answer:
         limit = lambda: resource.setrlimit(resource.RLIMIT_CPU, (LONGEST, LONGEST))
-        child = subprocess.Popen([program, "run", "10", "s.graphql", "d.graphql"], stdin=lines, stdout=answer, preexec_fn=limit)
+        child = subprocess.Popen(words, stdin=lines, stdout=answer, preexec_fn=limit)
         _, code, usage = os.wait4(child.pid, 0)
-        answer.seek(max(0, os.path.getsize("answer") - 100_000_000))
-        said = answer.read().decode().rstrip("\n").rsplit("\n", 1)[-1]
-    return usage.ru_utime + usage.ru_stime, usage.ru_maxrss / 1024, os.waitstatus_to_exitcode(code), said
+    with open("last", "wb") as last:
+        subprocess.call(["tail", "-n", "1", "answer"], stdout=last)
+    return usage.ru_utime + usage.ru_stime, usage.ru_maxrss / 1024, os.waitstatus_to_exitcode(code)
 
-program, group = sys.argv[1:]
-wrong = False
-print("script                            count   MiB    ms  times the half  peak MiB  answer")
-for name, counts, make in GROUPS[group]:
-    best, said = {}, {}
-    for _ in range(ROUNDS):
-        for count in counts:
-            if said.get(count, "as due") != "as due":
-                continue
+def head_of(path):
+    with open(path) as file:
+        return file.read(200).rstrip("\n")
+
+def put(folder, make, count):
+    """Writes a script, its documents and its last line into a folder, by a process of its own: a child's most memory begins at that of
+    its parent."""
+    os.makedirs(folder, exist_ok=True)
+    child = os.fork()
+    if child == 0:
+        try:
             documents, lines, due = make(count)
-            open("s.graphql", "w").write(SCHEMA)
-            open("d.graphql", "w").write(documents)
-            with open("script", "w") as it:
-                it.writelines(f"{line}\n" for line in lines)
-            took, peak, status, last = run(program, "script")
-            best[count] = min((took, peak), best.get(count, (took, peak)))
-            said[count] = "as due" if (status, last) == (0, due) else f"WRONG: status {status}, {last[:200]}; due {due[:200]}"
-            size = os.path.getsize("script") / 2**20
-    for count in counts:
-        wrong = wrong or said[count] != "as due"
-        (took, peak), half = best[count], best.get(count // 2)
-        print(f"{name:30} {count:8}  {size * count / counts[-1]:4.1f} {took*1000:5.0f}  {f'{took/half[0]:.2f}' if half else '':>14}  {peak:8.0f}  {said[count]}", flush=True)
-sys.exit(wrong)
+            with open(f"{folder}/d.graphql", "w") as file:
+                file.write(documents)
+            with open(f"{folder}/script", "w") as file:
+                file.writelines(f"{line}\n" for line in lines)
+            with open(f"{folder}/due", "w") as file:
+                file.write(f"{due}\n")
+        except BaseException:
+            traceback.print_exc()
+            os._exit(1)
+        os._exit(0)
+    if os.waitpid(child, 0)[1] != 0:
+        sys.exit(f"the script in {folder} was not made")
+
+def run(folder, status):
+    """The processor time of a script, its most memory, and what is wrong with its answer."""
+    words = [program, "run", str(BUFFER), "s.graphql", f"{folder}/d.graphql"]
+    took, peak, ended = timed(words, f"{folder}/script")
+    is_due = ended == status and subprocess.call(["cmp", "-s", "last", f"{folder}/due"]) == 0
+    return took, peak, "" if is_due else f"WRONG: status {ended}, {head_of('last')}; due {head_of(f'{folder}/due')}"
+
+def measured(row):
+    """For each size: the least times by what was run, the peak, and what was wrong."""
+    best, peaks, wrongs = {}, {}, {}
+    for count in row.counts:
+        put(f"{count}", row.make, count)
+        if row.without:
+            put(f"{count}-without", row.without, count)
+    for _ in range(ROUNDS):
+        # Rounds over all sizes, so that what else the machine does meets each of them
+        for count in row.counts:
+            if wrongs.get(count):
+                continue
+            took, peak, wrong = run(f"{count}", row.status)
+            keep(best, (count, "whole"), took)
+            peaks[count], wrongs[count] = max(peak, peaks.get(count, 0)), wrong
+            if row.without:
+                took, _, wrong = run(f"{count}-without", row.without_status)
+                keep(best, (count, "without"), took)
+                wrongs[count] = wrongs[count] or wrong
+            for at, words in enumerate(row.beside(count) if row.beside else ()):
+                took, _, ended = timed([it.format(count=count) for it in words])
+                keep(best, (count, at), took)
+                wrongs[count] = wrongs[count] or (f"WRONG: status {ended}" if ended else "")
+    return best, peaks, wrongs
+
+def keep(best, key, took):
+    best[key] = min(took, best.get(key, took))
+
+def told(row):
+    """Prints the lines of a row; whether an answer was wrong."""
+    best, peaks, wrongs = measured(row)
+    before = None
+    for count in row.counts:
+        whole, off = best[count, "whole"], best.get((count, "without"), 0)
+        left, held = whole - off, (best.get((count, 0), 0) - best.get((count, 1), 0)) / row.beside_times
+        size = os.path.getsize(f"{count}/script") / 2**20
+        cells = [f"{row.name:34}", f"{count:8}", f"{size:5.1f}", f"{whole*1000:6.0f}", f"{left*1000:7.1f}" if row.without else " " * 7,
+                 f"{left/before:6.2f}" if before and before > 0.0005 else " " * 6, f"{left*1e6/row.parts(count):9.2f}" if row.parts else " " * 9,
+                 f"{held*1000:7.2f}" if row.beside else " " * 7, f"{left/held:6.2f}" if held > 0.00002 else " " * 6, f"{peaks[count]:5.0f}"]
+        print(" ".join(cells), wrongs[count] or "as due", flush=True)
+        before = left
+    return any(wrongs.values())
+
+def load():
+    return " ".join(open("/proc/loadavg").read().split()[:3])
+
+if __name__ == "__main__":
+    program, words = sys.argv[1], sys.argv[2:]
+    open("s.graphql", "w").write(SCHEMA)
+    print(f"load {load()}, least of {ROUNDS} rounds")
+    print(f"{'script':34} {'count':>8} {'MiB':>5} {'ms':>6} {'ms left':>7} {'grown':>6} {'us each':>9} {'beside':>7} {'ratio':>6} {'peak':>5} answer")
+    wrong = [told(row) for row in ROWS if not words or any(word in row.name for word in words)]
+    print(f"load {load()}")
+    sys.exit(any(wrong))

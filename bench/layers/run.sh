@@ -1,11 +1,6 @@
 #!/bin/bash
-# Times the built program on scripts of 1, 2 and 4 times so many parts: layers that are taken off from the newest and from the oldest on, and updates with and without a layer.
-# It tells of each script whether its last line is the one that is due. Build the program first:
-# cd crates/relay_run && rt run -- run 10 data/schema.graphql data/q.graphql < stdin
+# Times layers that are taken off from the newest and from the oldest on, updates with and without a layer, an entry of many commands,
+# records of many fields, and updates of many records, at 1, 2 and 4 times so many parts, without the reading of the lines, and beside a
+# plain program of rustc that makes the same changes in a map with undo lists. The words that it takes are told in bench/events/run.sh.
 set -eu
-events=$(cd "$(dirname "$0")/../events" && pwd)
-program=$(realpath "${1:-$events/../../crates/relay_run/out/relay_run}")
-folder=$(mktemp -d)
-trap 'rm -rf "$folder"' EXIT
-cd "$folder"
-PYTHONDONTWRITEBYTECODE=1 PYTHONPATH="$events" python3 "$events/measure.py" "$program" layers
+exec "$(dirname "$0")/../events/run.sh" layers "$@"

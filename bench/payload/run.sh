@@ -16,28 +16,26 @@ trap 'rm -rf "$folder"' EXIT
 program=${1:+$(realpath "$1")}
 cd "$folder"
 
-# Makes the program from the crates that the tests of the same calls stand on.
+# Makes the program from the crates that `facts` stands on, as they are committed. Libraries that are proved in the repository's out/ are
+# taken along; the others are proved first.
 make_program() {
-    libraries=$(sed -n 's/^norm_tests: //p' "$repository/crates.txt")
-    for crate in $libraries; do
-        if [ -d "$repository/crates/$crate" ]; then
-            mkdir -p "crates/$crate"
-            for part in src specs proofs; do
-                if [ -d "$repository/crates/$crate/$part" ]; then
-                    cp -r "$repository/crates/$crate/$part" "crates/$crate/$part"
-                fi
-            done
-            grep -E "^$crate:" "$repository/crates.txt" >> crates.txt
+    git clone -q "$repository" repo
+    cd repo
+    python3 "$here/../gate/cut.py" store_norm
+    for crate in crates/*; do
+        if [ -d "$repository/$crate/out/rlib" ]; then
+            mkdir "$crate/out"
+            cp -r "$repository/$crate/out/rlib" "$crate/out/rlib"
         fi
     done
-    echo 'Handles allowed: none.' > HANDLES
     rt new crates/payload_bench start_io > /dev/null
-    rm -rf crates/payload_bench/{src,specs,proofs,stdin,stdout}
+    rm -rf crates/payload_bench/{src,specs,proofs,stdin,stdout,BUILD.bazel}
     mkdir crates/payload_bench/src
-    echo "payload_bench: $libraries" >> crates.txt
+    echo "payload_bench: store_norm plan_ir schema_values gql_ast store_model store_record gql_plain serde_json" >> crates.txt
     cat > crates/payload_bench/src/main.rt
     (cd crates/payload_bench && rt run -- many 1 file /dev/null)
-    program=$folder/crates/payload_bench/out/payload_bench
+    program=$folder/repo/crates/payload_bench/out/payload_bench
+    cd "$folder"
     if [ -n "${KEEP:-}" ]; then
         cp "$program" "$KEEP"
     fi

@@ -1,11 +1,6 @@
 #!/bin/bash
-# Times the built program on scripts of 1, 2 and 4 times so many parts: reads of lists, of masked and of inline fragments, of wide records, and of a cycle of records 60 deep.
-# It tells of each script whether its last line is the one that is due. Build the program first:
-# cd crates/relay_run && rt run -- run 10 data/schema.graphql data/q.graphql < stdin
+# Times reads of lists, of masked and of inline fragments in them, of wide records, and of a cycle of records 60 deep, at 1, 2 and 4 times
+# so many parts, without what stands before the reads, and beside printing the same data as often by serde_json alone. The words that it
+# takes are told in bench/events/run.sh.
 set -eu
-events=$(cd "$(dirname "$0")/../events" && pwd)
-program=$(realpath "${1:-$events/../../crates/relay_run/out/relay_run}")
-folder=$(mktemp -d)
-trap 'rm -rf "$folder"' EXIT
-cd "$folder"
-PYTHONDONTWRITEBYTECODE=1 PYTHONPATH="$events" python3 "$events/measure.py" "$program" read
+exec "$(dirname "$0")/../events/run.sh" read "$@"
