@@ -72,6 +72,9 @@ fn items_under(alloc: Global, items: &ValueTrees, values: &Pairs) -> Result<Plai
 fn object_under(alloc: Global, fields: &Arguments, values: &Pairs) -> Result<Pairs, NoMemory>
     ensures { IfOk result (λ pairs. pairs ≡ environments.pairs_evaluated values.now (members_of fields.now)) }
 {
+    if fields.items.is_empty() {
+        return Ok(Pairs::new(alloc));
+    }
     last_of_each(alloc, fields_under(alloc, fields, values)?)
 }
 

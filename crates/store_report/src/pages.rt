@@ -1,6 +1,7 @@
 //! Pages of connections in their order.
 ghost use Rattle.std.specs.Prelude.{◌≡◌, IfOk};
-ghost use Rattle.store_model.specs.FactOrder.{handle_cmp};
+ghost use Rattle.std.specs.Ordering.{ordering_then};
+ghost use Rattle.store_model.specs.FactOrder.{handle_cmp, text_cmp};
 ghost use Rattle.store_model.specs.Verdicts as verdicts;
 ghost use Rattle.store_report.specs.PagePlaces.{is_same_page};
 
@@ -21,11 +22,20 @@ pub(crate) fn in_order(mut pages: Vec<HandleFact>) -> Result<HandleFacts, NoMemo
 fn compare(one: &HandleFact, other: &HandleFact) -> Ordering
     ensures { result ≡ handle_cmp one.now other.now }
 {
-    let keys = one
-        .handle_key
-        .cmp(&other.handle_key)
-        .then(one.field_key.cmp(&other.field_key));
-    one.parent.cmp(&other.parent).then(keys)
+    match one.parent.cmp(&other.parent) {
+        Ordering::Equal => compare_keys(one, other),
+        unequal => unequal,
+    }
+}
+
+/// The order of pages of one parent, by handle key and field key.
+fn compare_keys(one: &HandleFact, other: &HandleFact) -> Ordering
+    ensures { result ≡ ordering_then (text_cmp one.now.handle_key other.now.handle_key) (text_cmp one.now.field_key other.now.field_key) }
+{
+    match one.handle_key.cmp(&other.handle_key) {
+        Ordering::Equal => one.field_key.cmp(&other.field_key),
+        unequal => unequal,
+    }
 }
 
 /// Whether two pages are of one place.

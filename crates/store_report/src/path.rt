@@ -116,8 +116,10 @@ impl<'r> Path<'r> {
                 } else if one.len < two.len {
                     self.compare(&two.before).then(Ordering::Less)
                 } else {
-                    let before = one.before.compare(&two.before);
-                    before.then(compare_steps(&one.step, &two.step))
+                    match one.before.compare(&two.before) {
+                        Ordering::Equal => compare_steps(&one.step, &two.step),
+                        unequal => unequal,
+                    }
                 }
             }
         }

@@ -25,7 +25,10 @@ impl SaidFact<'_> {
     pub(crate) fn compare_place(&self, other: &SaidFact<'_>) -> Ordering
         ensures { result ≡ place_cmp self.now other.now }
     {
-        self.id.cmp(&other.id).then(self.key.cmp(&other.key))
+        match self.id.cmp(&other.id) {
+            Ordering::Equal => self.key.cmp(&other.key),
+            unequal => unequal,
+        }
     }
 
     /// Whether the other fact is of the same id and key; takes no memory.
@@ -55,10 +58,10 @@ impl SaidFault<'_> {
     pub(crate) fn is_before(&self, other: &SaidFault<'_>) -> bool
         ensures { result ≡ is_lt (fault_cmp (fault_of self.now) (fault_of other.now)) }
     {
-        let paths = self.path.compare(&other.path);
-        paths
-            .then(number(&self.cause).cmp(&number(&other.cause)))
-            .is_lt()
+        match self.path.compare(&other.path) {
+            Ordering::Equal => number(&self.cause) < number(&other.cause),
+            unequal => unequal.is_lt(),
+        }
     }
 
     /// The fault with texts of its own.
