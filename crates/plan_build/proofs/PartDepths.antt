@@ -27,16 +27,16 @@ use Rattle.store_model.specs.Walks.{Slots, type_of_record}
 
 -- ---- numbers
 
-left_below : (a b n : ℕ) → max a b ≤ n → a ≤ n
+pub left_below : (a b n : ℕ) → max a b ≤ n → a ≤ n
 left_below a b n le = omega arith
 
-right_below : (a b n : ℕ) → max a b ≤ n → b ≤ n
+pub right_below : (a b n : ℕ) → max a b ≤ n → b ≤ n
 right_below a b n le = omega arith
 
-less_below : (a k : ℕ) → a + 1 ≤ k → a ≤ k
+pub less_below : (a k : ℕ) → a + 1 ≤ k → a ≤ k
 less_below a k le = omega arith
 
-as_deep : (a b k : ℕ) → a ≡ b → b + 1 ≤ k → a + 1 ≤ k
+pub as_deep : (a b k : ℕ) → a ≡ b → b + 1 ≤ k → a + 1 ≤ k
 as_deep a b k e le = omega arith
 
 -- ---- what one condition lets through

@@ -83,20 +83,20 @@ pub record SoundFragment (f : FragmentAt) : Type 0 where
   pub locals : AllByRecursion SoundLocal (locals_of f.directives)
   pub set : SoundSet f.selections
 
-appended : (xs ys : Arguments) → SoundArguments xs → SoundArguments ys → SoundArguments (xs ++ ys)
+pub appended : (xs ys : Arguments) → SoundArguments xs → SoundArguments ys → SoundArguments (xs ++ ys)
 appended [] ys h k = k
 appended (x ∷ xs) ys h k = (h.0, appended xs ys h.1 k)
 
-given_by : (b : Bool) (xs : Arguments) → SoundArguments xs → SoundArguments (cond b xs [])
+pub given_by : (b : Bool) (xs : Arguments) → SoundArguments xs → SoundArguments (cond b xs [])
 given_by true xs h = h
 given_by false xs h = tt
 
-given_in : (ds : List Directive) → SoundDirectives ds → SoundArguments (each arguments_in ds)
+pub given_in : (ds : List Directive) → SoundDirectives ds → SoundArguments (each arguments_in ds)
 given_in [] h = tt
 given_in (d ∷ ds) h =
     appended (arguments_in d) (each arguments_in ds) (given_by (bytes_eq d.name (codes "arguments")) d.arguments h.0.1) (given_in ds h.1)
 
-value_found : (xs : Arguments) (n : Text) → SoundArguments xs → IfSome (value_of_name xs n) SoundValue
+pub value_found : (xs : Arguments) (n : Text) → SoundArguments xs → IfSome (value_of_name xs n) SoundValue
 value_found [] n h = tt
 value_found (x ∷ xs) n h = on (value_found xs n h.1) (bytes_eq x.0 n)
   where

@@ -37,7 +37,7 @@ use Rattle.store_model.specs.Items.{Item, asked, pointed}
 -- ---- a constant is the same in each environment
 
 mutual
-  constant_value : (env other : Values) (x : Val) → is_constant x ≡ true → evaluation env x ≡ evaluation other x
+  pub constant_value : (env other : Values) (x : Val) → is_constant x ≡ true → evaluation env x ≡ evaluation other x
   constant_value env other (v.variable n) e = absurd (true≢false (sym e))
   constant_value env other (v.int z) e = refl
   constant_value env other (v.text s) e = refl
@@ -47,14 +47,14 @@ mutual
   constant_value env other (v.list xs) e = ap t.list (constant_items env other xs e)
   constant_value env other (v.object ms) e = ap (λ (ps : Values). t.object (t.members_of ps)) (constant_members env other ms e)
 
-  constant_items : (env other : Values) (xs : Vals) → are_constant xs ≡ true → items_evaluated env xs ≡ items_evaluated other xs
+  pub constant_items : (env other : Values) (xs : Vals) → are_constant xs ≡ true → items_evaluated env xs ≡ items_evaluated other xs
   constant_items env other v.no_vals e = refl
   constant_items env other (v.val x xs) e =
       let first = constant_value env other x (first_true (is_constant x) (are_constant xs) e) in
       let rest = constant_items env other xs (then_true (is_constant x) (are_constant xs) e) in
       λ i. t.tree (first i) (rest i)
 
-  constant_members : (env other : Values) (ms : Members) → have_constants ms ≡ true → pairs_evaluated env ms ≡ pairs_evaluated other ms
+  pub constant_members : (env other : Values) (ms : Members) → have_constants ms ≡ true → pairs_evaluated env ms ≡ pairs_evaluated other ms
   constant_members env other v.no_members e = refl
   constant_members env other (v.member n x ms) e =
       let first = constant_value env other x (first_true (is_constant x) (have_constants ms) e) in

@@ -1,5 +1,5 @@
 -- Environments that give the same to each Name, as names of documents are, and what is the same in them.
-use Rattle.std.proofs.Common.{◌≡◌, Bool, true, false, not, ◌&&◌, ◌||◌, cond, List, [], ◌∷◌, ◌++◌, codes, Option, Some, None, bytes_eq, refl, sym, ap, ◌∙◌}
+use Rattle.std.proofs.Common.{◌≡◌, not, ◌&&◌, ◌||◌, cond, List, [], ◌∷◌, codes, Option, Some, None, bytes_eq, refl, sym, ap, ◌∙◌}
 use Rattle.std.specs.List.{AllByRecursion}
 use Rattle.std.specs.Option.{IfSome}
 use Rattle.gql_ast.specs.Value as v
@@ -8,10 +8,9 @@ use Rattle.gql_ast.specs.declared.directive.Directive.{Directive}
 use Rattle.gql_graph.specs.Rules.{each}
 use Rattle.gql_plain.specs.Order.{member_at}
 use Rattle.gql_plain.specs.Tree as t
-use Rattle.gql_plain.specs.Tree.{Tree}
 use Rattle.gql_syntax.specs.Words.{IsName}
 use Rattle.plan_ir.specs.Substitution.{Arguments, arguments_in}
-use Rattle.plan_project.proofs.SoundNodes.{SoundLocal}
+use Rattle.plan_project.proofs.SoundNodes.{SoundLocal, given_in, value_found}
 use Rattle.plan_project.proofs.SoundTrees.{SoundArguments, SoundDirective, SoundDirectives, SoundMembers, SoundValue, SoundValues}
 use Rattle.plan_text.proofs.Evaluating.{found-with_pair}
 use Rattle.plan_text.specs.Collecting.{environment_inside, is_left_out, leaves_out, local_value, with_locals}
@@ -74,27 +73,6 @@ module _ (env other : Values) (agree : Agree env other) where
       λ i. first i || rest i
 
 -- ---- what a spread gives
-
-appended : (xs ys : Arguments) → SoundArguments xs → SoundArguments ys → SoundArguments (xs ++ ys)
-appended [] ys h k = k
-appended (x ∷ xs) ys h k = (h.0, appended xs ys h.1 k)
-
-given_by : (b : Bool) (xs : Arguments) → SoundArguments xs → SoundArguments (cond b xs [])
-given_by true xs h = h
-given_by false xs h = tt
-
-given_in : (ds : List Directive) → SoundDirectives ds → SoundArguments (each arguments_in ds)
-given_in [] h = tt
-given_in (d ∷ ds) h =
-    appended (arguments_in d) (each arguments_in ds) (given_by (bytes_eq d.name (codes "arguments")) d.arguments h.0.1) (given_in ds h.1)
-
-value_found : (xs : Arguments) (n : Text) → SoundArguments xs → IfSome (value_of_name xs n) SoundValue
-value_found [] n h = tt
-value_found (x ∷ xs) n h = on (value_found xs n h.1) (bytes_eq x.0 n)
-  where
-    on : IfSome (value_of_name xs n) SoundValue → (b : Bool) → IfSome (cond b (Some x.1) (value_of_name xs n)) SoundValue
-    on more true = h.0.1
-    on more false = more
 
 module _ (own other env around : Values) (owns : Agree own other) (agree : Agree env around) where
   local_same : (given default : Option Val) → IfSome given SoundValue → IfSome default SoundValue → local_value own env given default ≡ local_value other around given default

@@ -1,9 +1,10 @@
 -- Each field that the masked form gives is one of the whole form, and so is each field that a pointer's body gives.
-use Rattle.std.proofs.Common.{◌≡◌, ℕ, zero, suc, ◌+◌, ◌≤◌, Bool, true, false, cond, List, [], ◌∷◌, ◌++◌, map, max, Option, Some, None, refl, sym, ap, subst, ◌∙◌, arith, inl}
+use Rattle.std.proofs.Common.{◌≡◌, ℕ, zero, suc, ◌+◌, ◌≤◌, Bool, true, false, cond, List, [], ◌∷◌, ◌++◌, map, Option, Some, None, refl, sym, ap, subst, ◌∙◌, arith, inl}
 use Rattle.std.proofs.lemmas.List.{append-nil}
 use Rattle.gql_ast.specs.Sels as sels
 use Rattle.gql_ast.specs.Sels.{Sels}
 use Rattle.gql_ast.specs.declared.directive.Directive.{Directive}
+use Rattle.plan_build.proofs.PartDepths.{as_deep, left_below, less_below, right_below}
 use Rattle.plan_ir.specs.Expansion.{Project}
 use Rattle.plan_project.proofs.SoundTrees.{SoundSelections}
 use Rattle.plan_project.proofs.SpreadChains.{AllSpreads, Bounded}
@@ -26,18 +27,6 @@ use Rattle.store_model.specs.Items.{Asked, Item, Pointer, asked, pointed, asked_
 use Rattle.store_model.specs.Retention.{Covered, Covers}
 
 -- ---- numbers
-
-left_below : (a b n : ℕ) → max a b ≤ n → a ≤ n
-left_below a b n le = omega arith
-
-right_below : (a b n : ℕ) → max a b ≤ n → b ≤ n
-right_below a b n le = omega arith
-
-less_below : (a k : ℕ) → a + 1 ≤ k → a ≤ k
-less_below a k le = omega arith
-
-as_deep : (a b k : ℕ) → a ≡ b → b + 1 ≤ k → a + 1 ≤ k
-as_deep a b k e le = omega arith
 
 deep_less : (a n : ℕ) → a + 1 ≤ suc n → a ≤ n
 deep_less a n le = omega arith

@@ -2,18 +2,15 @@
 -- is entered.
 use Rattle.std.proofs.Common.{◌≡◌, Bool, true, false, true≢false, cond, List, [], ◌∷◌, ◌++◌, codes, Option, Some, None, bytes_eq, refl, sym, ap, ◌∙◌}
 use Rattle.std.proofs.lemmas.Slice.Eq.{bytes_eq-Decides}
-use Rattle.gql_ast.specs.Value as v
-use Rattle.gql_ast.specs.Value.{Val, Vals, Members}
+use Rattle.gql_ast.specs.Value.{Val}
 use Rattle.gql_ast.specs.declared.directive.Directive.{Directive}
 use Rattle.gql_graph.specs.Rules.{each}
 use Rattle.gql_plain.specs.Names.{is_name}
 use Rattle.gql_plain.specs.Order.{member_at}
-use Rattle.gql_plain.specs.Tree as t
 use Rattle.gql_plain.specs.Tree.{Tree}
 use Rattle.gql_syntax.specs.Words.{IsName}
-use Rattle.plan_build.proofs.CovarianceLists.{first_true, then_true}
 use Rattle.plan_ir.specs.Substitution.{Arguments, arguments_in}
-use Rattle.plan_read.proofs.KnownDocuments.{HaveConstants, IsConstant}
+use Rattle.plan_read.proofs.KnownDocuments.{HaveConstants, IsConstant, constant_value}
 use Rattle.plan_text.proofs.Evaluating.{found-with_pair}
 use Rattle.plan_text.specs.Collecting.{environment_inside, local_value, with_locals}
 use Rattle.relay_dirs.specs.Connections.{value_of_name}
@@ -21,36 +18,8 @@ use Rattle.relay_dirs.specs.Locals.{Local, locals_of}
 use Rattle.relay_model.specs.Readings.{shadowed_by, with_marked}
 use Rattle.retained_reads.proofs.Agreeing.{Agree}
 use Rattle.schema_tables.specs.Types.{Text}
-use Rattle.schema_types.specs.Environments.{Values, evaluation, items_evaluated, pairs_evaluated, with_new_pair}
+use Rattle.schema_types.specs.Environments.{Values}
 use Rattle.schema_types.specs.Sites.{FragmentAt}
-use Rattle.schema_values.specs.Fittings.{are_constant, have_constants, is_constant}
-
--- ---- a constant is the same in each environment
-
-mutual
-  constant_value : (env other : Values) (x : Val) → is_constant x ≡ true → evaluation env x ≡ evaluation other x
-  constant_value env other (v.variable n) e = absurd (true≢false (sym e))
-  constant_value env other (v.int z) e = refl
-  constant_value env other (v.text s) e = refl
-  constant_value env other (v.truth b) e = refl
-  constant_value env other v.null e = refl
-  constant_value env other (v.enum n) e = refl
-  constant_value env other (v.list xs) e = ap t.list (constant_items env other xs e)
-  constant_value env other (v.object ms) e = ap (λ (ps : Values). t.object (t.members_of ps)) (constant_members env other ms e)
-
-  constant_items : (env other : Values) (xs : Vals) → are_constant xs ≡ true → items_evaluated env xs ≡ items_evaluated other xs
-  constant_items env other v.no_vals e = refl
-  constant_items env other (v.val x xs) e =
-      let first = constant_value env other x (first_true (is_constant x) (are_constant xs) e) in
-      let rest = constant_items env other xs (then_true (is_constant x) (are_constant xs) e) in
-      λ i. t.tree (first i) (rest i)
-
-  constant_members : (env other : Values) (ms : Members) → have_constants ms ≡ true → pairs_evaluated env ms ≡ pairs_evaluated other ms
-  constant_members env other v.no_members e = refl
-  constant_members env other (v.member n x ms) e =
-      let first = constant_value env other x (first_true (is_constant x) (have_constants ms) e) in
-      let rest = constant_members env other ms (then_true (is_constant x) (have_constants ms) e) in
-      λ i. with_new_pair n (first i) (rest i)
 
 -- ---- names
 
