@@ -16,6 +16,9 @@ use std::marker::Model;
 use store_model::PathSteps;
 use store_record::Field;
 
+/// The bytes that a line has room for at first: most lines need no more.
+const FIRST_ROOM: usize = 128;
+
 /// An object that is being written, seen as its tokens. Members are put in byte order of their keys.
 #[derive(Drop)]
 pub(crate) struct LineWriter {
@@ -40,7 +43,7 @@ impl LineWriter {
     pub(crate) fn new(alloc: Global) -> Result<LineWriter, NoMemory>
         ensures { IfOk result (λ line. line ≡ begin_object ∷ []) }
     {
-        let mut out = Writer::new(Vec::new(alloc));
+        let mut out = Writer::new(Vec::with_capacity(alloc, FIRST_ROOM)?);
         out.begin_object()?;
         Ok(LineWriter { out })
     }
