@@ -6,6 +6,8 @@ ghost use Rattle.std.specs.Prelude.{◌≡◌, ◌⊎◌, IfErr};
 mod bulk;
 mod compiling;
 mod files;
+#[cfg(test)]
+mod large_tests;
 mod lines;
 mod project_fault;
 mod put;
