@@ -4,3 +4,4 @@ pub mod Merges
 pub mod Puts
 pub mod Sets
 pub mod Steps
+pub mod Wanted

@@ -8,9 +8,10 @@ use Rattle.store_model.specs.Records.{Records, live, with_field, with_record}
 use Rattle.store_model.specs.declared.facts.HandleFact.{HandleFact}
 use Rattle.store_conn.proofs.Puts.{ids_made, put_append, connection_put}
 use Rattle.store_conn.proofs.Sets.{unknown_are_new, but_are_others, nodes_known, none_known, edges_known}
+use Rattle.store_conn.proofs.Wanted.{wanted_unknown}
 use Rattle.store_conn.specs.Changes.{put_all, edge_ids_of}
 use Rattle.store_conn.specs.Connections.{IsMade, put_connection, with_list}
-use Rattle.store_conn.specs.Nodes.{and_nodes, and_edges, unknown_edges, edges_but}
+use Rattle.store_conn.specs.Nodes.{and_nodes, and_all_wanted, and_edges, unknown_edges, edges_but}
 use Rattle.store_conn.specs.Pages.{whole_edges, later_edges, other_edges, whole_ids, later_ids}
 use Rattle.store_conn.specs.declared.changes.Change.{Change}
 use Rattle.store_conn.specs.declared.made.Made.{Made}
@@ -22,11 +23,12 @@ module _ (server : Record) (c : Kept) (m : Records) (known : Option Text → Boo
   pub whole_is : (new : List Record) → new ≡ unknown_edges known news → new ≡ whole_edges server m
   whole_is new is = is ∙ ap (λ es. unknown_edges known es) read ∙ ap (λ f. unknown_edges f (live_edges m (edges_of server))) (none_known known none) ∙ unknown_are_new [] (live_edges m (edges_of server))
 
-  pub later_is : (old : List (Option Text)) (noted : Option Text → Bool) (new : List Record) → old ≡ edges_of c.row → noted ≡ and_nodes (nodes_at m old) known → new ≡ unknown_edges noted news
+  pub later_is : (old : List (Option Text)) (wanted empty noted : Option Text → Bool) (new : List Record) → old ≡ edges_of c.row → wanted ≡ and_nodes (nodes_of news) known
+      → ((other : Option Text) → empty other ≡ false) → noted None ≡ false → noted ≡ and_all_wanted wanted (nodes_at m old) empty → new ≡ unknown_edges noted news
       → new ≡ later_edges server c m
-  later_is old noted new same noting is =
-      let set = noting ∙ nodes_known known none (nodes_at m old) ∙ ap (λ es. is_among (nodes_at m es)) same in
-      is ∙ ap (λ es. unknown_edges noted es) read ∙ ap (λ f. unknown_edges f (live_edges m (edges_of server))) set
+  later_is old wanted empty noted new same want nothing lack noting is =
+      is ∙ wanted_unknown empty wanted noted (nodes_at m old) news nothing (want ∙ nodes_known known none (nodes_of news)) lack noting
+      ∙ (λ k. unknown_edges (is_among (nodes_at m (same k))) (read k))
       ∙ unknown_are_new (nodes_at m (edges_of c.row)) (live_edges m (edges_of server))
 
   pub others_are : (after : Option Text → Bool) (old : List (Option Text)) → old ≡ edges_of c.row → after ≡ and_edges news known → edges_but after m old ≡ other_edges server c m

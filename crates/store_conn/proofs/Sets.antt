@@ -25,12 +25,12 @@ pub but_are_others : (m : Records) (nodes es : List (Option Text)) → edges_but
 but_are_others m nodes [] = refl
 but_are_others m nodes (e ∷ es) = let rest = but_are_others m nodes es in λ k. cond (is_among nodes (node_at m e)) (rest k) (e ∷ rest k)
 
-or_moves : (a b c : Bool) → (b || (a || c)) ≡ ((a || b) || c)
+pub or_moves : (a b c : Bool) → (b || (a || c)) ≡ ((a || b) || c)
 or_moves true true c = refl
 or_moves true false c = refl
 or_moves false b c = refl
 
-or_none : (a : Bool) → (a || false) ≡ a
+pub or_none : (a : Bool) → (a || false) ≡ a
 or_none true = refl
 or_none false = refl
 

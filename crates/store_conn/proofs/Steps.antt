@@ -4,12 +4,12 @@ use Rattle.std.proofs.lemmas.List.{drop_more}
 use Rattle.store_record.specs.Keys.{Text}
 use Rattle.store_record.specs.declared.field.Field.{Field}
 use Rattle.store_record.specs.declared.record.Record.{Record}
-use Rattle.store_model.specs.Merge.{live_edges, same_node, nodes_at, node_at, node_of, is_among, is_own_key, copied_over, edge_id, next_edge, counter_after}
+use Rattle.store_model.specs.Merge.{live_edges, same_node, nodes_at, node_at, node_of, nodes_of, is_among, is_own_key, copied_over, edge_id, next_edge, counter_after}
 use Rattle.store_model.specs.Records.{Records, live, with_field}
 use Rattle.store_model.specs.Updates.{edges_without}
 use Rattle.store_conn.specs.Changes.{edge_changes, edge_ids_of}
 use Rattle.store_conn.specs.Lists.{ids_in}
-use Rattle.store_conn.specs.Nodes.{and_node, and_nodes, and_edge, and_edges, unknown_edges, edges_but}
+use Rattle.store_conn.specs.Nodes.{and_node, and_nodes, and_wanted, and_all_wanted, and_edge, and_edges, unknown_edges, edges_but}
 use Rattle.store_conn.specs.declared.changes.Change.{Change}
 
 module _ {X : Type 0} where
@@ -62,13 +62,20 @@ ids_next es i e within is = ap ids_in (next_of es i e within is) ∙ at e
     at None = omega arith
     at (Some id) = omega arith
 
-pub nodes_next : (m : Records) (known next : Option Text → Bool) (es : List (Option Text)) (i : ℕ) (e : Option Text) → i < length es → e ≡ get_or es i e
-    → ((n : Option Text) → next n ≡ and_node (node_at m e) known n) → and_nodes (nodes_at m (drop (i + 1) es)) next ≡ and_nodes (nodes_at m (drop i es)) known
-nodes_next m known next es i e within is grown =
-    ap (and_nodes (nodes_at m (drop (i + 1) es))) (λ k n. grown n k)
-    ∙ ap (λ xs. and_nodes (nodes_at m xs) known) (sym (next_of es i e within is))
+pub wanted_next : (wanted : Option Text → Bool) (m : Records) (known next : Option Text → Bool) (es : List (Option Text)) (i : ℕ) (e : Option Text) → i < length es → e ≡ get_or es i e
+    → ((n : Option Text) → next n ≡ and_wanted wanted (node_at m e) known n)
+    → and_all_wanted wanted (nodes_at m (drop (i + 1) es)) next ≡ and_all_wanted wanted (nodes_at m (drop i es)) known
+wanted_next wanted m known next es i e within is grown =
+    ap (and_all_wanted wanted (nodes_at m (drop (i + 1) es))) (λ k n. grown n k)
+    ∙ ap (λ xs. and_all_wanted wanted (nodes_at m xs) known) (sym (next_of es i e within is))
 
 module _ (es : List Record) (i : ℕ) (e : Record) (within : i < length es) (is : e ≡ get_or es i e) where
+  pub nodes_next : (known next : Option Text → Bool) → ((n : Option Text) → next n ≡ and_node (node_of e) known n)
+      → and_nodes (nodes_of (drop (i + 1) es)) next ≡ and_nodes (nodes_of (drop i es)) known
+  nodes_next known next grown =
+      ap (and_nodes (nodes_of (drop (i + 1) es))) (λ k n. grown n k)
+      ∙ ap (λ xs. and_nodes (nodes_of xs) known) (sym (next_of es i e within is))
+
   pub edges_next : (known next : Option Text → Bool) → ((n : Option Text) → next n ≡ and_edge e known n)
       → and_edges (drop (i + 1) es) next ≡ and_edges (drop i es) known
   edges_next known next grown =

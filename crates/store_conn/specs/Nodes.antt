@@ -23,6 +23,15 @@ abbrev pub and_nodes : List (Option Text) → (Option Text → Bool) → Option 
 and_nodes [] known = known
 and_nodes (n ∷ ns) known = and_nodes ns (and_node n known)
 
+-- what is known, and one node more, if it is wanted
+abbrev pub and_wanted : (Option Text → Bool) → Option Text → (Option Text → Bool) → Option Text → Bool
+and_wanted wanted n known = cond (wanted n) (and_node n known) known
+
+-- what is known, and those of these nodes that are wanted
+abbrev pub and_all_wanted : (Option Text → Bool) → List (Option Text) → (Option Text → Bool) → Option Text → Bool
+and_all_wanted wanted [] known = known
+and_all_wanted wanted (n ∷ ns) known = and_all_wanted wanted ns (and_wanted wanted n known)
+
 -- what is known, and the node of an edge
 abbrev pub and_edge : Record → (Option Text → Bool) → Option Text → Bool
 and_edge e known = cond (known (node_of e)) known (and_node (node_of e) known)

@@ -10,7 +10,7 @@ ghost use Rattle.store_conn.specs.Pages as pages;
 
 use crate::changes::Change;
 use crate::connection::Connection;
-use crate::edges::{live_edges, new_edges, note_nodes, push_edges};
+use crate::edges::{live_edges, new_edges, note_nodes, note_wanted, push_edges};
 use crate::info::push_info;
 use crate::look::{below, edges_of};
 use crate::made::{Page, make_edges, push_made, push_page};
@@ -52,7 +52,8 @@ pub(crate) fn page_after<S: RecordSource>(
 }
 
 /// The edges that are made of a page, without those whose node is that of an earlier one or of an edge
-/// of the connection. In the list they stand after those of the connection.
+/// of the connection. In the list they stand after those of the connection. Of the connection's nodes
+/// only those are kept in memory that the page has too.
 fn page_with_old<S: RecordSource>(
     alloc: Global,
     source: &S,
@@ -67,8 +68,10 @@ fn page_with_old<S: RecordSource>(
 {
     let live = live_edges(alloc, source, edges_of(server), steps)?;
     let old = edges_of(connection.row.get());
+    let mut wanted = Nodes::new(alloc);
+    note_nodes(&live, &mut wanted)?;
     let mut nodes = Nodes::new(alloc);
-    note_nodes(source, old, &mut nodes, steps)?;
+    note_wanted(source, old, &wanted, &mut nodes, steps)?;
     let new = new_edges(alloc, &live, &mut nodes)?;
     let made = make_edges(alloc, connection, &new)?;
     let mut list = OptIds::new(alloc);

@@ -4,7 +4,7 @@ ghost use Rattle.store_record.specs.Keys.{Text};
 ghost use Rattle.store_model.specs.Merge as merge;
 ghost use Rattle.store_model.specs.Updates as updates;
 ghost use Rattle.store_conn.specs.Lists.{ids_in};
-ghost use Rattle.store_conn.specs.Nodes.{knows, and_edge, and_edges, and_nodes, edges_but, unknown_edges};
+ghost use Rattle.store_conn.specs.Nodes.{knows, and_all_wanted, and_edge, and_edges, and_nodes, edges_but, unknown_edges};
 
 use crate::look::{edge_at, node_at, node_of};
 use crate::nodes::Nodes;
@@ -52,20 +52,32 @@ fn push_live<S: RecordSource>(
     }
 }
 
-/// Puts the nodes of a list of edges into a set.
-pub(crate) fn note_nodes<'a, S: RecordSource>(
+/// Puts the nodes of edges into a set.
+pub(crate) fn note_nodes<'a>(edges: &'a [Shared], nodes: &mut Nodes<'a>) -> Result<(), NoMemory>
+    ensures { OnOk result (knows nodes.new.ids ≡ and_nodes (merge.nodes_of edges.now) (knows nodes.old.ids)) }
+{
+    'edges: for edge in edges {
+        let node = node_of(edge.get());
+        nodes.insert(node)?;
+    }
+    Ok(())
+}
+
+/// Puts those nodes of a list of edges into a set that another set has. All others take no memory.
+pub(crate) fn note_wanted<'a, S: RecordSource>(
     source: &'a S,
     edges: &[Option<Words>],
+    wanted: &Nodes<'_>,
     nodes: &mut Nodes<'a>,
     steps: &mut S::Count,
 ) -> Result<(), NoMemory>
-    ensures nodes { OnOk result (knows nodes.new.ids ≡ and_nodes (merge.nodes_at (S.records source.now) edges.now) (knows nodes.old.ids)) }
+    ensures nodes { OnOk result (knows nodes.new.ids ≡ and_all_wanted (knows wanted.now.ids) (merge.nodes_at (S.records source.now) edges.now) (knows nodes.old.ids)) }
     ensures looks { S.Count.looks steps.new ≤ S.Count.looks steps.old + ids_in edges.now }
     ensures applies { S.Count.applies steps.new ≡ S.Count.applies steps.old }
 {
     'edges: for edge in edges {
         let node = node_at(source, edge, steps);
-        nodes.insert(node)?;
+        nodes.insert_wanted(node, wanted)?;
     }
     Ok(())
 }

@@ -2,7 +2,7 @@
 ghost use Rattle.std.specs.Prelude.{◌≡◌, Option, false, OnOk};
 ghost use Rattle.std.specs.Option.{option_copied};
 ghost use Rattle.store_record.specs.Keys.{Text};
-ghost use Rattle.store_conn.specs.Nodes.{knows, and_node};
+ghost use Rattle.store_conn.specs.Nodes.{knows, and_node, and_wanted};
 
 use gql_plain::{Id, NoMemory};
 use std::alloc::Global;
@@ -35,6 +35,21 @@ impl<'a> Nodes<'a> {
             }
             None => Ok(()),
         }
+    }
+
+    /// Puts the node of an edge, where the edge has one and another set has it.
+    pub fn insert_wanted(
+        &mut self,
+        node: Option<&'a Id>,
+        wanted: &Nodes<'_>,
+    ) -> Result<(), NoMemory>
+        ensures { (other : Option Text) → OnOk result (knows self.new.ids other ≡ and_wanted (knows wanted.now.ids) (option_copied node.entry) (knows self.old.ids) other) }
+    {
+        if !wanted.contains(node) {
+            return Ok(());
+        }
+        self.insert(node)?;
+        Ok(())
     }
 
     /// Whether the node of an edge is one of them; takes no memory.
