@@ -8,3 +8,5 @@ pub mod Classes
 pub mod Steps
 pub mod ClassView
 pub mod KeptView
+pub mod AroundView
+pub mod KnownView

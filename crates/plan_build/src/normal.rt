@@ -3,6 +3,7 @@ ghost use Rattle.std.specs.Prelude.{◌≡◌, [], ◌∷◌, IfOk};
 ghost use Rattle.plan_build.specs.Plans.{IsWellFormed, MeansTheSame, ReachesTheSame};
 ghost use Rattle.plan_build.specs.Steps.{plan_of};
 
+use crate::around::Around;
 use crate::kept::Kept;
 use crate::steps::make_steps;
 use gql_plain::{Ids, Name, NoMemory};
@@ -26,7 +27,13 @@ fn plan_of(alloc: Global, schema: &Schema, expanded: &Expanded) -> Result<Normal
 {
     let types = one_type(alloc, &expanded.root)?;
     let mut kept = Kept::new(alloc);
-    let steps = make_steps(alloc, schema, &mut kept, &types, &expanded.selections)?;
+    let steps = make_steps(
+        alloc,
+        schema,
+        &mut kept,
+        Around::Listed(&types),
+        &expanded.selections,
+    )?;
     Ok(NormalPlan { steps })
 }
 

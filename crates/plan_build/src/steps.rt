@@ -4,12 +4,14 @@ ghost use Rattle.plan_ir.specs.NodesView.{node_of};
 ghost use Rattle.plan_ir.specs.Normal.{normal_append, done, guarded};
 ghost use Rattle.plan_ir.specs.NormalView.{step_of};
 ghost use Rattle.schema_tables.specs.Types as types;
+ghost use Rattle.plan_build.specs.AroundView.{IsOfComposite, types_of};
 ghost use Rattle.plan_build.specs.ClassView.{class_view, field_view, target_view};
 ghost use Rattle.plan_build.specs.Conditions as tests;
 ghost use Rattle.plan_build.specs.KeptView.{IsRight};
 ghost use Rattle.plan_build.specs.Steps as spec;
 
-use crate::classes::{Class, Target, classes_of, is_abstract, one_target};
+use crate::around::{Around, is_one};
+use crate::classes::{Class, Target, classes_of, is_abstract};
 use crate::conditions::conditions_of;
 use crate::kept::Kept;
 use gql_ast::{Arguments, Directives};
@@ -36,25 +38,6 @@ pub fn copy_of_conn(conn: &Option<Conn>) -> Result<Option<Conn>, NoMemory>
         Some(conn) => Ok(Some(conn.copy()?)),
         None => Ok(None),
     }
-}
-
-/// Whether each type is one of these.
-pub fn are_within(types: &Ids, ids: &Ids) -> bool
-    ensures { result ≡ spec.are_within ids.now types.now }
-{
-    'types: for name in types.as_slice() {
-        if !ids.contains(name.as_str()) {
-            return false;
-        }
-    }
-    true
-}
-
-/// Whether it is one type.
-pub fn is_one(types: &Ids) -> bool
-    ensures { result ≡ spec.is_one types.now }
-{
-    matches!(types.as_slice(), [_])
 }
 
 /// Steps behind a guard.
@@ -121,15 +104,16 @@ pub(crate) fn make_steps<'a>(
     alloc: Global,
     schema: &'a Schema,
     kept: &mut Kept<'a>,
-    types: &Ids,
-    nodes: &Nodes,
+    around: Around<'_, 'a>,
+    nodes: &'a Nodes,
 ) -> Result<NormalSteps, NoMemory>
-    requires { IsRight schema.now kept.old }
+    requires right { IsRight schema.now kept.old }
+    requires composite { IsOfComposite schema.now around }
     ensures right { OnOk result (IsRight schema.now kept.new) }
-    ensures put { IfOk result (λ steps. steps ≡ spec.steps_of schema.now types.now nodes.now) }
+    ensures put { IfOk result (λ steps. steps ≡ spec.steps_of schema.now (types_of schema.now around.entry) nodes.now) }
 {
     let mut steps = NormalSteps::new(alloc);
-    put_nodes(alloc, schema, kept, types, nodes, &mut steps)?;
+    put_nodes(alloc, schema, kept, around, nodes, &mut steps)?;
     Ok(steps)
 }
 
@@ -139,16 +123,17 @@ fn put_nodes<'a>(
     alloc: Global,
     schema: &'a Schema,
     kept: &mut Kept<'a>,
-    types: &Ids,
-    nodes: &Nodes,
+    around: Around<'_, 'a>,
+    nodes: &'a Nodes,
     steps: &mut NormalSteps,
 ) -> Result<(), NoMemory>
-    requires { IsRight schema.now kept.old }
+    requires right { IsRight schema.now kept.old }
+    requires composite { IsOfComposite schema.now around }
     ensures right { OnOk result (IsRight schema.now kept.new) }
-    ensures put { OnOk result (steps.new ≡ normal_append steps.old (spec.steps_of schema.now types.now nodes.now)) }
+    ensures put { OnOk result (steps.new ≡ normal_append steps.old (spec.steps_of schema.now (types_of schema.now around.entry) nodes.now)) }
 {
     'nodes: for node in nodes.as_slice() {
-        put_node(alloc, schema, kept, types, node, steps)?;
+        put_node(alloc, schema, kept, around, node, steps)?;
     }
     Ok(())
 }
@@ -159,13 +144,14 @@ fn put_node<'a>(
     alloc: Global,
     schema: &'a Schema,
     kept: &mut Kept<'a>,
-    types: &Ids,
-    node: &Node,
+    around: Around<'_, 'a>,
+    node: &'a Node,
     steps: &mut NormalSteps,
 ) -> Result<(), NoMemory>
-    requires { IsRight schema.now kept.old }
+    requires right { IsRight schema.now kept.old }
+    requires composite { IsOfComposite schema.now around }
     ensures right { OnOk result (IsRight schema.now kept.new) }
-    ensures put { OnOk result (steps.new ≡ normal_append steps.old (spec.steps_of schema.now types.now (node_of node.now))) }
+    ensures put { OnOk result (steps.new ≡ normal_append steps.old (spec.steps_of schema.now (types_of schema.now around.entry) (node_of node.now))) }
 {
     match node {
         Node::Field {
@@ -184,7 +170,7 @@ fn put_node<'a>(
                 connection,
                 selections,
             };
-            put_field(alloc, schema, kept, types, directives, &field, steps)
+            put_field(alloc, schema, kept, around, directives, &field, steps)
         }
         Node::Inline {
             on,
@@ -192,7 +178,7 @@ fn put_node<'a>(
             selections,
             ..
         } => put_inline(
-            alloc, schema, kept, types, on, directives, selections, steps,
+            alloc, schema, kept, around, on, directives, selections, steps,
         ),
     }
 }
@@ -203,22 +189,23 @@ fn put_field<'a>(
     alloc: Global,
     schema: &'a Schema,
     kept: &mut Kept<'a>,
-    types: &Ids,
+    around: Around<'_, 'a>,
     directives: &Directives,
-    field: &Field<'_>,
+    field: &Field<'a>,
     steps: &mut NormalSteps,
 ) -> Result<(), NoMemory>
-    requires { IsRight schema.now kept.old }
+    requires right { IsRight schema.now kept.old }
+    requires composite { IsOfComposite schema.now around }
     ensures right { OnOk result (IsRight schema.now kept.new) }
     ensures put { OnOk result (steps.new ≡ normal_append steps.old (spec.behind None (tests.conditions_of directives.now)
-        (spec.field_steps schema.now types.now (field_view field.now) (λ us. spec.steps_of schema.now us field.now.selections.now)))) }
+        (spec.field_steps schema.now (types_of schema.now around.entry) (field_view field.now) (λ us. spec.steps_of schema.now us field.now.selections.now)))) }
 {
     let conditions = conditions_of(alloc, directives)?;
     if conditions.is_empty() {
-        return put_field_steps(alloc, schema, kept, types, field, steps);
+        return put_field_steps(alloc, schema, kept, around, field, steps);
     }
     let mut inside = NormalSteps::new(alloc);
-    put_field_steps(alloc, schema, kept, types, field, &mut inside)?;
+    put_field_steps(alloc, schema, kept, around, field, &mut inside)?;
     steps.push(behind(None, conditions, inside))
 }
 
@@ -228,23 +215,25 @@ fn put_field_steps<'a>(
     alloc: Global,
     schema: &'a Schema,
     kept: &mut Kept<'a>,
-    types: &Ids,
-    field: &Field<'_>,
+    around: Around<'_, 'a>,
+    field: &Field<'a>,
     steps: &mut NormalSteps,
 ) -> Result<(), NoMemory>
-    requires { IsRight schema.now kept.old }
+    requires right { IsRight schema.now kept.old }
+    requires composite { IsOfComposite schema.now around }
     ensures right { OnOk result (IsRight schema.now kept.new) }
     ensures put { OnOk result (steps.new ≡ normal_append steps.old
-        (spec.field_steps schema.now types.now (field_view field.now) (λ us. spec.steps_of schema.now us field.now.selections.now))) }
+        (spec.field_steps schema.now (types_of schema.now around.entry) (field_view field.now) (λ us. spec.steps_of schema.now us field.now.selections.now))) }
 {
     if field.name.as_str() == "__typename" {
         let response = field.response.copy()?;
         return steps.push(NormalStep::Typename { response });
     }
-    if let Some(target) = one_target(schema, types, field.name.as_str()) {
+    let one = kept.one_target(alloc, schema, around, field.name.as_str())?;
+    if let Some(target) = one {
         return put_target(alloc, schema, kept, &target, field, steps);
     }
-    let classes = classes_of(alloc, schema, types, field.name.as_str())?;
+    let classes = classes_of(alloc, schema, around.types(schema), field.name.as_str())?;
     put_classes(alloc, schema, kept, &classes, field, steps)
 }
 
@@ -255,7 +244,7 @@ fn put_classes<'a>(
     schema: &'a Schema,
     kept: &mut Kept<'a>,
     classes: &[Class<'a>],
-    field: &Field<'_>,
+    field: &Field<'a>,
     steps: &mut NormalSteps,
 ) -> Result<(), NoMemory>
     requires { IsRight schema.now kept.old }
@@ -279,7 +268,7 @@ fn put_class<'a>(
     schema: &'a Schema,
     kept: &mut Kept<'a>,
     class: &Class<'a>,
-    field: &Field<'_>,
+    field: &Field<'a>,
     steps: &mut NormalSteps,
 ) -> Result<(), NoMemory>
     requires { IsRight schema.now kept.old }
@@ -301,7 +290,7 @@ fn put_target<'a>(
     schema: &'a Schema,
     kept: &mut Kept<'a>,
     target: &Target<'a>,
-    field: &Field<'_>,
+    field: &Field<'a>,
     steps: &mut NormalSteps,
 ) -> Result<(), NoMemory>
     requires { IsRight schema.now kept.old }
@@ -312,8 +301,13 @@ fn put_target<'a>(
     if !schema.is_composite(target.base) {
         return put_leaf(field, steps);
     }
-    let below = schema.possible(target.base);
-    let child = make_steps(alloc, schema, kept, below, field.selections)?;
+    let child = make_steps(
+        alloc,
+        schema,
+        kept,
+        Around::Of(target.base),
+        field.selections,
+    )?;
     put_object_step(alloc, schema, kept, field, target, child, steps)
 }
 
@@ -323,23 +317,24 @@ fn put_inline<'a>(
     alloc: Global,
     schema: &'a Schema,
     kept: &mut Kept<'a>,
-    types: &Ids,
-    on: &Option<Name>,
+    around: Around<'_, 'a>,
+    on: &'a Option<Name>,
     directives: &Directives,
-    selections: &Nodes,
+    selections: &'a Nodes,
     steps: &mut NormalSteps,
 ) -> Result<(), NoMemory>
-    requires { IsRight schema.now kept.old }
+    requires right { IsRight schema.now kept.old }
+    requires composite { IsOfComposite schema.now around }
     ensures right { OnOk result (IsRight schema.now kept.new) }
-    ensures put { OnOk result (steps.new ≡ normal_append steps.old (spec.inline_steps schema.now types.now on.now (tests.conditions_of directives.now)
+    ensures put { OnOk result (steps.new ≡ normal_append steps.old (spec.inline_steps schema.now (types_of schema.now around.entry) on.now (tests.conditions_of directives.now)
         (λ us. spec.steps_of schema.now us selections.now))) }
 {
     let conditions = conditions_of(alloc, directives)?;
     match on {
         Some(on) => put_on(
-            alloc, schema, kept, types, on, conditions, selections, steps,
+            alloc, schema, kept, around, on, conditions, selections, steps,
         ),
-        None => put_inside(alloc, schema, kept, types, conditions, selections, steps),
+        None => put_inside(alloc, schema, kept, around, conditions, selections, steps),
     }
 }
 
@@ -349,27 +344,30 @@ fn put_on<'a>(
     alloc: Global,
     schema: &'a Schema,
     kept: &mut Kept<'a>,
-    types: &Ids,
-    on: &Name,
+    around: Around<'_, 'a>,
+    on: &'a Name,
     conditions: Conditions,
-    selections: &Nodes,
+    selections: &'a Nodes,
     steps: &mut NormalSteps,
 ) -> Result<(), NoMemory>
-    requires { IsRight schema.now kept.old }
+    requires right { IsRight schema.now kept.old }
+    requires composite { IsOfComposite schema.now around }
     ensures right { OnOk result (IsRight schema.now kept.new) }
-    ensures put { OnOk result (steps.new ≡ normal_append steps.old (spec.inline_steps schema.now types.now (Some on.now) conditions (λ us. spec.steps_of schema.now us selections.now))) }
+    ensures put { OnOk result (steps.new ≡ normal_append steps.old (spec.inline_steps schema.now (types_of schema.now around.entry) (Some on.now) conditions (λ us. spec.steps_of schema.now us selections.now))) }
 {
     if !schema.is_composite(on.as_str()) {
         return Ok(());
     }
-    let ids = schema.possible(on.as_str());
-    if are_within(types, ids) {
-        return put_inside(alloc, schema, kept, types, conditions, selections, steps);
+    let is_within = kept.are_within(alloc, schema, around, on.as_str())?;
+    if is_within {
+        return put_inside(alloc, schema, kept, around, conditions, selections, steps);
     }
+    let types = around.types(schema);
     if is_one(types) {
         return Ok(());
     }
-    let inside = make_steps(alloc, schema, kept, ids, selections)?;
+    let inside = make_steps(alloc, schema, kept, Around::Of(on.as_str()), selections)?;
+    let ids = schema.possible(on.as_str());
     let guard = ids.copy()?;
     steps.push(behind(Some(guard), conditions, inside))
 }
@@ -380,18 +378,19 @@ fn put_inside<'a>(
     alloc: Global,
     schema: &'a Schema,
     kept: &mut Kept<'a>,
-    types: &Ids,
+    around: Around<'_, 'a>,
     conditions: Conditions,
-    selections: &Nodes,
+    selections: &'a Nodes,
     steps: &mut NormalSteps,
 ) -> Result<(), NoMemory>
-    requires { IsRight schema.now kept.old }
+    requires right { IsRight schema.now kept.old }
+    requires composite { IsOfComposite schema.now around }
     ensures right { OnOk result (IsRight schema.now kept.new) }
-    ensures put { OnOk result (steps.new ≡ normal_append steps.old (spec.behind None conditions (spec.steps_of schema.now types.now selections.now))) }
+    ensures put { OnOk result (steps.new ≡ normal_append steps.old (spec.behind None conditions (spec.steps_of schema.now (types_of schema.now around.entry) selections.now))) }
 {
     if conditions.is_empty() {
-        return put_nodes(alloc, schema, kept, types, selections, steps);
+        return put_nodes(alloc, schema, kept, around, selections, steps);
     }
-    let inside = make_steps(alloc, schema, kept, types, selections)?;
+    let inside = make_steps(alloc, schema, kept, around, selections)?;
     steps.push(behind(None, conditions, inside))
 }

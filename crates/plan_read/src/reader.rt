@@ -1,6 +1,7 @@
 //! The operations and fragments of a project, ready to be planned.
 ghost use Rattle.std.specs.Prelude.{◌≡◌, [], ◌∷◌, true, Some, is_some, IfOk};
 ghost use Rattle.doc_sites.specs.Definitions.{AreIn};
+ghost use Rattle.plan_build.specs.AroundView.{IsOfComposite, types_of};
 ghost use Rattle.plan_expand.specs.ScopeView.{scope_of};
 ghost use Rattle.plan_ir.specs.Expansion.{name_or};
 ghost use Rattle.plan_ir.specs.Substitution.{mark_local, operation_scope};
@@ -18,7 +19,8 @@ use crate::steps::{Walk, put_set};
 use crate::types::root_type;
 use doc_sites::{DefinitionAt, count_fragments};
 use gql_ast::{Documents, Selections};
-use gql_plain::{Ids, Name, NoMemory};
+use gql_plain::{Name, NoMemory};
+use plan_build::around::Around;
 use plan_build::kept::Kept;
 use plan_expand::scope::Scope;
 use plan_ir::{Form, ReaderPlan, ReaderSteps};
@@ -79,15 +81,16 @@ impl<'a> Readers<'a> {
         }
     }
 
-    /// The plan of selections, where the records are of these types.
+    /// The plan of selections, where the records are of the types around.
     fn make(
         &self,
         alloc: Global,
         scope: &Scope<'_, 'a>,
-        types: &Ids,
+        around: Around<'_, 'a>,
         selections: &'a Selections,
     ) -> Result<ReaderPlan, NoMemory>
-        ensures { IfOk result (λ plan. plan.steps ≡ steps_made self.now (scope_of scope.now) types.now selections.now) }
+        requires { IsOfComposite self.now.schema.now around }
+        ensures { IfOk result (λ plan. plan.steps ≡ steps_made self.now (scope_of scope.now) (types_of self.now.schema.now around.entry) selections.now) }
     {
         let walk = Walk {
             schema: self.schema,
@@ -97,7 +100,7 @@ impl<'a> Readers<'a> {
         };
         let mut kept = Kept::new(alloc);
         let mut steps = ReaderSteps::new(alloc);
-        put_set(alloc, walk, &mut kept, types, selections, &mut steps)?;
+        put_set(alloc, walk, &mut kept, around, selections, &mut steps)?;
         Ok(ReaderPlan { steps })
     }
 
@@ -119,7 +122,7 @@ impl<'a> Readers<'a> {
     {
         let types = root_type(alloc, self.schema, ready.kind)?;
         let scope = Scope::Operation;
-        self.make(alloc, &scope, &types, ready.selections)
+        self.make(alloc, &scope, Around::Listed(&types), ready.selections)
     }
 
     /// The plan of the fragment of that name.
@@ -140,8 +143,7 @@ impl<'a> Readers<'a> {
         requires { types.is_composite self.now.schema.now ready.now.on.now ≡ true }
         ensures { IfOk result (λ plan. plan.steps ≡ fragment_steps self.now (ready_of ready.now)) }
     {
-        let types = self.schema.possible(ready.on);
         let scope = Scope::Own(&ready.locals);
-        self.make(alloc, &scope, types, ready.selections)
+        self.make(alloc, &scope, Around::Of(ready.on), ready.selections)
     }
 }

@@ -2,6 +2,7 @@
 ghost use Rattle.std.specs.Prelude.{◌≡◌, [], ◌∷◌, None, Some, map, option_copied, IfOk, OnOk};
 ghost use Rattle.gql_ast.specs.SelectionView.{sel_of};
 ghost use Rattle.gql_ast.specs.Sels as sels;
+ghost use Rattle.plan_build.specs.AroundView.{IsOfComposite, types_of};
 ghost use Rattle.plan_build.specs.ClassView.{class_view, target_view};
 ghost use Rattle.plan_build.specs.Conditions as tests;
 ghost use Rattle.plan_build.specs.KeptView.{IsRight};
@@ -20,10 +21,10 @@ use crate::fragments::{Fragments, ReadyFragment};
 use crate::masks::is_open;
 use crate::pointers::pointer_arguments;
 use gql_ast::{Directives, Selection, Selections};
-use gql_plain::{Ids, Name, NoMemory};
-use plan_build::classes::{Class, Target, classes_of, one_target};
+use gql_plain::{Name, NoMemory};
+use plan_build::around::{Around, is_one};
+use plan_build::classes::{Class, Target, classes_of};
 use plan_build::kept::Kept;
-use plan_build::steps::{are_within, is_one};
 use plan_expand::scope::{Scope, scope_at_spread};
 use plan_ir::{Conditions, ReaderPlan, ReaderStep, ReaderSteps};
 use schema_types::Schema;
@@ -58,16 +59,17 @@ pub(crate) fn put_set<'a>(
     alloc: Global,
     walk: Walk<'_, 'a>,
     kept: &mut Kept<'a>,
-    types: &Ids,
+    around: Around<'_, 'a>,
     selections: &'a Selections,
     steps: &mut ReaderSteps,
 ) -> Result<(), NoMemory>
-    requires { IsRight walk.schema.now kept.old }
+    requires right { IsRight walk.schema.now kept.old }
+    requires composite { IsOfComposite walk.schema.now around }
     ensures right { OnOk result (IsRight walk.entry.schema.now kept.new) }
-    ensures put { OnOk result (steps.new ≡ reader_append steps.old (steps_in walk.entry types.now selections.now)) }
+    ensures put { OnOk result (steps.new ≡ reader_append steps.old (steps_in walk.entry (types_of walk.entry.schema.now around.entry) selections.now)) }
 {
     'selections: for selection in selections.as_slice() {
-        put_selection(alloc, walk, kept, types, selection, steps)?;
+        put_selection(alloc, walk, kept, around, selection, steps)?;
     }
     Ok(())
 }
@@ -78,13 +80,14 @@ fn put_selection<'a>(
     alloc: Global,
     walk: Walk<'_, 'a>,
     kept: &mut Kept<'a>,
-    types: &Ids,
+    around: Around<'_, 'a>,
     selection: &'a Selection,
     steps: &mut ReaderSteps,
 ) -> Result<(), NoMemory>
-    requires { IsRight walk.schema.now kept.old }
+    requires right { IsRight walk.schema.now kept.old }
+    requires composite { IsOfComposite walk.schema.now around }
     ensures right { OnOk result (IsRight walk.entry.schema.now kept.new) }
-    ensures put { OnOk result (steps.new ≡ reader_append steps.old (steps_in walk.entry types.now (sel_of selection.now))) }
+    ensures put { OnOk result (steps.new ≡ reader_append steps.old (steps_in walk.entry (types_of walk.entry.schema.now around.entry) (sel_of selection.now))) }
 {
     match selection {
         Selection::Field {
@@ -101,10 +104,10 @@ fn put_selection<'a>(
                 directives,
                 selections,
             };
-            put_field(alloc, walk, kept, types, field, steps)
+            put_field(alloc, walk, kept, around, field, steps)
         }
         Selection::Spread { name, directives } => {
-            put_spread(alloc, walk, kept, types, name, directives, steps)
+            put_spread(alloc, walk, kept, around, name, directives, steps)
         }
         Selection::Inline {
             on,
@@ -113,7 +116,7 @@ fn put_selection<'a>(
         } => {
             let on = text_of(on);
             let inside = Inside::Selections(selections);
-            put_inline(alloc, walk, kept, types, on, directives, inside, steps)
+            put_inline(alloc, walk, kept, around, on, directives, inside, steps)
         }
     }
 }
@@ -124,22 +127,23 @@ fn put_field<'a>(
     alloc: Global,
     walk: Walk<'_, 'a>,
     kept: &mut Kept<'a>,
-    types: &Ids,
+    around: Around<'_, 'a>,
     field: Field<'a>,
     steps: &mut ReaderSteps,
 ) -> Result<(), NoMemory>
-    requires { IsRight walk.schema.now kept.old }
+    requires right { IsRight walk.schema.now kept.old }
+    requires composite { IsOfComposite walk.schema.now around }
     ensures right { OnOk result (IsRight walk.entry.schema.now kept.new) }
     ensures put { OnOk result (steps.new ≡ reader_append steps.old
         (spec.behind None (tests.conditions_of (printed_conditions (scope_of walk.entry.scope.now) field.entry.directives.now))
-        (spec.field_steps walk.entry.schema.now types.now (field_view (scope_of walk.entry.scope.now) field.entry) (below_field walk.entry field.entry)))) }
+        (spec.field_steps walk.entry.schema.now (types_of walk.entry.schema.now around.entry) (field_view (scope_of walk.entry.scope.now) field.entry) (below_field walk.entry field.entry)))) }
 {
     let conditions = conditions_in(alloc, walk.scope, field.directives)?;
     if conditions.is_empty() {
-        return put_field_steps(alloc, walk, kept, types, field, steps);
+        return put_field_steps(alloc, walk, kept, around, field, steps);
     }
     let mut inside = ReaderSteps::new(alloc);
-    put_field_steps(alloc, walk, kept, types, field, &mut inside)?;
+    put_field_steps(alloc, walk, kept, around, field, &mut inside)?;
     steps.push(behind(None, conditions, inside))
 }
 
@@ -149,22 +153,29 @@ fn put_field_steps<'a>(
     alloc: Global,
     walk: Walk<'_, 'a>,
     kept: &mut Kept<'a>,
-    types: &Ids,
+    around: Around<'_, 'a>,
     field: Field<'a>,
     steps: &mut ReaderSteps,
 ) -> Result<(), NoMemory>
-    requires { IsRight walk.schema.now kept.old }
+    requires right { IsRight walk.schema.now kept.old }
+    requires composite { IsOfComposite walk.schema.now around }
     ensures right { OnOk result (IsRight walk.entry.schema.now kept.new) }
     ensures put { OnOk result (steps.new ≡ reader_append steps.old
-        (spec.field_steps walk.entry.schema.now types.now (field_view (scope_of walk.entry.scope.now) field.entry) (below_field walk.entry field.entry))) }
+        (spec.field_steps walk.entry.schema.now (types_of walk.entry.schema.now around.entry) (field_view (scope_of walk.entry.scope.now) field.entry) (below_field walk.entry field.entry))) }
 {
     if field.name.as_str() == "__typename" {
         return put_typename(&field, steps);
     }
-    if let Some(target) = one_target(walk.schema, types, field.name.as_str()) {
+    let one = kept.one_target(alloc, walk.schema, around, field.name.as_str())?;
+    if let Some(target) = one {
         return put_target(alloc, walk, kept, &target, field, steps);
     }
-    let classes = classes_of(alloc, walk.schema, types, field.name.as_str())?;
+    let classes = classes_of(
+        alloc,
+        walk.schema,
+        around.types(walk.schema),
+        field.name.as_str(),
+    )?;
     put_classes(alloc, walk, kept, &classes, field, steps)
 }
 
@@ -233,7 +244,7 @@ fn put_target<'a>(
     if !schema.is_composite(target.base) {
         return put_leaf(alloc, walk.scope, &field, steps);
     }
-    let below = schema.possible(target.base);
+    let below = Around::Of(target.base);
     let mut child = ReaderSteps::new(alloc);
     put_set(alloc, walk, kept, below, field.selections, &mut child)?;
     put_object(
@@ -247,14 +258,15 @@ fn put_spread<'a>(
     alloc: Global,
     walk: Walk<'_, 'a>,
     kept: &mut Kept<'a>,
-    types: &Ids,
+    around: Around<'_, 'a>,
     name: &Name,
     directives: &'a Directives,
     steps: &mut ReaderSteps,
 ) -> Result<(), NoMemory>
-    requires { IsRight walk.schema.now kept.old }
+    requires right { IsRight walk.schema.now kept.old }
+    requires composite { IsOfComposite walk.schema.now around }
     ensures right { OnOk result (IsRight walk.entry.schema.now kept.new) }
-    ensures put { OnOk result (steps.new ≡ reader_append steps.old (steps_in walk.entry types.now (sels.spread name.now directives.now sels.end))) }
+    ensures put { OnOk result (steps.new ≡ reader_append steps.old (steps_in walk.entry (types_of walk.entry.schema.now around.entry) (sels.spread name.now directives.now sels.end))) }
 {
     if walk.spreads == 0 {
         return Ok(());
@@ -268,7 +280,7 @@ fn put_spread<'a>(
                 spreads: walk.spreads - 1,
             };
             let on = Some(fragment.on);
-            put_inline(alloc, walk, kept, types, on, directives, inside, steps)
+            put_inline(alloc, walk, kept, around, on, directives, inside, steps)
         }
         None => Ok(()),
     }
@@ -280,21 +292,22 @@ fn put_inline<'a>(
     alloc: Global,
     walk: Walk<'_, 'a>,
     kept: &mut Kept<'a>,
-    types: &Ids,
-    on: Option<&str>,
+    around: Around<'_, 'a>,
+    on: Option<&'a str>,
     directives: &Directives,
     inside: Inside<'_, 'a>,
     steps: &mut ReaderSteps,
 ) -> Result<(), NoMemory>
-    requires { IsRight walk.schema.now kept.old }
+    requires right { IsRight walk.schema.now kept.old }
+    requires composite { IsOfComposite walk.schema.now around }
     ensures right { OnOk result (IsRight walk.entry.schema.now kept.new) }
-    ensures put { OnOk result (steps.new ≡ reader_append steps.old (spec.inline_steps walk.entry.schema.now types.now (option_copied on.entry)
+    ensures put { OnOk result (steps.new ≡ reader_append steps.old (spec.inline_steps walk.entry.schema.now (types_of walk.entry.schema.now around.entry) (option_copied on.entry)
         (tests.conditions_of (printed_conditions (scope_of walk.entry.scope.now) directives.now)) (inside_in walk.entry inside.entry))) }
 {
     let conditions = conditions_in(alloc, walk.scope, directives)?;
     match on {
-        Some(on) => put_on(alloc, walk, kept, types, on, conditions, inside, steps),
-        None => put_behind(alloc, walk, kept, types, conditions, inside, steps),
+        Some(on) => put_on(alloc, walk, kept, around, on, conditions, inside, steps),
+        None => put_behind(alloc, walk, kept, around, conditions, inside, steps),
     }
 }
 
@@ -304,29 +317,32 @@ fn put_on<'a>(
     alloc: Global,
     walk: Walk<'_, 'a>,
     kept: &mut Kept<'a>,
-    types: &Ids,
-    on: &str,
+    around: Around<'_, 'a>,
+    on: &'a str,
     conditions: Conditions,
     inside: Inside<'_, 'a>,
     steps: &mut ReaderSteps,
 ) -> Result<(), NoMemory>
-    requires { IsRight walk.schema.now kept.old }
+    requires right { IsRight walk.schema.now kept.old }
+    requires composite { IsOfComposite walk.schema.now around }
     ensures right { OnOk result (IsRight walk.entry.schema.now kept.new) }
-    ensures put { OnOk result (steps.new ≡ reader_append steps.old (spec.inline_steps walk.entry.schema.now types.now (Some on.now) conditions (inside_in walk.entry inside.entry))) }
+    ensures put { OnOk result (steps.new ≡ reader_append steps.old (spec.inline_steps walk.entry.schema.now (types_of walk.entry.schema.now around.entry) (Some on.now) conditions (inside_in walk.entry inside.entry))) }
 {
     let schema = walk.schema;
     if !schema.is_composite(on) {
         return Ok(());
     }
-    let ids = schema.possible(on);
-    if are_within(types, ids) {
-        return put_behind(alloc, walk, kept, types, conditions, inside, steps);
+    let is_within = kept.are_within(alloc, schema, around, on)?;
+    if is_within {
+        return put_behind(alloc, walk, kept, around, conditions, inside, steps);
     }
+    let types = around.types(schema);
     if is_one(types) {
         return Ok(());
     }
     let mut child = ReaderSteps::new(alloc);
-    put_inside(alloc, walk, kept, ids, inside, &mut child)?;
+    put_inside(alloc, walk, kept, Around::Of(on), inside, &mut child)?;
+    let ids = schema.possible(on);
     let guard = ids.copy()?;
     steps.push(behind(Some(guard), conditions, child))
 }
@@ -337,20 +353,21 @@ fn put_behind<'a>(
     alloc: Global,
     walk: Walk<'_, 'a>,
     kept: &mut Kept<'a>,
-    types: &Ids,
+    around: Around<'_, 'a>,
     conditions: Conditions,
     inside: Inside<'_, 'a>,
     steps: &mut ReaderSteps,
 ) -> Result<(), NoMemory>
-    requires { IsRight walk.schema.now kept.old }
+    requires right { IsRight walk.schema.now kept.old }
+    requires composite { IsOfComposite walk.schema.now around }
     ensures right { OnOk result (IsRight walk.entry.schema.now kept.new) }
-    ensures put { OnOk result (steps.new ≡ reader_append steps.old (spec.behind None conditions (inside_in walk.entry inside.entry types.now))) }
+    ensures put { OnOk result (steps.new ≡ reader_append steps.old (spec.behind None conditions (inside_in walk.entry inside.entry (types_of walk.entry.schema.now around.entry)))) }
 {
     if conditions.is_empty() {
-        return put_inside(alloc, walk, kept, types, inside, steps);
+        return put_inside(alloc, walk, kept, around, inside, steps);
     }
     let mut child = ReaderSteps::new(alloc);
-    put_inside(alloc, walk, kept, types, inside, &mut child)?;
+    put_inside(alloc, walk, kept, around, inside, &mut child)?;
     steps.push(behind(None, conditions, child))
 }
 
@@ -360,23 +377,24 @@ fn put_inside<'a>(
     alloc: Global,
     walk: Walk<'_, 'a>,
     kept: &mut Kept<'a>,
-    types: &Ids,
+    around: Around<'_, 'a>,
     inside: Inside<'_, 'a>,
     steps: &mut ReaderSteps,
 ) -> Result<(), NoMemory>
-    requires { IsRight walk.schema.now kept.old }
+    requires right { IsRight walk.schema.now kept.old }
+    requires composite { IsOfComposite walk.schema.now around }
     ensures right { OnOk result (IsRight walk.entry.schema.now kept.new) }
-    ensures put { OnOk result (steps.new ≡ reader_append steps.old (inside_in walk.entry inside.entry types.now)) }
+    ensures put { OnOk result (steps.new ≡ reader_append steps.old (inside_in walk.entry inside.entry (types_of walk.entry.schema.now around.entry))) }
 {
     match inside {
-        Inside::Selections(selections) => put_set(alloc, walk, kept, types, selections, steps),
+        Inside::Selections(selections) => put_set(alloc, walk, kept, around, selections, steps),
         Inside::Fragment {
             name,
             directives,
             fragment,
             spreads,
         } => put_entered(
-            alloc, walk, kept, types, name, directives, fragment, spreads, steps,
+            alloc, walk, kept, around, name, directives, fragment, spreads, steps,
         ),
     }
 }
@@ -387,25 +405,26 @@ fn put_entered<'a>(
     alloc: Global,
     walk: Walk<'_, 'a>,
     kept: &mut Kept<'a>,
-    types: &Ids,
+    around: Around<'_, 'a>,
     name: &Name,
     directives: &'a Directives,
     fragment: &ReadyFragment<'a>,
     spreads: usize,
     steps: &mut ReaderSteps,
 ) -> Result<(), NoMemory>
-    requires { IsRight walk.schema.now kept.old }
+    requires right { IsRight walk.schema.now kept.old }
+    requires composite { IsOfComposite walk.schema.now around }
     ensures right { OnOk result (IsRight walk.entry.schema.now kept.new) }
     ensures put { OnOk result (steps.new ≡ reader_append steps.old (reading.entered_ready (scope_of walk.entry.scope.now) name.now directives.now (ready_of fragment.now)
-        (fragment_in walk.entry directives.now fragment.now spreads types.now))) }
+        (fragment_in walk.entry directives.now fragment.now spreads (types_of walk.entry.schema.now around.entry)))) }
 {
     if is_open(directives) {
         return put_fragment(
-            alloc, walk, kept, types, directives, fragment, spreads, steps,
+            alloc, walk, kept, around, directives, fragment, spreads, steps,
         );
     }
     let pointer = make_pointer(
-        alloc, walk, kept, types, name, directives, fragment, spreads,
+        alloc, walk, kept, around, name, directives, fragment, spreads,
     )?;
     steps.push(pointer)
 }
@@ -416,17 +435,18 @@ fn make_pointer<'a>(
     alloc: Global,
     walk: Walk<'_, 'a>,
     kept: &mut Kept<'a>,
-    types: &Ids,
+    around: Around<'_, 'a>,
     name: &Name,
     directives: &'a Directives,
     fragment: &ReadyFragment<'a>,
     spreads: usize,
 ) -> Result<ReaderStep, NoMemory>
-    requires { IsRight walk.schema.now kept.old }
+    requires right { IsRight walk.schema.now kept.old }
+    requires composite { IsOfComposite walk.schema.now around }
     ensures right { OnOk result (IsRight walk.entry.schema.now kept.new) }
     ensures made { IfOk result (λ step. step_of step ≡ spec.pointer_step name.now
         (spec.pointer_arguments (scope_of walk.entry.scope.now) directives.now (ready_of fragment.now).variables) fragment.now.is_inline
-        (fragment_in walk.entry directives.now fragment.now spreads types.now)) }
+        (fragment_in walk.entry directives.now fragment.now spreads (types_of walk.entry.schema.now around.entry))) }
 {
     let arguments = pointer_arguments(alloc, walk.scope, directives, &fragment.variables)?;
     let name = name.copy()?;
@@ -439,7 +459,7 @@ fn make_pointer<'a>(
     }
     let mut body = ReaderSteps::new(alloc);
     put_fragment(
-        alloc, walk, kept, types, directives, fragment, spreads, &mut body,
+        alloc, walk, kept, around, directives, fragment, spreads, &mut body,
     )?;
     Ok(ReaderStep::Pointer {
         fragment: name,
@@ -454,15 +474,16 @@ fn put_fragment<'a>(
     alloc: Global,
     walk: Walk<'_, 'a>,
     kept: &mut Kept<'a>,
-    types: &Ids,
+    around: Around<'_, 'a>,
     directives: &'a Directives,
     fragment: &ReadyFragment<'a>,
     spreads: usize,
     steps: &mut ReaderSteps,
 ) -> Result<(), NoMemory>
-    requires { IsRight walk.schema.now kept.old }
+    requires right { IsRight walk.schema.now kept.old }
+    requires composite { IsOfComposite walk.schema.now around }
     ensures right { OnOk result (IsRight walk.entry.schema.now kept.new) }
-    ensures put { OnOk result (steps.new ≡ reader_append steps.old (fragment_in walk.entry directives.now fragment.now spreads types.now)) }
+    ensures put { OnOk result (steps.new ≡ reader_append steps.old (fragment_in walk.entry directives.now fragment.now spreads (types_of walk.entry.schema.now around.entry))) }
 {
     let scope = scope_at_spread(alloc, walk.scope, &fragment.locals, directives)?;
     let inner = Walk {
@@ -471,5 +492,5 @@ fn put_fragment<'a>(
         scope: &scope,
         spreads,
     };
-    put_set(alloc, inner, kept, types, fragment.selections, steps)
+    put_set(alloc, inner, kept, around, fragment.selections, steps)
 }

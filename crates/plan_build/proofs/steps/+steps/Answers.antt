@@ -1,5 +1,5 @@
 -- One more node, and all of them; one more class, and all of them.
-use Rattle.std.proofs.Common.{rules, bytes_eq, Some, ◌≡◌, ◌≤◌, true, false, List, ap, sym, ◌∙◌, arith}
+use Rattle.std.proofs.Common.{rules, bytes_eq, Some, ◌≡◌, ◌≤◌, true, false, ap, sym, ◌∙◌, arith}
 use Rattle.std.proofs.lemmas.Result.{on_ok_weaker}
 use Rattle.std.specs.Prelude.{codes, option_map}
 use Rattle.plan_ir.specs.Nodes.{set_depth}
@@ -7,8 +7,9 @@ use Rattle.plan_ir.specs.NodesView.{node_of}
 use Rattle.plan_ir.specs.Normal.{Normal, normal_append}
 use Rattle.schema_tables.specs.Types.{Text, is_composite, possible}
 use Rattle.plan_build.specs.Classes.{Target, one_target}
+use Rattle.plan_build.specs.AroundView.{types_of}
 use Rattle.plan_build.specs.ClassView.{field_view, target_view}
-use Rattle.plan_build.specs.Steps.{are_within, steps_of, target_step}
+use Rattle.plan_build.specs.Steps.{are_within, is_one, steps_of, target_step}
 use Rattle.plan_build.proofs.CodeSteps.{classes_end, classes_next, many_classes, node_below, put_field_node, put_inline_node, put_no_object, put_no_type, put_one_target, steps_end, steps_next}
 use Rattle.plan_build.proofs.steps.+steps.Goals as goal
 
@@ -16,17 +17,18 @@ pub put_nodes-put_node-requires : goal.put_nodes-put_node-requires
 put_nodes-put_node-requires t c =
     let less : set_depth (node_of c.node-item.result) ≤ set_depth c.args.nodes.now =
     node_below _ _ c.nodes.node-index c.node-item.result (omega arith) c.node-item.is c.nodes.invariant.0 in
-    (omega arith, c.nodes.invariant.2)
+    (omega arith, record { right = c.nodes.invariant.2; composite = c.nodes.invariant.3 })
 
 pub put_nodes-nodes-preserved : goal.put_nodes-nodes-preserved
 put_nodes-nodes-preserved t c = (
   c.nodes.invariant.0,
-  steps_next c.args.schema.now c.args.types.now c.as_slice-node-items.result.now c.nodes.node-index c.node-item.result _ _ _ (omega arith) c.node-item.is c.in_ok-put_node.ensures.put c.nodes.invariant.1,
+  steps_next c.args.schema.now (types_of c.args.schema.now c.args.around) c.as_slice-node-items.result.now c.nodes.node-index c.node-item.result _ _ _ (omega arith) c.node-item.is c.in_ok-put_node.ensures.put c.nodes.invariant.1,
   c.in_ok-put_node.ensures.right,
+  c.nodes.invariant.3,
 )
 
 pub put_nodes-returns-clause-put : goal.put_nodes-returns-clause-put
-put_nodes-returns-clause-put t c = steps_end c.args.schema.now c.args.types.now c.as_slice-node-items.result.now c.nodes.node-index _ _ (omega arith) c.nodes.invariant.1
+put_nodes-returns-clause-put t c = steps_end c.args.schema.now (types_of c.args.schema.now c.args.around) c.as_slice-node-items.result.now c.nodes.node-index _ _ (omega arith) c.nodes.invariant.1
 
 pub put_classes-classes-preserved : goal.put_classes-classes-preserved
 put_classes-classes-preserved t c = (
@@ -44,35 +46,36 @@ put_classes-returns-clause-put t c =
 pub put_node-returns-in-Field-clause-put : goal.put_node-returns-in-Field-clause-put
 put_node-returns-in-Field-clause-put t c =
     on_ok_weaker c.put_field.result
-    (λ e. put_field_node c.args.schema.now c.args.types.now c.args.node.now _ _ _ _ _ _ _ _ c.args.steps.now c.put_field.new.steps c.in-Field.is e)
+    (λ e. put_field_node c.args.schema.now (types_of c.args.schema.now c.args.around) c.args.node.now _ _ _ _ _ _ _ _ c.args.steps.now c.put_field.new.steps c.in-Field.is e)
     c.put_field.ensures.put
 
 pub put_node-returns-in-Inline-clause-put : goal.put_node-returns-in-Inline-clause-put
 put_node-returns-in-Inline-clause-put t c =
     on_ok_weaker c.put_inline.result
-    (λ e. put_inline_node c.args.schema.now c.args.types.now c.args.node.now _ _ _ _ c.args.steps.now c.put_inline.new.steps c.in-Inline.is e)
+    (λ e. put_inline_node c.args.schema.now (types_of c.args.schema.now c.args.around) c.args.node.now _ _ _ _ c.args.steps.now c.put_inline.new.steps c.in-Inline.is e)
     c.put_inline.ensures.put
 
 pub put_on-returns-then-not-is_composite-clause-put : goal.put_on-returns-then-not-is_composite-clause-put
 put_on-returns-then-not-is_composite-clause-put t c =
     let composite : is_composite c.args.schema.now c.args.on.now ≡ false =
     ap (is_composite c.args.schema.now) (sym c.as_str.ensures) ∙ sym c.is_composite.ensures ∙ c.if-not-is_composite.true in
-    put_no_type c.args.schema.now c.args.types.now c.args.on.now c.args.conditions (λ us. steps_of c.args.schema.now us c.args.selections.now) c.args.steps.now composite
+    put_no_type c.args.schema.now (types_of c.args.schema.now c.args.around) c.args.on.now c.args.conditions (λ us. steps_of c.args.schema.now us c.args.selections.now) c.args.steps.now composite
 
 pub put_on-returns-then-is_one-clause-put : goal.put_on-returns-then-is_one-clause-put
 put_on-returns-then-is_one-clause-put t c =
     let composite : is_composite c.args.schema.now c.args.on.now ≡ true =
     ap (is_composite c.args.schema.now) (sym c.as_str.ensures) ∙ sym c.is_composite.ensures ∙ c.if-not-is_composite.false in
-    let possible_is : c.possible-ids.result.now ≡ possible c.args.schema.now c.args.on.now = c.possible-ids.ensures ∙ ap (possible c.args.schema.now) c.as_str-2.ensures in
-    put_no_object c.args.schema.now c.args.types.now c.args.on.now c.args.conditions (λ us. steps_of c.args.schema.now us c.args.selections.now) c.args.steps.now composite
-    (ap (λ (ids : List Text). are_within ids c.args.types.now) (sym possible_is) ∙ sym c.are_within.ensures ∙ c.if-are_within.false) (sym c.is_one.ensures ∙ c.if-is_one.true)
+    let within : are_within (possible c.args.schema.now c.args.on.now) (types_of c.args.schema.now c.args.around) ≡ false =
+    ap (λ (n : Text). are_within (possible c.args.schema.now n) (types_of c.args.schema.now c.args.around)) (sym c.as_str-2.ensures) ∙ sym c.in_ok-is_within.ensures.within ∙ c.if-is_within.false in
+    put_no_object c.args.schema.now (types_of c.args.schema.now c.args.around) c.args.on.now c.args.conditions (λ us. steps_of c.args.schema.now us c.args.selections.now) c.args.steps.now composite within
+    (ap is_one (sym c.types-types.ensures) ∙ sym c.is_one.ensures ∙ c.if-is_one.true)
 
 pub put_field_steps-returns-in-Some-clause-put : goal.put_field_steps-returns-in-Some-clause-put
 put_field_steps-returns-in-Some-clause-put t c =
     let own : bytes_eq c.args.field.now.name.now (codes "__typename") ≡ false = search rules in
-    let one : one_target c.args.schema.now c.args.field.now.name.now c.args.types.now ≡ Some (target_view c.in-Some.target) =
-    ap (λ (n : Text). one_target c.args.schema.now n c.args.types.now) (sym c.as_str-2.ensures) ∙ sym c.one_target.ensures ∙ ap (option_map target_view) c.in-Some.is in
+    let one : one_target c.args.schema.now c.args.field.now.name.now (types_of c.args.schema.now c.args.around) ≡ Some (target_view c.in-Some.target) =
+    ap (λ (n : Text). one_target c.args.schema.now n (types_of c.args.schema.now c.args.around)) (sym c.as_str-2.ensures) ∙ sym c.in_ok-one.ensures.target ∙ ap (option_map target_view) c.in-Some.is in
     on_ok_weaker c.put_target.result
-    (λ e. put_one_target c.args.schema.now c.args.types.now (field_view c.args.field.now) (λ us. steps_of c.args.schema.now us c.args.field.now.selections.now) c.args.steps.now c.put_target.new.steps
+    (λ e. put_one_target c.args.schema.now (types_of c.args.schema.now c.args.around) (field_view c.args.field.now) (λ us. steps_of c.args.schema.now us c.args.field.now.selections.now) c.args.steps.now c.put_target.new.steps
     (target_view c.in-Some.target) own one e)
     c.put_target.ensures.put

@@ -3,6 +3,7 @@ use Rattle.std.proofs.Common.{◌≡◌, ◌+◌, ◌*◌, map, drop}
 use Rattle.plan_ir.specs.Nodes.{set_depth}
 use Rattle.plan_ir.specs.NodesView.{node_of, nodes_of}
 use Rattle.plan_ir.specs.Normal.{normal_append}
+use Rattle.plan_build.specs.AroundView.{IsOfComposite, types_of}
 use Rattle.plan_build.specs.ClassView.{class_view, field_view}
 use Rattle.plan_build.specs.KeptView.{IsRight}
 use Rattle.plan_build.specs.Steps.{guarded_classes, steps_of, target_step}
@@ -44,8 +45,9 @@ decreases-put_inside l = 16 * set_depth l.selections.now + 7
 abbrev pub invariant-put_nodes-nodes : goal.invariant-put_nodes-nodes
 invariant-put_nodes-nodes l =
     (nodes_of l.node-items ≡ l.nodes)
-    × (normal_append l.steps (steps_of l.schema l.types (nodes_of (drop l.node-index l.node-items))) ≡ normal_append l.initial.steps (steps_of l.schema l.types l.nodes))
+    × (normal_append l.steps (steps_of l.schema (types_of l.schema l.around) (nodes_of (drop l.node-index l.node-items))) ≡ normal_append l.initial.steps (steps_of l.schema (types_of l.schema l.around) l.nodes))
     × IsRight l.schema l.kept
+    × IsOfComposite l.schema l.around
 
 abbrev pub invariant-put_classes-classes : goal.invariant-put_classes-classes
 invariant-put_classes-classes l =

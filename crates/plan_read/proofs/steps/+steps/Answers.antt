@@ -1,12 +1,13 @@
 -- One more selection, and all of them; one more class, and all of them; a spread that may be entered, or may not.
-use Rattle.std.proofs.Common.{rules, ◌≡◌, ◌≤◌, false, List, Some, bytes_eq, ap, sym, ◌∙◌, arith}
+use Rattle.std.proofs.Common.{rules, ◌≡◌, ◌≤◌, false, Some, bytes_eq, ap, sym, ◌∙◌, arith}
 use Rattle.std.proofs.lemmas.Result.{on_ok_weaker}
 use Rattle.std.specs.Prelude.{codes, option_map}
 use Rattle.gql_ast.specs.SelectionView.{sel_of}
 use Rattle.plan_build.specs.Classes.{Target, one_target}
+use Rattle.plan_build.specs.AroundView.{types_of}
 use Rattle.plan_build.specs.ClassView.{target_view}
 use Rattle.plan_build.specs.Conditions.{conditions_of}
-use Rattle.plan_build.specs.Steps.{are_within}
+use Rattle.plan_build.specs.Steps.{is_one}
 use Rattle.plan_expand.specs.ScopeView.{scope_of}
 use Rattle.plan_ir.specs.Expansion.{printed_conditions}
 use Rattle.plan_ir.specs.Reader.{Reader, reader_append}
@@ -25,35 +26,36 @@ pub put_set-put_selection-requires : goal.put_set-put_selection-requires
 put_set-put_selection-requires t c =
     let less : depth_in c.args.walk (sel_of c.selection-item.result) ≤ depth_in c.args.walk c.args.selections.now =
     selection_below (spread_depth c.args.walk.spreads (find_in c.args.walk.fragments.now)) _ _ c.selections.selection-index c.selection-item.result (omega arith) c.selection-item.is c.selections.invariant.0 in
-    (omega arith, c.selections.invariant.2)
+    (omega arith, record { right = c.selections.invariant.2; composite = c.selections.invariant.3 })
 
 pub put_set-selections-preserved : goal.put_set-selections-preserved
 put_set-selections-preserved t c = (
   c.selections.invariant.0,
-  steps_next (entering c.args.walk.spreads c.args.walk.schema.now (find_in c.args.walk.fragments.now) (scope_of c.args.walk.scope.now)) c.args.walk.schema.now (scope_of c.args.walk.scope.now) c.args.types.now
+  steps_next (entering c.args.walk.spreads c.args.walk.schema.now (find_in c.args.walk.fragments.now) (scope_of c.args.walk.scope.now)) c.args.walk.schema.now (scope_of c.args.walk.scope.now) (types_of c.args.walk.schema.now c.args.around)
       c.as_slice-selection-items.result.now c.selections.selection-index c.selection-item.result _ _ _ (omega arith) c.selection-item.is c.in_ok-put_selection.ensures.put c.selections.invariant.1,
   c.in_ok-put_selection.ensures.right,
+  c.selections.invariant.3,
 )
 
 pub put_set-returns-clause-put : goal.put_set-returns-clause-put
 put_set-returns-clause-put t c =
-    steps_end (entering c.args.walk.spreads c.args.walk.schema.now (find_in c.args.walk.fragments.now) (scope_of c.args.walk.scope.now)) c.args.walk.schema.now (scope_of c.args.walk.scope.now) c.args.types.now
+    steps_end (entering c.args.walk.spreads c.args.walk.schema.now (find_in c.args.walk.fragments.now) (scope_of c.args.walk.scope.now)) c.args.walk.schema.now (scope_of c.args.walk.scope.now) (types_of c.args.walk.schema.now c.args.around)
     c.as_slice-selection-items.result.now c.selections.selection-index _ _ (omega arith) c.selections.invariant.1
 
 pub put_selection-returns-in-Field-clause-put : goal.put_selection-returns-in-Field-clause-put
 put_selection-returns-in-Field-clause-put t c =
     on_ok_weaker c.put_field.result
-    (λ e. put_field_selection (entering c.args.walk.spreads c.args.walk.schema.now (find_in c.args.walk.fragments.now) (scope_of c.args.walk.scope.now)) c.args.walk.schema.now (scope_of c.args.walk.scope.now) c.args.types.now
+    (λ e. put_field_selection (entering c.args.walk.spreads c.args.walk.schema.now (find_in c.args.walk.fragments.now) (scope_of c.args.walk.scope.now)) c.args.walk.schema.now (scope_of c.args.walk.scope.now) (types_of c.args.walk.schema.now c.args.around)
     c.args.selection.now _ _ _ _ _ c.args.steps.now c.put_field.new.steps c.in-Field.is e)
     c.put_field.ensures.put
 
 pub put_selection-returns-in-Inline-clause-put : goal.put_selection-returns-in-Inline-clause-put
 put_selection-returns-in-Inline-clause-put t c =
     on_ok_weaker c.put_inline.result
-    (λ e. put_inline_selection (entering c.args.walk.spreads c.args.walk.schema.now (find_in c.args.walk.fragments.now) (scope_of c.args.walk.scope.now)) c.args.walk.schema.now (scope_of c.args.walk.scope.now) c.args.types.now
+    (λ e. put_inline_selection (entering c.args.walk.spreads c.args.walk.schema.now (find_in c.args.walk.fragments.now) (scope_of c.args.walk.scope.now)) c.args.walk.schema.now (scope_of c.args.walk.scope.now) (types_of c.args.walk.schema.now c.args.around)
     c.args.selection.now _ _ _ c.args.steps.now c.put_inline.new.steps c.in-Inline.is
     (e ∙ ap (λ o. reader_append c.args.steps.now
-    (inline_steps c.args.walk.schema.now c.args.types.now o (conditions_of (printed_conditions (scope_of c.args.walk.scope.now) c.in-Inline.directives)) (λ us. steps_in c.args.walk us c.in-Inline.selections)))
+    (inline_steps c.args.walk.schema.now (types_of c.args.walk.schema.now c.args.around) o (conditions_of (printed_conditions (scope_of c.args.walk.scope.now) c.in-Inline.directives)) (λ us. steps_in c.args.walk us c.in-Inline.selections)))
     c.text_of-on.ensures))
     c.put_inline.ensures.put
 
@@ -73,41 +75,41 @@ put_classes-returns-clause-put t c =
 pub put_field_steps-returns-in-Some-clause-put : goal.put_field_steps-returns-in-Some-clause-put
 put_field_steps-returns-in-Some-clause-put t c =
     let own : bytes_eq c.args.field.name.now (codes "__typename") ≡ false = search rules in
-    let one : one_target c.args.walk.schema.now c.args.field.name.now c.args.types.now ≡ Some (target_view c.in-Some.target) =
-    ap (λ (n : Text). one_target c.args.walk.schema.now n c.args.types.now) (sym c.as_str-2.ensures) ∙ sym c.one_target.ensures ∙ ap (option_map target_view) c.in-Some.is in
+    let one : one_target c.args.walk.schema.now c.args.field.name.now (types_of c.args.walk.schema.now c.args.around) ≡ Some (target_view c.in-Some.target) =
+    ap (λ (n : Text). one_target c.args.walk.schema.now n (types_of c.args.walk.schema.now c.args.around)) (sym c.as_str-2.ensures) ∙ sym c.in_ok-one.ensures.target ∙ ap (option_map target_view) c.in-Some.is in
     on_ok_weaker c.put_target.result
-    (λ e. put_one_target c.args.walk.schema.now c.args.types.now (field_view (scope_of c.args.walk.scope.now) c.args.field) (below_field c.args.walk c.args.field) c.args.steps.now c.put_target.new.steps
+    (λ e. put_one_target c.args.walk.schema.now (types_of c.args.walk.schema.now c.args.around) (field_view (scope_of c.args.walk.scope.now) c.args.field) (below_field c.args.walk c.args.field) c.args.steps.now c.put_target.new.steps
     (target_view c.in-Some.target) own one e)
     c.put_target.ensures.put
 
 pub put_spread-returns-then-walk-eq0-clause-put : goal.put_spread-returns-then-walk-eq0-clause-put
 put_spread-returns-then-walk-eq0-clause-put t c =
-    put_none c.args.walk.spreads c.args.walk.schema.now (find_in c.args.walk.fragments.now) (scope_of c.args.walk.scope.now) c.args.types.now c.args.name.now c.args.directives.now c.args.steps.now (omega arith)
+    put_none c.args.walk.spreads c.args.walk.schema.now (find_in c.args.walk.fragments.now) (scope_of c.args.walk.scope.now) (types_of c.args.walk.schema.now c.args.around) c.args.name.now c.args.directives.now c.args.steps.now (omega arith)
 
 pub put_spread-returns-in-None-clause-put : goal.put_spread-returns-in-None-clause-put
 put_spread-returns-in-None-clause-put t c =
-    put_missing c.args.walk.spreads c.args.walk.schema.now (find_in c.args.walk.fragments.now) (scope_of c.args.walk.scope.now) c.args.types.now c.args.name.now c.args.directives.now c.args.steps.now
+    put_missing c.args.walk.spreads c.args.walk.schema.now (find_in c.args.walk.fragments.now) (scope_of c.args.walk.scope.now) (types_of c.args.walk.schema.now c.args.around) c.args.name.now c.args.directives.now c.args.steps.now
     (ap (find_in c.args.walk.fragments.now) (sym c.as_str.ensures) ∙ sym c.find.ensures ∙ ap (option_map (λ f. ready_of f.now)) c.in-None.is)
 
 pub put_spread-returns-in-Some-clause-put : goal.put_spread-returns-in-Some-clause-put
 put_spread-returns-in-Some-clause-put t c =
     on_ok_weaker c.put_inline.result
-    (λ e. put_found c.args.walk.spreads c.args.walk.schema.now (find_in c.args.walk.fragments.now) (scope_of c.args.walk.scope.now) c.args.types.now c.args.name.now c.args.directives.now (ready_of c.in-Some.fragment.now)
+    (λ e. put_found c.args.walk.spreads c.args.walk.schema.now (find_in c.args.walk.fragments.now) (scope_of c.args.walk.scope.now) (types_of c.args.walk.schema.now c.args.around) c.args.name.now c.args.directives.now (ready_of c.in-Some.fragment.now)
     c.args.steps.now c.put_inline.new.steps (omega arith)
     (ap (find_in c.args.walk.fragments.now) (sym c.as_str.ensures) ∙ sym c.find.ensures ∙ ap (option_map (λ f. ready_of f.now)) c.in-Some.is) e)
     c.put_inline.ensures.put
 
 pub put_on-returns-then-not-is_composite-clause-put : goal.put_on-returns-then-not-is_composite-clause-put
 put_on-returns-then-not-is_composite-clause-put t c =
-    put_no_type c.args.walk.schema.now c.args.types.now c.args.on.now c.args.conditions (inside_in c.args.walk c.args.inside) c.args.steps.now (sym c.is_composite.ensures ∙ c.if-not-is_composite.true)
+    put_no_type c.args.walk.schema.now (types_of c.args.walk.schema.now c.args.around) c.args.on.now c.args.conditions (inside_in c.args.walk c.args.inside) c.args.steps.now (sym c.is_composite.ensures ∙ c.if-not-is_composite.true)
 
 pub put_on-returns-then-is_one-clause-put : goal.put_on-returns-then-is_one-clause-put
 put_on-returns-then-is_one-clause-put t c =
-    put_no_object c.args.walk.schema.now c.args.types.now c.args.on.now c.args.conditions (inside_in c.args.walk c.args.inside) c.args.steps.now (sym c.is_composite.ensures ∙ c.if-not-is_composite.false)
-    (ap (λ (ids : List Text). are_within ids c.args.types.now) (sym c.possible-ids.ensures) ∙ sym c.are_within.ensures ∙ c.if-are_within.false) (sym c.is_one.ensures ∙ c.if-is_one.true)
+    put_no_object c.args.walk.schema.now (types_of c.args.walk.schema.now c.args.around) c.args.on.now c.args.conditions (inside_in c.args.walk c.args.inside) c.args.steps.now
+    (sym c.is_composite.ensures ∙ c.if-not-is_composite.false) (sym c.in_ok-is_within.ensures.within ∙ c.if-is_within.false) (ap is_one (sym c.types-types.ensures) ∙ sym c.is_one.ensures ∙ c.if-is_one.true)
 
 pub put_fragment-returns-clause-put : goal.put_fragment-returns-clause-put
 put_fragment-returns-clause-put t c =
     on_ok_weaker c.put_set.result
-    (λ e. e ∙ (λ i. reader_append c.args.steps.now (reading c.args.spreads c.args.walk.schema.now (find_in c.args.walk.fragments.now) (λ n. c.in_ok-scope.ensures n i) c.args.types.now c.args.fragment.now.selections.now)))
+    (λ e. e ∙ (λ i. reader_append c.args.steps.now (reading c.args.spreads c.args.walk.schema.now (find_in c.args.walk.fragments.now) (λ n. c.in_ok-scope.ensures n i) (types_of c.args.walk.schema.now c.args.around) c.args.fragment.now.selections.now)))
     c.put_set.ensures.put

@@ -1,6 +1,7 @@
 -- What is put and what is left are the whole; what stands inside is less deep.
 use Rattle.std.proofs.Common.{◌≡◌, ◌+◌, ◌*◌, map, drop}
 use Rattle.gql_ast.specs.SelectionView.{sel_of, sels_of}
+use Rattle.plan_build.specs.AroundView.{IsOfComposite, types_of}
 use Rattle.plan_build.specs.ClassView.{class_view}
 use Rattle.plan_build.specs.KeptView.{IsRight}
 use Rattle.plan_expand.specs.ScopeView.{scope_of}
@@ -61,8 +62,9 @@ decreases-put_fragment l = 16 * fragment_depth l.walk l.fragment.now l.spreads +
 abbrev pub invariant-put_set-selections : goal.invariant-put_set-selections
 invariant-put_set-selections l =
     (sels_of l.selection-items ≡ l.selections)
-    × (reader_append l.steps (steps_in l.walk l.types (sels_of (drop l.selection-index l.selection-items))) ≡ reader_append l.initial.steps (steps_in l.walk l.types l.selections))
+    × (reader_append l.steps (steps_in l.walk (types_of l.walk.schema.now l.around) (sels_of (drop l.selection-index l.selection-items))) ≡ reader_append l.initial.steps (steps_in l.walk (types_of l.walk.schema.now l.around) l.selections))
     × IsRight l.walk.schema.now l.kept
+    × IsOfComposite l.walk.schema.now l.around
 
 abbrev pub invariant-put_classes-classes : goal.invariant-put_classes-classes
 invariant-put_classes-classes l =
