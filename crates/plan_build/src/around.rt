@@ -1,10 +1,14 @@
 //! The object types that the objects at hand may be of.
-ghost use Rattle.std.specs.Prelude.{◌≡◌};
+ghost use Rattle.std.specs.Prelude.{◌≡◌, false, map, codes, bytes_eq, IfOk};
 ghost use Rattle.plan_build.specs.AroundView.{IsOfComposite, types_of};
+ghost use Rattle.plan_build.specs.ClassView.{class_view};
+ghost use Rattle.plan_build.specs.Classes as classes;
 ghost use Rattle.plan_build.specs.Steps as spec;
 
-use gql_plain::Ids;
+use crate::classes::{Class, classes_of};
+use gql_plain::{Ids, NoMemory};
 use schema_types::Schema;
+use std::alloc::Global;
 
 /// Object types, told in a way by which what was found out about them is found again.
 #[derive(Clone, Copy)]
@@ -15,15 +19,38 @@ pub enum Around<'t, 'a> {
     Listed(&'t Ids),
 }
 
-impl<'t, 'a> Around<'t, 'a> {
-    /// The object types; takes no memory.
-    pub fn types(self, schema: &'t Schema) -> &'t Ids
+impl<'a> Around<'_, 'a> {
+    /// Whether it is one type; takes no memory.
+    pub fn is_one(self, schema: &Schema) -> bool
         requires { IsOfComposite schema.now self }
-        ensures { result.now ≡ types_of schema.now self.entry }
+        ensures { result ≡ spec.is_one (types_of schema.now self.entry) }
     {
         match self {
-            Around::Of(of) => schema.possible(of),
-            Around::Listed(types) => types,
+            Around::Of(of) => is_one(schema.possible(of)),
+            Around::Listed(types) => is_one(types),
+        }
+    }
+
+    /// The object types in classes: on those of one class a field leads to the same.
+    pub fn classes_of(
+        self,
+        alloc: Global,
+        schema: &'a Schema,
+        name: &str,
+    ) -> Result<Vec<Class<'a>>, NoMemory>
+        requires composite { IsOfComposite schema.now self }
+        requires field { bytes_eq name.now (codes "__typename") ≡ false }
+        ensures { IfOk result (λ found. map class_view found.items ≡ classes.classes_of schema.now name.now (types_of schema.now self.entry)) }
+    {
+        match self {
+            Around::Of(of) => {
+                let found = classes_of(alloc, schema, schema.possible(of), name)?;
+                Ok(found)
+            }
+            Around::Listed(types) => {
+                let found = classes_of(alloc, schema, types, name)?;
+                Ok(found)
+            }
         }
     }
 }

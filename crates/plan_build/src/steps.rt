@@ -10,8 +10,8 @@ ghost use Rattle.plan_build.specs.Conditions as tests;
 ghost use Rattle.plan_build.specs.KeptView.{IsRight};
 ghost use Rattle.plan_build.specs.Steps as spec;
 
-use crate::around::{Around, is_one};
-use crate::classes::{Class, Target, classes_of, is_abstract};
+use crate::around::Around;
+use crate::classes::{Class, Target, is_abstract};
 use crate::conditions::conditions_of;
 use crate::kept::Kept;
 use gql_ast::{Arguments, Directives};
@@ -233,7 +233,7 @@ fn put_field_steps<'a>(
     if let Some(target) = one {
         return put_target(alloc, schema, kept, &target, field, steps);
     }
-    let classes = classes_of(alloc, schema, around.types(schema), field.name.as_str())?;
+    let classes = around.classes_of(alloc, schema, field.name.as_str())?;
     put_classes(alloc, schema, kept, &classes, field, steps)
 }
 
@@ -362,8 +362,7 @@ fn put_on<'a>(
     if is_within {
         return put_inside(alloc, schema, kept, around, conditions, selections, steps);
     }
-    let types = around.types(schema);
-    if is_one(types) {
+    if around.is_one(schema) {
         return Ok(());
     }
     let inside = make_steps(alloc, schema, kept, Around::Of(on.as_str()), selections)?;

@@ -9,7 +9,7 @@ use Rattle.schema_tables.specs.Types.{Text, is_composite, possible}
 use Rattle.plan_build.specs.Classes.{Target, one_target}
 use Rattle.plan_build.specs.AroundView.{types_of}
 use Rattle.plan_build.specs.ClassView.{field_view, target_view}
-use Rattle.plan_build.specs.Steps.{are_within, is_one, steps_of, target_step}
+use Rattle.plan_build.specs.Steps.{are_within, steps_of, target_step}
 use Rattle.plan_build.proofs.CodeSteps.{classes_end, classes_next, many_classes, node_below, put_field_node, put_inline_node, put_no_object, put_no_type, put_one_target, steps_end, steps_next}
 use Rattle.plan_build.proofs.steps.+steps.Goals as goal
 
@@ -17,7 +17,7 @@ pub put_nodes-put_node-requires : goal.put_nodes-put_node-requires
 put_nodes-put_node-requires t c =
     let less : set_depth (node_of c.node-item.result) ≤ set_depth c.args.nodes.now =
     node_below _ _ c.nodes.node-index c.node-item.result (omega arith) c.node-item.is c.nodes.invariant.0 in
-    (omega arith, record { right = c.nodes.invariant.2; composite = c.nodes.invariant.3 })
+    (omega arith, (c.nodes.invariant.2, c.nodes.invariant.3))
 
 pub put_nodes-nodes-preserved : goal.put_nodes-nodes-preserved
 put_nodes-nodes-preserved t c = (
@@ -68,7 +68,7 @@ put_on-returns-then-is_one-clause-put t c =
     let within : are_within (possible c.args.schema.now c.args.on.now) (types_of c.args.schema.now c.args.around) ≡ false =
     ap (λ (n : Text). are_within (possible c.args.schema.now n) (types_of c.args.schema.now c.args.around)) (sym c.as_str-2.ensures) ∙ sym c.in_ok-is_within.ensures.within ∙ c.if-is_within.false in
     put_no_object c.args.schema.now (types_of c.args.schema.now c.args.around) c.args.on.now c.args.conditions (λ us. steps_of c.args.schema.now us c.args.selections.now) c.args.steps.now composite within
-    (ap is_one (sym c.types-types.ensures) ∙ sym c.is_one.ensures ∙ c.if-is_one.true)
+    (sym c.is_one.ensures ∙ c.if-is_one.true)
 
 pub put_field_steps-returns-in-Some-clause-put : goal.put_field_steps-returns-in-Some-clause-put
 put_field_steps-returns-in-Some-clause-put t c =
