@@ -10,6 +10,10 @@ pub or_false : (a : Bool) → (a || false) ≡ a
 or_false true = refl
 or_false false = refl
 
+pub or_twice : (a r : Bool) → (a || r) ≡ ((a || r) || a)
+or_twice true r = refl
+or_twice false r = sym (or_false r)
+
 pub or_four : (a b c d : Bool) → ((a || b) || (c || d)) ≡ ((a || c) || (b || d))
 or_four true b c d = refl
 or_four false true true d = refl

@@ -1,6 +1,7 @@
 pub mod Bools
 pub mod Follow
 pub mod CommonSteps
+pub mod AlikeSteps
 pub mod Rounds
 pub mod Sets
 pub mod PutSteps

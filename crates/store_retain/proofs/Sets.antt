@@ -9,7 +9,7 @@ use Rattle.std.specs.declared.cmp.Ordering.{Ordering}
 use Rattle.std.specs.declared.cmp.Ordering.TheVariants.{Less, Equal, Greater}
 use Rattle.gql_graph.proofs.TextSteps.{same_text}
 use Rattle.store_record.specs.Keys.{Text}
-use Rattle.store_retain.proofs.Bools.{or_assoc, or_false}
+use Rattle.store_retain.proofs.Bools.{or_assoc, or_false, or_twice}
 use Rattle.store_retain.specs.FoundView.{stand_of}
 use Rattle.store_retain.specs.Steps.{Stand}
 
@@ -31,10 +31,6 @@ or_swap true true = refl
 or_swap true false = refl
 or_swap false true = refl
 or_swap false false = refl
-
-or_twice : (a r : Bool) → (a || r) ≡ ((a || r) || a)
-or_twice true r = refl
-or_twice false r = sym (or_false r)
 
 module _ {K X : Type 0} (cmp : K → K → Ordering) (view : K → X) (same : (k x : K) → cmp k x ≡ Equal → view k ≡ view x) (p : X → Bool) where
   step : (k x : K) (xs : List K) (o : Ordering) → cmp k x ≡ o → list_any p (map view (insert_key cmp xs k)) ≡ (list_any p (map view xs) || p (view k))

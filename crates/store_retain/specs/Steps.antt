@@ -41,6 +41,14 @@ abbrev pub ways_steps : Fields → List ℕ → List Way → List Step
 ways_steps fields ks [] = []
 ways_steps fields ks (w ∷ ws) = way_steps fields ks w ++ ways_steps fields ks ws
 
+-- the same steps, in whatever order and however often
+abbrev pub Alike : List Step → List Step → Type 0
+Alike xs ys = (p : Step → Bool) → list_any p xs ≡ list_any p ys
+
+-- both lead from each record to the same steps, whatever goes on from there
+abbrev pub LeadAlike : List Way → List Way → Type 0
+LeadAlike vs ws = (fields : Fields) (ks : List ℕ) → Alike (ways_steps fields ks vs) (ways_steps fields ks ws)
+
 -- every way of a road is followed, and all that stands below the road goes on from each link
 abbrev pub road_steps : Fields → Road → List Step
 road_steps fields r = ways_steps fields (below_all r.ways) r.ways

@@ -1,5 +1,7 @@
 -- What a walk follows from the records of a plan (this project's own).
-use Rattle.std.specs.Prelude.{ℕ, Bool, true, List, [], ◌∷◌, ◌++◌, map, cond, bytes_eq, get_or, Option, Some, None}
+use Rattle.std.specs.Prelude.{ℕ, Bool, true, ◌&&◌, List, [], ◌∷◌, ◌++◌, map, cond, bytes_eq, get_or, Option, Some, None}
+use Rattle.std.specs.Option.{option_eq}
+use Rattle.gql_plain.specs.Equal.{texts_eq}
 use Rattle.gql_plain.specs.Order.{has_text}
 use Rattle.store_record.specs.Keys.{Text}
 
@@ -35,6 +37,12 @@ ways_on T (w ∷ ws) = cond (is_on w.on T) (w ∷ ways_on T ws) (ways_on T ws)
 abbrev pub ways_of : Parts → Text → List ℕ → List Way
 ways_of ps T [] = []
 ways_of ps T (k ∷ ks) = ways_on T (ways_in ps k) ++ ways_of ps T ks
+
+-- ---- ways that lead to the same
+
+-- whether both lead from each record to the same links, with the same possible types
+abbrev pub is_like : Way → Way → Bool
+is_like v w = bytes_eq v.key w.key && option_eq bytes_eq v.handle w.handle && texts_eq v.types w.types
 
 -- ---- response keys
 

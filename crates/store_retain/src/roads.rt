@@ -1,6 +1,7 @@
 //! The trails of parts by their response keys.
-ghost use Rattle.std.specs.Prelude.{◌≡◌, ◌++◌, ◌<◌, [], ◌∷◌, map, length, IfOk, OnOk};
+ghost use Rattle.std.specs.Prelude.{◌≡◌, ◌++◌, ◌<◌, [], ◌∷◌, true, map, length, IfOk, OnOk};
 ghost use Rattle.store_retain.specs.RoadView.{road_of, roads_in, table_of, IsPlaced, put_at};
+ghost use Rattle.store_retain.specs.Steps.{LeadAlike};
 ghost use Rattle.store_retain.specs.TrailView.{way_at, way_of};
 ghost use Rattle.store_retain.specs.Ways.{below_all, roads_of, roads_onto, ways_in, ways_of, ways_on, with_way};
 
@@ -149,4 +150,39 @@ pub(crate) fn numbers_below(alloc: Global, trails: &[TrailAt<'_>]) -> Result<Vec
         numbers.push(trail.trail.below)?;
     }
     Ok(numbers)
+}
+
+/// The trails, but none that leads to the same as the one before it.
+pub(crate) fn unlike<'t>(
+    alloc: Global,
+    trails: &[TrailAt<'t>],
+) -> Result<Vec<TrailAt<'t>>, NoMemory>
+    ensures { IfOk result (λ unlike. LeadAlike (map way_at unlike.items) (map way_at trails.now)) }
+{
+    let mut unlike = Vec::new(alloc);
+    'trails: for at in trails {
+        put_unlike(&mut unlike, at.trail)?;
+    }
+    Ok(unlike)
+}
+
+/// Puts a trail behind others, unless it leads to the same as the last of them.
+fn put_unlike<'t>(trails: &mut Vec<TrailAt<'t>>, trail: &'t Trail) -> Result<(), NoMemory>
+    ensures { OnOk result (LeadAlike (map way_at trails.new.items) (map way_at trails.old.items ++ way_of trail.now ∷ [])) }
+{
+    if is_like_last(trails, trail) {
+        return Ok(());
+    }
+    trails.push(TrailAt { trail })?;
+    Ok(())
+}
+
+/// Whether a trail leads to the same as the last of others; takes no memory.
+fn is_like_last(trails: &[TrailAt<'_>], trail: &Trail) -> bool
+    ensures { result ≡ true → LeadAlike (map way_at trails.now) (map way_at trails.now ++ way_of trail.now ∷ []) }
+{
+    match trails.last() {
+        Some(last) => last.trail.is_like(trail),
+        None => false,
+    }
 }

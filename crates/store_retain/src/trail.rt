@@ -1,7 +1,7 @@
 //! What a walk follows from a record.
 ghost use Rattle.std.specs.Prelude.{◌≡◌};
 ghost use Rattle.store_retain.specs.TrailView.{way_of};
-ghost use Rattle.store_retain.specs.Ways.{is_on};
+ghost use Rattle.store_retain.specs.Ways.{is_like, is_on};
 
 use gql_plain::{Ids, Words};
 
@@ -30,6 +30,14 @@ impl Trail {
             Some(types) => types.contains(object),
             None => true,
         }
+    }
+
+    /// Whether it leads from each record to the same links as the other, with the same possible types;
+    /// takes no memory.
+    pub(crate) fn is_like(&self, other: &Trail) -> bool
+        ensures { result ≡ is_like (way_of self.now) (way_of other.now) }
+    {
+        self.key == other.key && self.handle == other.handle && self.types == other.types
     }
 }
 

@@ -18,7 +18,7 @@ ghost use Rattle.store_retain.specs.Steps as step;
 ghost use Rattle.store_retain.specs.TrailView.{way_of};
 
 use crate::found::{Found, Stands};
-use crate::roads::{Road, numbers_below, roads_from};
+use crate::roads::{Road, numbers_below, roads_from, unlike};
 use crate::trail::Trail;
 use gql_plain::{Id, Ids, NoMemory, OptIds, Words};
 use std::alloc::Global;
@@ -130,7 +130,7 @@ fn follow_roads<'s, S: RecordSource>(
     Ok(())
 }
 
-/// Follows the trails of a road from a record.
+/// Follows the trails of a road from a record; none that leads to the same as the one before it.
 fn follow_road<'s, S: RecordSource>(
     alloc: Global,
     store: &Store<'s, S>,
@@ -143,7 +143,8 @@ fn follow_road<'s, S: RecordSource>(
     ensures applies { S.Count.applies steps.new ≡ S.Count.applies steps.old }
 {
     let numbers = numbers_below(alloc, &road.trails)?;
-    'trails: for at in &road.trails {
+    let trails = unlike(alloc, &road.trails)?;
+    'trails: for at in &trails {
         follow_trail(alloc, store, row, at.trail, &numbers, found, steps)?;
     }
     Ok(())

@@ -1,10 +1,12 @@
 -- One more trail, and the last one.
-use Rattle.std.proofs.Common.{List, map, Some, refl, ap, ◌∙◌, subst, arith}
+use Rattle.std.proofs.Common.{◌≡◌, List, map, Some, refl, ap, ◌∙◌, subst, arith}
+use Rattle.std.specs.List.{list_any}
 use Rattle.store_model.specs.Walks.{field_of}
 use Rattle.store_record.specs.declared.record.Slot.TheVariants.{Alive}
+use Rattle.store_retain.proofs.AlikeSteps.{follows_alike}
 use Rattle.store_retain.proofs.Follow.{left_end, left_next}
 use Rattle.store_retain.proofs.walk.follow_road.Goals as goal
-use Rattle.store_retain.specs.Steps.{Follows, slots_of, way_steps, ways_steps}
+use Rattle.store_retain.specs.Steps.{Alike, Follows, slots_of, way_steps, ways_steps}
 use Rattle.store_retain.specs.TrailView.{way_at}
 use Rattle.store_retain.specs.Ways.{below_all}
 use Rattle.store_retain.specs.declared.trail.TrailAt.{TrailAt}
@@ -19,8 +21,14 @@ trails-preserved g c = record {
 
 pub returns-clause-follows : goal.returns-clause-follows
 returns-clause-follows g c =
-    let numbers = c.in_ok-numbers.ensures ∙ ap (λ ts. below_all (map way_at ts)) c.deref.ensures.value in
-    subst (λ ks. Follows (slots_of (g.S.RecordSource.records c.args.store.now.source.now)) c.args.store.now.root.now c.args.found.now c.trails.found (ways_steps (field_of (Some (Alive c.args.row.now))) ks (map way_at c.args.road.now.trails.items))) numbers
-    (subst (λ ts. Follows (slots_of (g.S.RecordSource.records c.args.store.now.source.now)) c.args.store.now.root.now c.args.found.now c.trails.found (ways_steps (field_of (Some (Alive c.args.row.now))) c.in_ok-numbers.numbers.items (map way_at ts))) c.deref-at-items.ensures.value
-    (left_end (slots_of (g.S.RecordSource.records c.args.store.now.source.now)) c.args.store.now.root.now (λ t. way_steps (field_of (Some (Alive c.args.row.now))) c.in_ok-numbers.numbers.items (way_at t)) (λ (ts : List TrailAt). ways_steps (field_of (Some (Alive c.args.row.now))) c.in_ok-numbers.numbers.items (map way_at ts)) (λ t ts. refl) refl
-    c.deref-at-items.result.now c.trails.at-index _ c.trails.found (omega arith) c.trails.invariant.follows))
+    let fields = field_of (Some (Alive c.args.row.now)) in
+    let ways = map way_at c.args.road.now.trails.items in
+    let numbers : c.in_ok-numbers.numbers.items ≡ below_all ways = c.in_ok-numbers.ensures ∙ ap (λ ts. below_all (map way_at ts)) c.deref.ensures.value in
+    let alike : Alike (ways_steps fields c.in_ok-numbers.numbers.items (map way_at c.deref-at-items.result.now)) (ways_steps fields (below_all ways) ways) =
+    λ p.
+    ap (λ ts. list_any p (ways_steps fields c.in_ok-numbers.numbers.items (map way_at ts))) c.deref-at-items.ensures.value
+    ∙ c.in_ok-trails.ensures fields c.in_ok-numbers.numbers.items p
+    ∙ (λ i. list_any p (ways_steps fields (numbers i) (map way_at (c.deref-2.ensures.value i)))) in
+    follows_alike (slots_of (g.S.RecordSource.records c.args.store.now.source.now)) c.args.store.now.root.now c.args.found.now c.trails.found _ _ alike
+    (left_end (slots_of (g.S.RecordSource.records c.args.store.now.source.now)) c.args.store.now.root.now (λ t. way_steps fields c.in_ok-numbers.numbers.items (way_at t)) (λ (ts : List TrailAt). ways_steps fields c.in_ok-numbers.numbers.items (map way_at ts)) (λ t ts. refl) refl
+    c.deref-at-items.result.now c.trails.at-index _ c.trails.found (omega arith) c.trails.invariant.follows)
