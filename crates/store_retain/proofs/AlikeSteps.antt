@@ -1,6 +1,6 @@
 -- Ways that lead to the same, and steps that are the same.
-use Rattle.std.proofs.Common.{◌≡◌, ℕ, zero, suc, ◌+◌, ◌<◌, ◌≤◌, Bool, true, false, true≢false, ◌&&◌, ◌||◌, List, [], ◌∷◌, ◌++◌, map, take, length, get_or, slice_get, Option, Some, None, bytes_eq, refl, sym, ap, ◌∙◌, arith}
-use Rattle.std.proofs.lemmas.List.{append-nil, map-append, take_more}
+use Rattle.std.proofs.Common.{◌≡◌, ℕ, zero, suc, ◌+◌, ◌<◌, ◌≤◌, Bool, true, false, true≢false, ◌&&◌, ◌||◌, List, [], ◌∷◌, ◌++◌, map, take, length, get_or, slice_get, Option, Some, None, bytes_eq, refl, sym, ap, ◌∙◌}
+use Rattle.std.proofs.lemmas.List.{append-nil, map-append, take_all, take_more}
 use Rattle.std.proofs.lemmas.Slice.Eq.{bytes_eq-Decides, slice_eq-Decides}
 use Rattle.std.specs.List.{list_any}
 use Rattle.std.specs.Option.{option_eq}
@@ -25,11 +25,11 @@ follows_alike m root a b xs ys same f = record {
 
 -- ---- ways that are like each other
 
-both_first : (a b : Bool) → (a && b) ≡ true → a ≡ true
+pub both_first : (a b : Bool) → (a && b) ≡ true → a ≡ true
 both_first true b e = refl
 both_first false b e = e
 
-both_second : (a b : Bool) → (a && b) ≡ true → b ≡ true
+pub both_second : (a b : Bool) → (a && b) ≡ true → b ≡ true
 both_second true b e = e
 both_second false b e = absurd (true≢false (sym e))
 
@@ -64,12 +64,6 @@ module _ {A : Type 0} (own : A → List Step) (all : List A → List Step) (none
 
 way_more : (fields : Fields) (ks : List ℕ) (p : Step → Bool) (vs : List Way) (w : Way) → list_any p (ways_steps fields ks (vs ++ w ∷ [])) ≡ (list_any p (ways_steps fields ks vs) || list_any p (way_steps fields ks w))
 way_more fields ks p vs w = any_more (way_steps fields ks) (ways_steps fields ks) refl (λ x xs. refl) p vs w
-
-take_whole : {A : Type 0} (xs : List A) (i : ℕ) → length xs ≤ i → take i xs ≡ xs
-take_whole [] zero h = refl
-take_whole [] (suc i) h = refl
-take_whole (x ∷ xs) zero h = absurd (omega (arith, h))
-take_whole (x ∷ xs) (suc i) h = ap (λ ys. x ∷ ys) (take_whole xs i (omega (arith, h)))
 
 -- what a trail leads to is among what they lead to
 there : (fields : Fields) (ks : List ℕ) (p : Step → Bool) (ts : List TrailAt) (i : ℕ) (t : TrailAt) → slice_get ts i ≡ Some t
@@ -112,4 +106,4 @@ alike_next ts i d t old new within is before put = λ fields ks p.
     ∙ ap (λ ws. list_any p (ways_steps fields ks ws)) (sym whole)
 
 pub alike_end : (ts : List TrailAt) (i : ℕ) (new : List Way) → length ts ≤ i → LeadAlike new (map way_at (take i ts)) → LeadAlike new (map way_at ts)
-alike_end ts i new h before = λ fields ks p. before fields ks p ∙ ap (λ (us : List TrailAt). list_any p (ways_steps fields ks (map way_at us))) (take_whole ts i h)
+alike_end ts i new h before = λ fields ks p. before fields ks p ∙ ap (λ (us : List TrailAt). list_any p (ways_steps fields ks (map way_at us))) (take_all i ts h)

@@ -2,6 +2,7 @@ pub mod Bools
 pub mod Follow
 pub mod CommonSteps
 pub mod AlikeSteps
+pub mod PathSteps
 pub mod Rounds
 pub mod Sets
 pub mod PutSteps

@@ -3,6 +3,7 @@ pub mod Steps
 pub mod Reach
 pub mod TrailView
 pub mod RoadView
+pub mod PathView
 pub mod FoundView
 pub mod Stands
 pub mod Kept

@@ -10,6 +10,7 @@ mod found;
 pub mod held;
 mod levels;
 mod mark;
+mod paths;
 pub mod retained;
 mod roads;
 mod table;

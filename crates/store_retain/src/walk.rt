@@ -11,14 +11,15 @@ ghost use Rattle.store_model.specs.Walks.{field_of, type_of_record};
 ghost use Rattle.store_record.specs.Keys.{Text};
 ghost use Rattle.store_record.specs.declared.record.Slot.TheVariants.{Alive};
 ghost use Rattle.store_retain.specs.FoundView.{stand_of};
+ghost use Rattle.store_retain.specs.PathView.{AreRight, path_steps, paths_steps};
 ghost use Rattle.store_retain.specs.Reach.{reach_step};
-ghost use Rattle.store_retain.specs.RoadView.{road_of, table_of};
-ghost use Rattle.store_retain.specs.Steps.{Follows, road_steps, roads_steps, slots_of, stand_steps, stands_steps, steps_to, way_steps};
+ghost use Rattle.store_retain.specs.RoadView.{table_of};
+ghost use Rattle.store_retain.specs.Steps.{Follows, row_steps, slots_of, stand_steps, stands_steps, steps_to, way_steps};
 ghost use Rattle.store_retain.specs.Steps as step;
 ghost use Rattle.store_retain.specs.TrailView.{way_of};
 
 use crate::found::{Found, Stands};
-use crate::roads::{Road, numbers_below, roads_from, unlike};
+use crate::paths::{Known, Path};
 use crate::trail::Trail;
 use gql_plain::{Id, Ids, NoMemory, OptIds, Words};
 use std::alloc::Global;
@@ -57,7 +58,8 @@ pub(crate) fn walk<'s, S: RecordSource>(
     Ok(())
 }
 
-/// Goes on from each record, one step further.
+/// Goes on from each record, one step further. What is followed from the records of one type by the
+/// same parts is made once.
 fn go_on<'s, S: RecordSource>(
     alloc: Global,
     store: &Store<'s, S>,
@@ -69,22 +71,26 @@ fn go_on<'s, S: RecordSource>(
     ensures follows { OnOk result (Follows (slots_of (S.records store.now.source.now)) store.now.root.now found.old found.new (stands_steps (slots_of (S.records store.now.source.now)) store.now.root.now (table_of parts.now) (map stand_of stands.now.keys))) }
     ensures applies { S.Count.applies steps.new ≡ S.Count.applies steps.old }
 {
+    let mut known = Known::new(alloc);
     'stands: for (id, numbers) in stands {
-        go_on_from(alloc, store, parts, *id, numbers, found, steps)?;
+        go_on_from(alloc, store, parts, *id, numbers, &mut known, found, steps)?;
     }
     Ok(())
 }
 
 /// Goes on from the record at an id, one step further.
-fn go_on_from<'s, S: RecordSource>(
+fn go_on_from<'s, 't, 'k, S: RecordSource>(
     alloc: Global,
     store: &Store<'s, S>,
-    parts: &[Vec<Trail>],
+    parts: &'t [Vec<Trail>],
     id: &'s str,
-    numbers: &[usize],
+    numbers: &'k [usize],
+    known: &mut Known<'t, 's, 'k>,
     found: &mut Found<'s>,
     steps: &mut S::Count,
 ) -> Result<(), NoMemory>
+    requires { AreRight (table_of parts.now) known.old.made.items }
+    ensures right { AreRight (table_of parts.now) known.new.made.items }
     ensures follows { OnOk result (Follows (slots_of (S.records store.now.source.now)) store.now.root.now found.old found.new (stand_steps (slots_of (S.records store.now.source.now)) store.now.root.now (table_of parts.now) (id.now, numbers.now))) }
     ensures applies { S.Count.applies steps.new ≡ S.Count.applies steps.old }
 {
@@ -92,13 +98,33 @@ fn go_on_from<'s, S: RecordSource>(
     match source.get(id, steps) {
         Some(Slot::Alive(shared)) => {
             let row = shared.get();
-            let object = type_of(store.root, row);
-            let roads = roads_from(alloc, parts, object, numbers)?;
-            follow_roads(alloc, store, row, &roads, found, steps)
+            go_on_row(alloc, store, parts, row, numbers, known, found, steps)
         }
         Some(Slot::Deleted) => Ok(()),
         None => Ok(()),
     }
+}
+
+/// Goes on from a live record, one step further.
+fn go_on_row<'s, 't, 'k, S: RecordSource>(
+    alloc: Global,
+    store: &Store<'s, S>,
+    parts: &'t [Vec<Trail>],
+    row: &'s Record,
+    numbers: &'k [usize],
+    known: &mut Known<'t, 's, 'k>,
+    found: &mut Found<'s>,
+    steps: &mut S::Count,
+) -> Result<(), NoMemory>
+    requires { AreRight (table_of parts.now) known.old.made.items }
+    ensures right { AreRight (table_of parts.now) known.new.made.items }
+    ensures follows { OnOk result (Follows (slots_of (S.records store.now.source.now)) store.now.root.now found.old found.new (row_steps (table_of parts.now) numbers.now (type_of_record store.now.root.now row.now.type_name) (field_of (Some (Alive row.now))))) }
+    ensures applies { S.Count.applies steps.new ≡ S.Count.applies steps.old }
+{
+    let object = type_of(store.root, row);
+    let place = known.place_of(alloc, parts, object, numbers)?;
+    let there = &known.made[place];
+    follow_paths(alloc, store, row, &there.paths, found, steps)
 }
 
 /// The type of a record, by the name of its type: the root record has the root type of the operation.
@@ -112,40 +138,38 @@ fn type_of<'s>(root: &'s str, row: &'s Record) -> &'s str
     name
 }
 
-/// Follows each road from a record.
-fn follow_roads<'s, S: RecordSource>(
+/// Follows each path from a record.
+fn follow_paths<'s, S: RecordSource>(
     alloc: Global,
     store: &Store<'s, S>,
     row: &'s Record,
-    roads: &[Road<'_>],
+    paths: &[Path<'_>],
     found: &mut Found<'s>,
     steps: &mut S::Count,
 ) -> Result<(), NoMemory>
-    ensures follows { OnOk result (Follows (slots_of (S.records store.now.source.now)) store.now.root.now found.old found.new (roads_steps (field_of (Some (Alive row.now))) (map road_of roads.now))) }
+    ensures follows { OnOk result (Follows (slots_of (S.records store.now.source.now)) store.now.root.now found.old found.new (paths_steps (field_of (Some (Alive row.now))) paths.now)) }
     ensures applies { S.Count.applies steps.new ≡ S.Count.applies steps.old }
 {
-    'roads: for road in roads {
-        follow_road(alloc, store, row, road, found, steps)?;
+    'paths: for path in paths {
+        follow_path(alloc, store, row, path, found, steps)?;
     }
     Ok(())
 }
 
-/// Follows the trails of a road from a record; none that leads to the same as the one before it.
-fn follow_road<'s, S: RecordSource>(
+/// Follows the trails of a path from a record.
+fn follow_path<'s, S: RecordSource>(
     alloc: Global,
     store: &Store<'s, S>,
     row: &'s Record,
-    road: &Road<'_>,
+    path: &Path<'_>,
     found: &mut Found<'s>,
     steps: &mut S::Count,
 ) -> Result<(), NoMemory>
-    ensures follows { OnOk result (Follows (slots_of (S.records store.now.source.now)) store.now.root.now found.old found.new (road_steps (field_of (Some (Alive row.now))) (road_of road.now))) }
+    ensures follows { OnOk result (Follows (slots_of (S.records store.now.source.now)) store.now.root.now found.old found.new (path_steps (field_of (Some (Alive row.now))) path.now)) }
     ensures applies { S.Count.applies steps.new ≡ S.Count.applies steps.old }
 {
-    let numbers = numbers_below(alloc, &road.trails)?;
-    let trails = unlike(alloc, &road.trails)?;
-    'trails: for at in &trails {
-        follow_trail(alloc, store, row, at.trail, &numbers, found, steps)?;
+    'trails: for at in &path.trails {
+        follow_trail(alloc, store, row, at.trail, &path.numbers, found, steps)?;
     }
     Ok(())
 }
