@@ -13,6 +13,11 @@ then_equal Less = refl
 then_equal Equal = refl
 then_equal Greater = refl
 
+pub unequal_then : (o p : Ordering) → (o ≡ Equal → ⊥) → o ≡ ordering_then o p
+unequal_then Less p other = refl
+unequal_then Equal p other = absurd (other refl)
+unequal_then Greater p other = refl
+
 module _ {A : Type 0} (cmp : A → A → Ordering) where
   pub both_longer : (xs ys : List A) (x y : A) → length xs ≡ length ys → slice_cmp cmp (xs ++ x ∷ []) (ys ++ y ∷ []) ≡ ordering_then (slice_cmp cmp xs ys) (cmp x y)
   both_longer [] [] x y e = then_equal (cmp x y)

@@ -2,9 +2,13 @@ pub mod Clashes
 pub mod GatherSteps
 pub mod InOrder
 pub mod Joins
+pub mod KeptSteps
 pub mod LastSteps
 pub mod LoopSteps
+pub mod Numbers
 pub mod Orders
+pub mod RankSteps
+pub mod RankedOrder
 pub mod RowLoop
 pub mod RowSteps
 pub mod Seatings

@@ -1,5 +1,7 @@
 pub mod Codes
 pub mod Gathering
+pub mod Kept
+pub mod Objects
 pub mod PagePlaces
 pub mod Paths
 pub mod Refusals

@@ -57,6 +57,7 @@ fn take(
         key,
         value,
         path: _path,
+        object: _object,
     } = fact;
     match begun {
         Some(row) => {

@@ -2,7 +2,8 @@
 ghost use Rattle.std.specs.Prelude.{◌≡◌, IfOk};
 ghost use Rattle.std.specs.Ordering.{is_lt};
 ghost use Rattle.store_model.specs.Verdicts.{fault_cmp, number_of, put_cmp, same_place};
-ghost use Rattle.store_report.specs.SaidFacts.{put_of, fault_of, place_cmp};
+ghost use Rattle.store_report.specs.Objects.{ranked_cmp};
+ghost use Rattle.store_report.specs.SaidFacts.{put_of, fault_of};
 
 use crate::path::Path;
 use gql_plain::{NoMemory, SharedText};
@@ -18,14 +19,16 @@ pub(crate) struct SaidFact<'r> {
     pub(crate) key: SharedText,
     pub(crate) value: Field,
     pub(crate) path: Path<'r>,
+    /// The number of the object that has the id; its rank in the order of ids, once all are gathered.
+    pub(crate) object: usize,
 }
 
 impl SaidFact<'_> {
-    /// The order of facts by id and then by key; takes no memory.
-    pub(crate) fn compare_place(&self, other: &SaidFact<'_>) -> Ordering
-        ensures { result ≡ place_cmp self.now other.now }
+    /// The order of facts by the ranks of their objects and then by key; takes no memory.
+    pub(crate) fn compare_ranked(&self, other: &SaidFact<'_>) -> Ordering
+        ensures { result ≡ ranked_cmp self.now other.now }
     {
-        match self.id.cmp(&other.id) {
+        match self.object.cmp(&other.object) {
             Ordering::Equal => self.key.cmp(&other.key),
             unequal => unequal,
         }

@@ -6,6 +6,7 @@ ghost use Rattle.store_model.specs.FactOrder.{handle_cmp};
 ghost use Rattle.store_model.specs.Said.{HaveHandleKeys};
 ghost use Rattle.store_model.specs.Verdicts as verdicts;
 ghost use Rattle.store_report.specs.Gathering.{AreNamed, verdict_of};
+ghost use Rattle.store_report.specs.Objects.{AreRanked};
 ghost use Rattle.store_report.specs.Refusals.{IsRefusedBy};
 ghost use Rattle.store_report.specs.SaidFacts.{fact_of, fault_of, is_same_fact, place_cmp, put_of};
 
@@ -13,6 +14,7 @@ use crate::conflict::conflict;
 use crate::fault::NormFault;
 use crate::gathered::Gathered;
 use crate::pages::in_order;
+use crate::ranks::ranked;
 use crate::rows::rows_of;
 use crate::said::{SaidFact, SaidFault};
 use gql_plain::NoMemory;
@@ -30,6 +32,8 @@ impl Gathered<'_> {
     {
         let Gathered {
             facts,
+            objects,
+            open: _open,
             pages,
             fault,
             type_key: _type_key,
@@ -37,6 +41,9 @@ impl Gathered<'_> {
         if let Some(fault) = fault {
             return Err(refusal(alloc, fault));
         }
+        let Ok(facts) = ranked(alloc, objects, facts) else {
+            return Err(NormFault::NoMemory);
+        };
         let Ok(facts) = sorted(facts) else {
             return Err(NormFault::NoMemory);
         };
@@ -63,12 +70,13 @@ fn refusal(alloc: Global, fault: SaidFault<'_>) -> NormFault
     }
 }
 
-/// The facts in order of id and key, those of one place in the order in which they were said.
+/// Facts that have ranks in order of id and key, those of one place in the order in which they were said.
 fn sorted<'r>(mut facts: Vec<SaidFact<'r>>) -> Result<Vec<SaidFact<'r>>, NoMemory>
+    requires { AreRanked facts.items }
     ensures order { IfOk result (λ sorted. IsSorted place_cmp sorted.items) }
     ensures stable { IfOk result (λ sorted. IsStable place_cmp facts.entry.items sorted.items) }
 {
-    facts.sort_by(|one, other| one.compare_place(other))?;
+    facts.sort_by(|one, other| one.compare_ranked(other))?;
     Ok(facts)
 }
 

@@ -1,0 +1,76 @@
+//! The ranks of objects in the order of their ids.
+ghost use Rattle.std.specs.Prelude.{◌≡◌, ◌+◌, ◌<◌, ◌-◌, length, map, get_or, IfOk};
+ghost use Rattle.std.specs.List.{All, Contains};
+ghost use Rattle.std.specs.List.Sorted.{IsSorted};
+ghost use Rattle.store_report.specs.Objects.{AreNumbered, AreOf, AreRanked, AreWithin, HaveOneId, HasRank, id_cmp, rank_of};
+ghost use Rattle.store_report.specs.SaidFacts.{put_of};
+ghost use Rattle.store_report.specs.declared.objects.SaidObject.{SaidObject as Object};
+
+use crate::objects::SaidObject;
+use crate::said::SaidFact;
+use gql_plain::NoMemory;
+use std::alloc::Global;
+
+/// The facts, each with the rank of its object in place of its number: equal ids have equal ranks, and a
+/// lesser id has a lesser rank. With n objects it compares about n log n ids, whatever the facts.
+pub(crate) fn ranked<'r>(
+    alloc: Global,
+    objects: Vec<SaidObject>,
+    mut facts: Vec<SaidFact<'r>>,
+) -> Result<Vec<SaidFact<'r>>, NoMemory>
+    requires numbered { AreNumbered objects.items }
+    requires facts { AreOf objects.items facts.items }
+    ensures puts { IfOk result (λ ranked. map put_of ranked.items ≡ map put_of facts.entry.items) }
+    ensures ranked { IfOk result (λ ranked. AreRanked ranked.items) }
+{
+    let ranks = ranks_of(alloc, objects)?;
+    'facts: for at in 0..facts.len() {
+        let number = facts[at].object;
+        facts[at].object = ranks[number];
+    }
+    Ok(facts)
+}
+
+/// The rank of each object, at its number.
+fn ranks_of(alloc: Global, mut objects: Vec<SaidObject>) -> Result<Vec<usize>, NoMemory>
+    requires { AreNumbered objects.items }
+    ensures len { IfOk result (λ ranks. length ranks.items ≡ length objects.items) }
+    ensures ranks { IfOk result (λ ranks. All (HasRank objects.items ranks.items) objects.items) }
+{
+    objects.sort_by(|one, other| one.id.cmp(&other.id))?;
+    let ranks = ranks_in_order(alloc, &objects)?;
+    Ok(ranks)
+}
+
+/// The rank of each object, at its number, of objects that are in order of their ids.
+fn ranks_in_order(alloc: Global, objects: &[SaidObject]) -> Result<Vec<usize>, NoMemory>
+    requires order { IsSorted id_cmp objects.now }
+    requires within { AreWithin objects.now }
+    requires apart { HaveOneId objects.now }
+    ensures len { IfOk result (λ ranks. length ranks.items ≡ length objects.now) }
+    ensures ranks { IfOk result (λ ranks. All (HasRank objects.now ranks.items) objects.now) }
+{
+    let mut ranks = vec![in alloc; 0; objects.len()]?;
+    let mut rank = 0;
+    'objects: for (at, object) in objects.iter().enumerate() {
+        rank = rank_at(objects, at, rank);
+        ranks[object.number] = rank;
+    }
+    Ok(ranks)
+}
+
+/// The rank of the object at a place, from the rank of the one before it; takes no memory.
+fn rank_at(objects: &[SaidObject], at: usize, before: usize) -> usize
+    requires order { IsSorted id_cmp objects.now }
+    requires within { at < length objects.now }
+    requires before { (d : Object) → 0 < at → before ≡ rank_of objects.now (get_or objects.now (at - 1) d).id }
+    ensures { (d : Object) → result ≡ rank_of objects.now (get_or objects.now at d).id }
+{
+    if at == 0 {
+        return 0;
+    }
+    if objects[at - 1].id == objects[at].id {
+        return before;
+    }
+    at
+}
