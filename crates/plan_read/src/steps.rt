@@ -22,8 +22,8 @@ use crate::masks::is_open;
 use crate::pointers::pointer_arguments;
 use gql_ast::{Directives, Selection, Selections};
 use gql_plain::{Name, NoMemory};
-use plan_build::around::{Around, is_one};
-use plan_build::classes::{Class, Target, classes_of};
+use plan_build::around::Around;
+use plan_build::classes::{Class, Target};
 use plan_build::kept::Kept;
 use plan_expand::scope::{Scope, scope_at_spread};
 use plan_ir::{Conditions, ReaderPlan, ReaderStep, ReaderSteps};
@@ -170,12 +170,7 @@ fn put_field_steps<'a>(
     if let Some(target) = one {
         return put_target(alloc, walk, kept, &target, field, steps);
     }
-    let classes = classes_of(
-        alloc,
-        walk.schema,
-        around.types(walk.schema),
-        field.name.as_str(),
-    )?;
+    let classes = around.classes_of(alloc, walk.schema, field.name.as_str())?;
     put_classes(alloc, walk, kept, &classes, field, steps)
 }
 
@@ -336,8 +331,7 @@ fn put_on<'a>(
     if is_within {
         return put_behind(alloc, walk, kept, around, conditions, inside, steps);
     }
-    let types = around.types(schema);
-    if is_one(types) {
+    if around.is_one(schema) {
         return Ok(());
     }
     let mut child = ReaderSteps::new(alloc);

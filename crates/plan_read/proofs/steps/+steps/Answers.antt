@@ -7,7 +7,6 @@ use Rattle.plan_build.specs.Classes.{Target, one_target}
 use Rattle.plan_build.specs.AroundView.{types_of}
 use Rattle.plan_build.specs.ClassView.{target_view}
 use Rattle.plan_build.specs.Conditions.{conditions_of}
-use Rattle.plan_build.specs.Steps.{is_one}
 use Rattle.plan_expand.specs.ScopeView.{scope_of}
 use Rattle.plan_ir.specs.Expansion.{printed_conditions}
 use Rattle.plan_ir.specs.Reader.{Reader, reader_append}
@@ -26,7 +25,7 @@ pub put_set-put_selection-requires : goal.put_set-put_selection-requires
 put_set-put_selection-requires t c =
     let less : depth_in c.args.walk (sel_of c.selection-item.result) ≤ depth_in c.args.walk c.args.selections.now =
     selection_below (spread_depth c.args.walk.spreads (find_in c.args.walk.fragments.now)) _ _ c.selections.selection-index c.selection-item.result (omega arith) c.selection-item.is c.selections.invariant.0 in
-    (omega arith, record { right = c.selections.invariant.2; composite = c.selections.invariant.3 })
+    (omega arith, (c.selections.invariant.2, c.selections.invariant.3))
 
 pub put_set-selections-preserved : goal.put_set-selections-preserved
 put_set-selections-preserved t c = (
@@ -106,7 +105,7 @@ put_on-returns-then-not-is_composite-clause-put t c =
 pub put_on-returns-then-is_one-clause-put : goal.put_on-returns-then-is_one-clause-put
 put_on-returns-then-is_one-clause-put t c =
     put_no_object c.args.walk.schema.now (types_of c.args.walk.schema.now c.args.around) c.args.on.now c.args.conditions (inside_in c.args.walk c.args.inside) c.args.steps.now
-    (sym c.is_composite.ensures ∙ c.if-not-is_composite.false) (sym c.in_ok-is_within.ensures.within ∙ c.if-is_within.false) (ap is_one (sym c.types-types.ensures) ∙ sym c.is_one.ensures ∙ c.if-is_one.true)
+    (sym c.is_composite.ensures ∙ c.if-not-is_composite.false) (sym c.in_ok-is_within.ensures.within ∙ c.if-is_within.false) (sym c.is_one.ensures ∙ c.if-is_one.true)
 
 pub put_fragment-returns-clause-put : goal.put_fragment-returns-clause-put
 put_fragment-returns-clause-put t c =
