@@ -1,5 +1,6 @@
 pub mod Begun
 pub mod Changes
+pub mod Drafted
 pub mod Places
 pub mod Rebuilt
 pub mod Removed

@@ -1,6 +1,6 @@
 -- What a call of the layers builds.
-use Rattle.std.proofs.Common.{◌≡◌, ℕ, suc, ◌+◌, ◌-◌, ◌<◌, ◌≤◌, Bool, true, false, ◌||◌, List, [], ◌∷◌, ◌++◌, take, drop, length, length-drop, length-append, String, Global, refl, sym, ap, ◌∙◌, subst, arith}
-use Rattle.std.proofs.lemmas.List.{take_all, take_at, drop_at, take-map, drop-map, length-take-le}
+use Rattle.std.proofs.Common.{◌≡◌, ℕ, suc, ◌+◌, ◌-◌, Bool, true, false, ◌||◌, List, [], ◌∷◌, ◌++◌, take, drop, length, length-drop, String, Global, refl, sym, ap, ◌∙◌, subst, arith}
+use Rattle.std.proofs.lemmas.List.{take_all, take-map, drop-map}
 use Rattle.std.specs.declared.rc.Rc.{Rc}
 use Rattle.gql_plain.specs.Order.{has_text}
 use Rattle.store_record.specs.Keys.{Text}
@@ -11,7 +11,7 @@ use Rattle.store_update.specs.Touched.{AreTouched, is_changed}
 use Rattle.store_update.specs.declared.entry.Changed.{Changed}
 use Rattle.store_layers.proofs.Changes.{touched_is, noted_is, changed_are}
 use Rattle.store_layers.proofs.Steps.{layers_length}
-use Rattle.store_layers.proofs.Versions.{versions-take, versions-drop, versions-length, weights-append}
+use Rattle.store_layers.proofs.Versions.{versions-drop, versions-length, weights-append}
 use Rattle.store_layers.specs.Changed.{AreChanged, is_changed_by}
 use Rattle.store_layers.specs.Layered.{entries_of}
 use Rattle.store_layers.specs.Versions.{Version, AreVersions, is_noted, shown, layers_of, entries_within, entries_without}
@@ -49,12 +49,6 @@ pub others_put : (m : Records) (named : Named) (at n : ℕ) (mids news : List Ve
 others_put m named at n mids news is first then =
     subst (λ es. AreVersions m es news) (λ i. within_first named at i ++ within_rest named (at + 1) n is i) (then (entries_within 0 at named) (first [] tt))
 
-pub rest_put : (m : Records) (named : Named) (at n : ℕ) (olds mids news : List Version) → n ≡ length named → AreVersions m (entries named) olds → mids ≡ take at olds
-    → Puts m mids (entries_within (at + 1) n named) news → AreVersions m (entries_without at named) news
-rest_put m named at n olds mids news is kept same put =
-    subst (λ es. AreVersions m (take at (entries named) ++ es) news) (within_rest named (at + 1) n is)
-    (put (take at (entries named)) (subst (AreVersions m (take at (entries named))) (sym same) (versions-take at m (entries named) olds kept)))
-
 -- ---- ids
 
 turn : (a b c : Bool) → (a || b || c) ≡ (b || (a || c))
@@ -71,21 +65,15 @@ confirmed_ids m e es fs olds news touched ids old now new has = changed_are m es
     ∙ (λ i. touched_is m (apply e m) touched id now i || noted_is m es olds id old i || noted_is (apply e m) fs news id new i)
     ∙ turn (is_changed m (apply e m) id) (is_changed_by es m id) (is_changed_by fs (apply e m) id))
 
-pub reverted_ids : (m : Records) (named : Named) (at : ℕ) (olds news : List Version) (ids : List Text) → at ≤ length named
-    → AreVersions m (entries named) olds → AreVersions m (entries_without at named) news
-    → ((id : Text) → has_text ids id ≡ (is_noted (drop at olds) id || is_noted (drop at news) id))
+pub reverted_ids : (m : Records) (named : Named) (at : ℕ) (olds news : List Version) (ids : List Text)
+    → AreVersions m (entries named) olds → AreVersions (fold_entries (take at (entries named)) m) (drop (at + 1) (entries named)) news
+    → ((id : Text) → has_text ids id ≡ (is_noted (drop at olds) id || is_noted news id))
     → AreChanged (fold_entries (take at (entries named)) m) (drop at (entries named)) (drop (at + 1) (entries named)) ids
-reverted_ids m named at olds news ids within old new has =
+reverted_ids m named at olds news ids old new has =
     let es = entries named in
-    let long : length (take at es) ≡ at = length-take-le at es (omega (arith, within, layers_length named)) in
-    let below : take at (entries_without at named) ≡ take at es = take_at (take at es) (drop (at + 1) es) at long in
-    let above : drop at (entries_without at named) ≡ drop (at + 1) es = drop_at (take at es) (drop (at + 1) es) at long in
-    let rest : AreVersions (fold_entries (take at es) m) (drop (at + 1) es) (drop at news) =
-    subst (λ fs. AreVersions (fold_entries (take at es) m) fs (drop at news)) above
-    (subst (λ bs. AreVersions (fold_entries bs m) (drop at (entries_without at named)) (drop at news)) below (versions-drop at m (entries_without at named) news new)) in
     changed_are (fold_entries (take at es) m) (drop at es) (drop (at + 1) es) ids (λ id.
     has id
-    ∙ (λ i. noted_is (fold_entries (take at es) m) (drop at es) (drop at olds) id (versions-drop at m es olds old) i || noted_is (fold_entries (take at es) m) (drop (at + 1) es) (drop at news) id rest i))
+    ∙ (λ i. noted_is (fold_entries (take at es) m) (drop at es) (drop at olds) id (versions-drop at m es olds old) i || noted_is (fold_entries (take at es) m) (drop (at + 1) es) news id new i))
 
 -- ---- lengths
 
@@ -102,12 +90,6 @@ module _ {S C : Type 0} (records : S → Records) where
 
   pub kept_length : (m : Records) (named : Named) (vs : List (Changed S C)) → AreVersions m (entries named) (shown records vs) → length vs ≡ length named
   kept_length m named vs h = sym (shown-length vs) ∙ versions-length m (entries named) (shown records vs) h ∙ layers_length named
-
-  pub others_long : (m : Records) (named : Named) (at : ℕ) (vs : List (Changed S C)) → at < length named → AreVersions m (entries_without at named) (shown records vs) → at ≤ length vs
-  others_long m named at vs within h =
-      let es = entries named in
-      let short : length (take at es) ≡ at = length-take-le at es (omega (arith, within, layers_length named)) in
-      omega (arith, short, sym (shown-length vs) ∙ versions-length m (entries_without at named) (shown records vs) h, length-append (take at es) (drop (at + 1) es))
 
 -- ---- work
 

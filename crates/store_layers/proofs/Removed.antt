@@ -1,20 +1,26 @@
 -- The layers around a place, and what is left where the layer there is taken out.
-use Rattle.std.proofs.Common.{◌≡◌, ℕ, suc, ◌+◌, List, ◌++◌, map, take, drop, String, Global, sym, ap, ◌∙◌, subst, arith}
+use Rattle.std.proofs.Common.{◌≡◌, ℕ, suc, ◌+◌, List, ◌++◌, map, take, drop, String, Global, sym, ap, ◌∙◌, arith}
 use Rattle.std.proofs.lemmas.List.{map-append, take-map, drop-map}
 use Rattle.std.specs.List.{remove}
 use Rattle.std.specs.declared.rc.Rc.{Rc}
 use Rattle.store_record.specs.Keys.{Text}
-use Rattle.store_model.specs.Records.{Records}
 use Rattle.store_model.specs.declared.entry.Entry.{Entry}
+use Rattle.store_layers.specs.Drafts.{all_but}
 use Rattle.store_layers.specs.Layered.{Layer, entries_of, below, from_on, above, without}
-use Rattle.store_layers.specs.Versions.{Version, AreVersions, AreKept, layer_of, layers_of, entries_without, IsPlaceOf}
+use Rattle.store_layers.specs.Versions.{layer_of, layers_of, entries_without, IsPlaceOf}
 
 abbrev Named : Type 0
 Named = List (String Global × Rc Entry Global)
 
 -- what a map makes of a list but for one place
-removed : {X Y : Type 0} (f : X → Y) (xs : List X) (at : ℕ) → map f (take at xs ++ drop (at + 1) xs) ≡ take at (map f xs) ++ drop (at + 1) (map f xs)
+pub removed : {X Y : Type 0} (f : X → Y) (xs : List X) (at : ℕ) → map f (take at xs ++ drop (at + 1) xs) ≡ take at (map f xs) ++ drop (at + 1) (map f xs)
 removed f xs at = map-append f (take at xs) (drop (at + 1) xs) ∙ (λ i. sym (take-map f at xs) i ++ sym (drop-map f (at + 1) xs) i)
+
+-- the layers that a map has left where one is taken out of it
+pub layers_removed : (named : Named) (at : ℕ) → layers_of (remove named at) ≡ all_but at (layers_of named)
+layers_removed named at =
+    let next : suc at ≡ at + 1 = omega arith in
+    ap (λ n. layers_of (take at named ++ drop n named)) next ∙ removed layer_of named at
 
 module _ (name : Text) (named : Named) (at : ℕ) (place : IsPlaceOf name (layers_of named) at) where
   pub below_entries : entries_of (below name (layers_of named)) ≡ take at (entries_of (layers_of named))
@@ -28,15 +34,3 @@ module _ (name : Text) (named : Named) (at : ℕ) (place : IsPlaceOf name (layer
 
   pub without_entries : entries_of (without name (layers_of named)) ≡ entries_without at named
   without_entries = ap entries_of place.without ∙ removed (λ (l : Layer). l.1) (layers_of named) at
-
-  pub layers_without : layers_of (remove named at) ≡ without name (layers_of named)
-  layers_without =
-      let next : suc at ≡ at + 1 = omega arith in
-      ap (λ n. layers_of (take at named ++ drop n named)) next
-      ∙ removed layer_of named at ∙ sym place.without
-
-  -- what is kept of the others
-  pub others_kept : (base : Records) (news : List Version) → AreVersions base (entries_without at named) news → AreKept base (layers_of (remove named at)) news
-  others_kept base news new =
-      let same : entries_of (layers_of (remove named at)) ≡ entries_without at named = ap entries_of layers_without ∙ without_entries in
-      record { versions = subst (λ es. AreVersions base es news) (sym same) new }

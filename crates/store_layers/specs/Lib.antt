@@ -1,4 +1,5 @@
 pub mod Changed
+pub mod Drafts
 pub mod Layered
 pub mod LayeredCode
 pub mod Versions

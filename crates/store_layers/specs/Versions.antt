@@ -10,7 +10,7 @@ use Rattle.store_model.specs.Records.{Records}
 use Rattle.store_model.specs.declared.entry.Entry.{Entry}
 use Rattle.store_update.specs.Touched.{AreTouched}
 use Rattle.store_update.specs.declared.entry.Changed.{Changed}
-use Rattle.store_layers.specs.Layered.{Layer, entries_of, below, from_on, above, without}
+use Rattle.store_layers.specs.Layered.{Layer, Layered, entries_of, below, from_on, above, without}
 
 -- ---- what a version holds
 
@@ -50,6 +50,10 @@ layer_of named = (string_bytes named.0, named.1.value)
 
 abbrev pub layers_of : List (String Global × Rc Entry Global) → List Layer
 layers_of named = map layer_of named
+
+-- the records of a base and layers
+abbrev pub layered_of : Records → List (String Global × Rc Entry Global) → Layered
+layered_of base named = record { base = base; live = layers_of named }
 
 -- the entries of the layers from one place up to another
 abbrev pub entries_within : ℕ → ℕ → List (String Global × Rc Entry Global) → List Entry

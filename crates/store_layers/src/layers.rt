@@ -6,13 +6,15 @@ ghost use Rattle.store_model.specs.Entries.{weight, fold_entries};
 ghost use Rattle.store_model.specs.Records.{no_records};
 ghost use Rattle.store_model.specs.Sweeps.{dropped};
 ghost use Rattle.store_layers.specs.Changed.{AreChanged};
+ghost use Rattle.store_layers.specs.Drafts.{Fits, placed};
 ghost use Rattle.store_layers.specs.Layered as spec;
 ghost use Rattle.store_layers.specs.Layered.{entries_of, view_of, below, from_on, above, without, committed, begun, finished, reverted, swept};
 ghost use Rattle.store_layers.specs.Work.{counted, weights};
 
+use crate::drafts::{Draft, Placing};
 use crate::fold::{Entries, copy_versions, newest};
-use crate::names::{copy_entries, count_of, is_named, place_of, put_layer};
-use crate::rebuild::{confirm, finish, revert};
+use crate::names::{copy_entries, count_of, is_named, place_of, put_layer, take_off, take_out};
+use crate::rebuild::{begin, confirm, finish, revert};
 use crate::sweep::{ids_to_drop, without_ids};
 use gql_plain::{Ids, NoMemory, Words};
 use indexmap::IndexMap;
@@ -20,14 +22,15 @@ use std::alloc::Global;
 use std::marker::Model;
 use store_model::Entry;
 use store_source::RecordSource;
-use store_update::{Changed, apply};
+use store_update::Changed;
 
 /// What is confirmed, and over it the live layers, each by its name, in order of start. Seen as the
 /// records of the base, and the names and entries of the layers.
 ///
 /// Each layer keeps the whole version of the records after it. A call builds all that it changes
-/// aside, and puts it in place by moves, so that an error leaves all as it was. The ids that a call
-/// gives hold every id whose slot in the view differs.
+/// aside, as a draft, and puts it in place by moves, so that an error leaves all as it was. Who has more
+/// to do before that asks for the draft and settles it in the end. The ids that a call gives hold every
+/// id whose slot in the view differs.
 #[derive(Drop)]
 pub struct Layers<S: RecordSource> {
     base: S,
@@ -73,18 +76,10 @@ impl<S: RecordSource> Layers<S> {
         ensures applies { S.Count.applies steps.new ≤ S.Count.applies steps.old + (length self.old.live + 1) }
         ensures looks { S.Count.looks steps.new ≤ S.Count.looks steps.old + 8 * weights (entry ∷ entries_of self.old.live) self.old.base }
     {
-        let alloc = *self.versions.allocator();
-        let confirmed = confirm(
-            alloc,
-            &self.base,
-            &self.entries,
-            &self.versions,
-            &entry,
-            steps,
-        )?;
-        self.base = confirmed.base;
-        self.versions = confirmed.rest.versions;
-        Ok(confirmed.rest.ids)
+        let draft = self.draft_commit(&entry, steps)?;
+        let ids = draft.touched.copy()?;
+        self.settle(draft)?;
+        Ok(ids)
     }
 
     /// Starts a layer above all others, under a name that is not live.
@@ -101,9 +96,9 @@ impl<S: RecordSource> Layers<S> {
         ensures applies { S.Count.applies steps.new ≡ next_count (S.Count.applies steps.old) }
         ensures looks { S.Count.looks steps.new ≤ S.Count.looks steps.old + 8 * weight entry (view_of self.old) }
     {
-        let version = apply(newest(&self.base, &self.versions), &entry, steps)?;
-        let ids = version.touched.copy()?;
-        put_layer(&mut self.entries, &mut self.versions, name, entry, version)?;
+        let draft = self.draft_begin(name, entry, steps)?;
+        let ids = draft.touched.copy()?;
+        self.settle(draft)?;
         Ok(ids)
     }
 
@@ -121,21 +116,10 @@ impl<S: RecordSource> Layers<S> {
         ensures applies { S.Count.applies steps.new ≤ S.Count.applies steps.old + length self.old.live }
         ensures looks { S.Count.looks steps.new ≤ S.Count.looks steps.old + 8 * weights (entry ∷ entries_of (without name.now self.old.live)) self.old.base }
     {
-        let alloc = *self.versions.allocator();
-        let at = place_of(&self.entries, name.as_str());
-        let confirmed = finish(
-            alloc,
-            &self.base,
-            &self.entries,
-            at,
-            &self.versions,
-            &entry,
-            steps,
-        )?;
-        self.base = confirmed.base;
-        drop(self.entries.shift_remove_index(at));
-        self.versions = confirmed.rest.versions;
-        Ok(confirmed.rest.ids)
+        let draft = self.draft_finish(name, &entry, steps)?;
+        let ids = draft.touched.copy()?;
+        self.settle(draft)?;
+        Ok(ids)
     }
 
     /// Drops a live layer, and applies each layer above it again, from the version below it on.
@@ -148,12 +132,10 @@ impl<S: RecordSource> Layers<S> {
         ensures applies { S.Count.applies steps.new ≤ S.Count.applies steps.old + length (above name.now self.old.live) }
         ensures looks { S.Count.looks steps.new ≤ S.Count.looks steps.old + 8 * weights (entries_of (above name.now self.old.live)) (fold_entries (entries_of (below name.now self.old.live)) self.old.base) }
     {
-        let alloc = *self.versions.allocator();
-        let at = place_of(&self.entries, name.as_str());
-        let rebuilt = revert(alloc, &self.base, &self.entries, at, &self.versions, steps)?;
-        drop(self.entries.shift_remove_index(at));
-        self.versions = rebuilt.versions;
-        Ok(rebuilt.ids)
+        let draft = self.draft_revert(name, steps)?;
+        let ids = draft.touched.copy()?;
+        self.settle(draft)?;
+        Ok(ids)
     }
 
     /// Takes each id that is not in `keep` out of the base, and gives those that were taken out, in
@@ -166,14 +148,163 @@ impl<S: RecordSource> Layers<S> {
         ensures applies { S.Count.applies steps.new ≡ S.Count.applies steps.old }
         ensures looks { S.Count.looks steps.new ≡ S.Count.looks steps.old }
     {
+        let draft = self.draft_sweep(keep, steps)?;
+        let ids = draft.touched.copy()?;
+        self.settle(draft)?;
+        Ok(ids)
+    }
+
+    /// What `commit` would change.
+    pub fn draft_commit(&self, entry: &Entry, steps: &mut S::Count) -> Result<Draft<S>, NoMemory>
+        ensures fits { IfOk result (λ d. Fits S.records self.now d) }
+        ensures placed { IfOk result (λ d. placed S.records self.now d ≡ committed entry.now self.now) }
+        ensures changed { IfOk result (λ d. AreChanged self.now.base (entries_of self.now.live) (entry.now ∷ entries_of self.now.live) d.touched) }
+        ensures applies { S.Count.applies steps.new ≤ S.Count.applies steps.old + (length self.now.live + 1) }
+        ensures looks { S.Count.looks steps.new ≤ S.Count.looks steps.old + 8 * weights (entry.now ∷ entries_of self.now.live) self.now.base }
+    {
         let alloc = *self.versions.allocator();
-        let gone = ids_to_drop(alloc, &self.base, keep)?;
-        if gone.is_empty() {
-            return Ok(gone);
+        let draft = confirm(
+            alloc,
+            &self.base,
+            &self.entries,
+            &self.versions,
+            entry,
+            steps,
+        )?;
+        Ok(draft)
+    }
+
+    /// What `begin` would change.
+    pub fn draft_begin(
+        &self,
+        name: Words,
+        entry: Entry,
+        steps: &mut S::Count,
+    ) -> Result<Draft<S>, NoMemory>
+        requires name { spec.is_live self.now.live name ≡ false }
+        ensures fits { IfOk result (λ d. Fits S.records self.now d) }
+        ensures placed { IfOk result (λ d. placed S.records self.now d ≡ begun name entry self.now) }
+        ensures changed { IfOk result (λ d. AreChanged (view_of self.now) [] (entry ∷ []) d.touched) }
+        ensures applies { S.Count.applies steps.new ≡ next_count (S.Count.applies steps.old) }
+        ensures looks { S.Count.looks steps.new ≤ S.Count.looks steps.old + 8 * weight entry (view_of self.now) }
+    {
+        let draft = begin(
+            &self.base,
+            &self.entries,
+            &self.versions,
+            name,
+            entry,
+            steps,
+        )?;
+        Ok(draft)
+    }
+
+    /// What `finish` would change.
+    pub fn draft_finish(
+        &self,
+        name: &Words,
+        entry: &Entry,
+        steps: &mut S::Count,
+    ) -> Result<Draft<S>, NoMemory>
+        requires name { spec.is_live self.now.live name.now ≡ true }
+        ensures fits { IfOk result (λ d. Fits S.records self.now d) }
+        ensures placed { IfOk result (λ d. placed S.records self.now d ≡ finished name.now entry.now self.now) }
+        ensures changed { IfOk result (λ d. AreChanged self.now.base (entries_of self.now.live) (entry.now ∷ entries_of (without name.now self.now.live)) d.touched) }
+        ensures applies { S.Count.applies steps.new ≤ S.Count.applies steps.old + length self.now.live }
+        ensures looks { S.Count.looks steps.new ≤ S.Count.looks steps.old + 8 * weights (entry.now ∷ entries_of (without name.now self.now.live)) self.now.base }
+    {
+        let alloc = *self.versions.allocator();
+        let at = place_of(&self.entries, name.as_str());
+        let draft = finish(
+            alloc,
+            &self.base,
+            &self.entries,
+            at,
+            &self.versions,
+            entry,
+            steps,
+        )?;
+        Ok(draft)
+    }
+
+    /// What `revert` would change.
+    pub fn draft_revert(&self, name: &Words, steps: &mut S::Count) -> Result<Draft<S>, NoMemory>
+        requires { spec.is_live self.now.live name.now ≡ true }
+        ensures fits { IfOk result (λ d. Fits S.records self.now d) }
+        ensures placed { IfOk result (λ d. placed S.records self.now d ≡ reverted name.now self.now) }
+        ensures changed { IfOk result (λ d. AreChanged (fold_entries (entries_of (below name.now self.now.live)) self.now.base) (entries_of (from_on name.now self.now.live)) (entries_of (above name.now self.now.live)) d.touched) }
+        ensures exact { OnOk result (S.Count.applies steps.new ≡ counted (length (above name.now self.now.live)) (S.Count.applies steps.old)) }
+        ensures applies { S.Count.applies steps.new ≤ S.Count.applies steps.old + length (above name.now self.now.live) }
+        ensures looks { S.Count.looks steps.new ≤ S.Count.looks steps.old + 8 * weights (entries_of (above name.now self.now.live)) (fold_entries (entries_of (below name.now self.now.live)) self.now.base) }
+    {
+        let alloc = *self.versions.allocator();
+        let at = place_of(&self.entries, name.as_str());
+        let draft = revert(alloc, &self.base, &self.entries, at, &self.versions, steps)?;
+        Ok(draft)
+    }
+
+    /// What `sweep_base` would change.
+    pub fn draft_sweep(&self, keep: &Ids, steps: &mut S::Count) -> Result<Draft<S>, NoMemory>
+        requires alone { self.now.live ≡ [] }
+        ensures fits { IfOk result (λ d. Fits S.records self.now d) }
+        ensures placed { IfOk result (λ d. placed S.records self.now d ≡ swept keep.now self.now) }
+        ensures dropped { IfOk result (λ d. d.touched ≡ dropped (has_text keep.now) self.now.base) }
+        ensures applies { S.Count.applies steps.new ≡ S.Count.applies steps.old }
+        ensures looks { S.Count.looks steps.new ≡ S.Count.looks steps.old }
+    {
+        let alloc = *self.versions.allocator();
+        let touched = ids_to_drop(alloc, &self.base, keep)?;
+        let base = without_ids(&self.base, &touched, steps)?;
+        let view = base.version()?;
+        Ok(Draft {
+            view,
+            touched,
+            placing: Placing::Confirmed {
+                base,
+                gone: None,
+                versions: Vec::new(alloc),
+            },
+        })
+    }
+
+    /// Puts in place what was drafted from these very layers. It takes memory only for a layer that
+    /// starts.
+    pub fn settle(&mut self, draft: Draft<S>) -> Result<(), NoMemory>
+        requires { Fits S.records self.old draft }
+        ensures ok { OnOk result (self.new ≡ placed S.records self.old draft) }
+        ensures err { OnErr result (self.new ≡ self.old) }
+    {
+        let Draft {
+            view,
+            touched,
+            placing,
+        } = draft;
+        drop(view);
+        drop(touched);
+        match placing {
+            Placing::Begun {
+                name,
+                entry,
+                version,
+            } => {
+                put_layer(&mut self.entries, &mut self.versions, name, entry, version)?;
+                Ok(())
+            }
+            Placing::Reverted { at, versions } => {
+                take_off(&mut self.entries, &mut self.versions, at, versions);
+                Ok(())
+            }
+            Placing::Confirmed {
+                base,
+                gone,
+                versions,
+            } => {
+                take_out(&mut self.entries, gone);
+                self.base = base;
+                self.versions = versions;
+                Ok(())
+            }
         }
-        let left = without_ids(&self.base, &gone, steps)?;
-        self.base = left;
-        Ok(gone)
     }
 
     /// The base with each live layer applied to it, in order of start; takes no memory.

@@ -1,5 +1,6 @@
 //! The layers by their names.
-ghost use Rattle.std.specs.Prelude.{◌≡◌, ◌++◌, [], ◌∷◌, true, false, length, IfOk, OnOk, OnErr};
+ghost use Rattle.std.specs.Prelude.{◌≡◌, ◌+◌, ◌≤◌, ◌++◌, [], ◌∷◌, true, false, length, take, IfOk, OnOk, OnErr};
+ghost use Rattle.store_layers.specs.Drafts.{all_but, left_of};
 ghost use Rattle.store_layers.specs.Layered.{is_live};
 ghost use Rattle.store_layers.specs.Versions.{layers_of, IsPlaceOf};
 
@@ -51,6 +52,33 @@ pub(crate) fn put_layer<S: RecordSource>(
     versions.push(version)?;
     drop(entries.insert(name.into_string(), entry).unwrap());
     Ok(())
+}
+
+/// Takes the layer at a place off, and puts versions in the place of its own and of those above it;
+/// takes no memory.
+pub(crate) fn take_off<S: RecordSource>(
+    entries: &mut Entries,
+    versions: &mut Vec<Changed<S>>,
+    at: usize,
+    above: Vec<Changed<S>>,
+)
+    requires room { at + length above.items ≤ length versions.old.items }
+    ensures layers { layers_of entries.new.entries ≡ all_but at (layers_of entries.old.entries) }
+    ensures versions { versions.new.items ≡ take at versions.old.items ++ above.items }
+{
+    let mut above = above;
+    drop(entries.shift_remove_index(at));
+    versions.truncate(at);
+    versions.append(&mut above).unwrap();
+}
+
+/// Takes the layer at a place out, if there is one that goes; takes no memory.
+pub(crate) fn take_out(entries: &mut Entries, gone: Option<usize>)
+    ensures { layers_of entries.new.entries ≡ left_of gone (layers_of entries.old.entries) }
+{
+    if let Some(at) = gone {
+        drop(entries.shift_remove_index(at));
+    }
 }
 
 /// Equal layers, which share their entries.

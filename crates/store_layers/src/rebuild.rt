@@ -1,32 +1,52 @@
-//! What a call of the layers makes, built aside.
-ghost use Rattle.std.specs.Prelude.{◌≡◌, ◌+◌, ◌*◌, ◌-◌, ◌<◌, ◌≤◌, ◌++◌, [], ◌∷◌, take, drop, length, IfOk, OnOk};
+//! What a call of the layers changes, built aside.
+ghost use Rattle.std.specs.Prelude.{◌≡◌, ◌+◌, ◌*◌, ◌-◌, ◌<◌, ◌≤◌, ◌++◌, [], ◌∷◌, false, take, drop, length, IfOk, OnOk};
+ghost use Rattle.gql_plain.specs.Counted.{next_count};
 ghost use Rattle.indexmap.specs.IndexMap.{index_map_len};
-ghost use Rattle.store_model.specs.Entries.{apply, fold_entries};
+ghost use Rattle.store_model.specs.Entries.{weight, fold_entries};
 ghost use Rattle.store_layers.specs.Changed.{AreChanged};
-ghost use Rattle.store_layers.specs.Layered.{entries_of};
-ghost use Rattle.store_layers.specs.Versions.{shown, AreVersions, AreKept, layers_of, entries_without};
+ghost use Rattle.store_layers.specs.Drafts.{Fits, placed, finished_at, reverted_at};
+ghost use Rattle.store_layers.specs.Layered.{begun, committed, entries_of, is_live, view_of};
+ghost use Rattle.store_layers.specs.Versions.{shown, AreKept, layers_of, layered_of, entries_without};
 ghost use Rattle.store_layers.specs.Work.{counted, weights};
 
-use crate::fold::{Entries, copy_versions, put_versions};
+use crate::drafts::{Draft, Placing};
+use crate::fold::{Entries, newest, put_versions};
 use crate::ids::ids_changed;
-use gql_plain::{Ids, NoMemory};
+use gql_plain::{NoMemory, Words};
 use std::alloc::Global;
 use store_model::Entry;
 use store_source::RecordSource;
 use store_update::{Changed, apply};
 
-/// A base, the versions of the layers over it, and the ids that may differ in the view.
-#[derive(Drop)]
-pub(crate) struct Confirmed<S: RecordSource> {
-    pub base: S,
-    pub rest: Rebuilt<S>,
-}
-
-/// The versions of layers, and the ids that may differ in the view.
-#[derive(Drop)]
-pub(crate) struct Rebuilt<S: RecordSource> {
-    pub versions: Vec<Changed<S>>,
-    pub ids: Ids,
+/// Starts a layer above all others.
+pub(crate) fn begin<S: RecordSource>(
+    base: &S,
+    entries: &Entries,
+    versions: &[Changed<S>],
+    name: Words,
+    entry: Entry,
+    steps: &mut S::Count,
+) -> Result<Draft<S>, NoMemory>
+    requires kept { AreKept (S.records base.now) (layers_of entries.now.entries) (shown S.records versions.now) }
+    requires free { is_live (layers_of entries.now.entries) name ≡ false }
+    ensures fits { IfOk result (λ d. Fits S.records (layered_of (S.records base.now) entries.now.entries) d) }
+    ensures placed { IfOk result (λ d. placed S.records (layered_of (S.records base.now) entries.now.entries) d ≡ begun name entry (layered_of (S.records base.now) entries.now.entries)) }
+    ensures ids { IfOk result (λ d. AreChanged (view_of (layered_of (S.records base.now) entries.now.entries)) [] (entry ∷ []) d.touched) }
+    ensures applies { S.Count.applies steps.new ≡ next_count (S.Count.applies steps.old) }
+    ensures looks { S.Count.looks steps.new ≤ S.Count.looks steps.old + 8 * weight entry (view_of (layered_of (S.records base.now) entries.now.entries)) }
+{
+    let version = apply(newest(base, versions), &entry, steps)?;
+    let touched = version.touched.copy()?;
+    let view = version.source.version()?;
+    Ok(Draft {
+        view,
+        touched,
+        placing: Placing::Begun {
+            name,
+            entry,
+            version,
+        },
+    })
 }
 
 /// Confirms an entry below all layers, which are applied again.
@@ -37,11 +57,11 @@ pub(crate) fn confirm<S: RecordSource>(
     versions: &[Changed<S>],
     entry: &Entry,
     steps: &mut S::Count,
-) -> Result<Confirmed<S>, NoMemory>
+) -> Result<Draft<S>, NoMemory>
     requires kept { AreKept (S.records base.now) (layers_of entries.now.entries) (shown S.records versions.now) }
-    ensures base { IfOk result (λ c. S.records c.base ≡ apply entry.now (S.records base.now)) }
-    ensures versions { IfOk result (λ c. AreVersions (apply entry.now (S.records base.now)) (entries_of (layers_of entries.now.entries)) (shown S.records c.rest.versions.items)) }
-    ensures ids { IfOk result (λ c. AreChanged (S.records base.now) (entries_of (layers_of entries.now.entries)) (entry.now ∷ entries_of (layers_of entries.now.entries)) c.rest.ids) }
+    ensures fits { IfOk result (λ d. Fits S.records (layered_of (S.records base.now) entries.now.entries) d) }
+    ensures placed { IfOk result (λ d. placed S.records (layered_of (S.records base.now) entries.now.entries) d ≡ committed entry.now (layered_of (S.records base.now) entries.now.entries)) }
+    ensures ids { IfOk result (λ d. AreChanged (S.records base.now) (entries_of (layers_of entries.now.entries)) (entry.now ∷ entries_of (layers_of entries.now.entries)) d.touched) }
     ensures applies { S.Count.applies steps.new ≤ S.Count.applies steps.old + (length entries.now.entries + 1) }
     ensures looks { S.Count.looks steps.new ≤ S.Count.looks steps.old + 8 * weights (entry.now ∷ entries_of (layers_of entries.now.entries)) (S.records base.now) }
 {
@@ -49,17 +69,20 @@ pub(crate) fn confirm<S: RecordSource>(
     let mut after = Vec::new(alloc);
     let count = entries.len();
     put_versions(&changed.source, &mut after, entries, 0, count, steps)?;
-    let ids = ids_changed(alloc, changed.touched.as_slice(), versions, &after)?;
-    Ok(Confirmed {
-        base: changed.source,
-        rest: Rebuilt {
+    let touched = ids_changed(alloc, changed.touched.as_slice(), versions, &after)?;
+    let view = newest(&changed.source, &after).version()?;
+    Ok(Draft {
+        view,
+        touched,
+        placing: Placing::Confirmed {
+            base: changed.source,
+            gone: None,
             versions: after,
-            ids,
         },
     })
 }
 
-/// Drops a layer, and confirms an entry below the others, which are applied again.
+/// Drops the layer at a place, and confirms an entry below the others, which are applied again.
 pub(crate) fn finish<S: RecordSource>(
     alloc: Global,
     base: &S,
@@ -68,12 +91,12 @@ pub(crate) fn finish<S: RecordSource>(
     versions: &[Changed<S>],
     entry: &Entry,
     steps: &mut S::Count,
-) -> Result<Confirmed<S>, NoMemory>
+) -> Result<Draft<S>, NoMemory>
     requires kept { AreKept (S.records base.now) (layers_of entries.now.entries) (shown S.records versions.now) }
     requires place { at < length entries.now.entries }
-    ensures base { IfOk result (λ c. S.records c.base ≡ apply entry.now (S.records base.now)) }
-    ensures versions { IfOk result (λ c. AreVersions (apply entry.now (S.records base.now)) (entries_without at entries.now.entries) (shown S.records c.rest.versions.items)) }
-    ensures ids { IfOk result (λ c. AreChanged (S.records base.now) (entries_of (layers_of entries.now.entries)) (entry.now ∷ entries_without at entries.now.entries) c.rest.ids) }
+    ensures fits { IfOk result (λ d. Fits S.records (layered_of (S.records base.now) entries.now.entries) d) }
+    ensures placed { IfOk result (λ d. placed S.records (layered_of (S.records base.now) entries.now.entries) d ≡ finished_at at entry.now (layered_of (S.records base.now) entries.now.entries)) }
+    ensures ids { IfOk result (λ d. AreChanged (S.records base.now) (entries_of (layers_of entries.now.entries)) (entry.now ∷ entries_without at entries.now.entries) d.touched) }
     ensures applies { S.Count.applies steps.new ≤ S.Count.applies steps.old + length entries.now.entries }
     ensures looks { S.Count.looks steps.new ≤ S.Count.looks steps.old + 8 * weights (entry.now ∷ entries_without at entries.now.entries) (S.records base.now) }
 {
@@ -82,17 +105,21 @@ pub(crate) fn finish<S: RecordSource>(
     let count = entries.len();
     put_versions(&changed.source, &mut after, entries, 0, at, steps)?;
     put_versions(&changed.source, &mut after, entries, at + 1, count, steps)?;
-    let ids = ids_changed(alloc, changed.touched.as_slice(), versions, &after)?;
-    Ok(Confirmed {
-        base: changed.source,
-        rest: Rebuilt {
+    let touched = ids_changed(alloc, changed.touched.as_slice(), versions, &after)?;
+    let view = newest(&changed.source, &after).version()?;
+    Ok(Draft {
+        view,
+        touched,
+        placing: Placing::Confirmed {
+            base: changed.source,
+            gone: Some(at),
             versions: after,
-            ids,
         },
     })
 }
 
-/// Drops a layer: those below it stay, and those above it are applied again.
+/// Drops the layer at a place: those below it stay, and those above it are applied again, from the
+/// version below it on.
 pub(crate) fn revert<S: RecordSource>(
     alloc: Global,
     base: &S,
@@ -100,23 +127,29 @@ pub(crate) fn revert<S: RecordSource>(
     at: usize,
     versions: &[Changed<S>],
     steps: &mut S::Count,
-) -> Result<Rebuilt<S>, NoMemory>
+) -> Result<Draft<S>, NoMemory>
     requires kept { AreKept (S.records base.now) (layers_of entries.now.entries) (shown S.records versions.now) }
     requires place { at < length entries.now.entries }
-    ensures versions { IfOk result (λ r. AreVersions (S.records base.now) (entries_without at entries.now.entries) (shown S.records r.versions.items)) }
-    ensures ids { IfOk result (λ r. AreChanged (fold_entries (take at (entries_of (layers_of entries.now.entries))) (S.records base.now)) (drop at (entries_of (layers_of entries.now.entries))) (drop (at + 1) (entries_of (layers_of entries.now.entries))) r.ids) }
+    ensures fits { IfOk result (λ d. Fits S.records (layered_of (S.records base.now) entries.now.entries) d) }
+    ensures placed { IfOk result (λ d. placed S.records (layered_of (S.records base.now) entries.now.entries) d ≡ reverted_at at (layered_of (S.records base.now) entries.now.entries)) }
+    ensures ids { IfOk result (λ d. AreChanged (fold_entries (take at (entries_of (layers_of entries.now.entries))) (S.records base.now)) (drop at (entries_of (layers_of entries.now.entries))) (drop (at + 1) (entries_of (layers_of entries.now.entries))) d.touched) }
     ensures exact { OnOk result (S.Count.applies steps.new ≡ counted (length entries.now.entries - (at + 1)) (S.Count.applies steps.old)) }
     ensures applies { S.Count.applies steps.new ≤ S.Count.applies steps.old + (length entries.now.entries - (at + 1)) }
     ensures looks { S.Count.looks steps.new ≤ S.Count.looks steps.old + 8 * weights (drop (at + 1) (entries_of (layers_of entries.now.entries))) (fold_entries (take at (entries_of (layers_of entries.now.entries))) (S.records base.now)) }
 {
     let count = entries.len();
     let parts = versions.split_at(at);
-    let mut after = copy_versions(alloc, parts.0)?;
-    put_versions(base, &mut after, entries, at + 1, count, steps)?;
-    let news = after.split_at(at);
-    let ids = ids_changed(alloc, &[], parts.1, news.1)?;
-    Ok(Rebuilt {
-        versions: after,
-        ids,
+    let below = newest(base, parts.0);
+    let mut after = Vec::new(alloc);
+    put_versions(below, &mut after, entries, at + 1, count, steps)?;
+    let touched = ids_changed(alloc, &[], parts.1, &after)?;
+    let view = newest(below, &after).version()?;
+    Ok(Draft {
+        view,
+        touched,
+        placing: Placing::Reverted {
+            at,
+            versions: after,
+        },
     })
 }

@@ -1,11 +1,14 @@
-use Rattle.std.proofs.Common.{◌≡◌, ◌+◌, [], ◌||◌, sym, ◌∙◌, subst, arith}
+use Rattle.std.proofs.Common.{◌≡◌, ◌+◌, [], ◌||◌, sym, ap, ◌∙◌, subst, arith}
 use Rattle.gql_plain.specs.Order.{has_text}
 use Rattle.store_model.specs.Entries.{apply}
 use Rattle.store_update.specs.Touched.{AreTouched}
 use Rattle.store_layers.proofs.Rebuilt.{Puts, others_put, confirmed_ids, finish_weighs}
 use Rattle.store_layers.proofs.rebuild.finish.Goals as goal
 use Rattle.store_layers.specs.Layered.{entries_of}
-use Rattle.store_layers.specs.Versions.{shown, AreVersions, is_noted, layers_of, entries_within, entries_without}
+use Rattle.store_layers.proofs.Drafted.{seen_without, within_layers}
+use Rattle.store_layers.proofs.Versions.{newest_is}
+use Rattle.store_layers.specs.Drafts.{all_but}
+use Rattle.store_layers.specs.Versions.{shown, newest, AreVersions, is_noted, layers_of, entries_within, entries_without}
 
 pub returns-in_err-put_versions-clause-looks : goal.returns-in_err-put_versions-clause-looks
 returns-in_err-put_versions-clause-looks g c =
@@ -39,8 +42,25 @@ returns-in_err-put_versions-2-clause-looks g c =
     let later = c.put_versions-2.ensures.looks (entries_within 0 at named) mids in
     omega (arith, c.apply.ensures.looks, first, later, weighs)
 
-pub returns-in_err-ids-clause-looks : goal.returns-in_err-ids-clause-looks
-returns-in_err-ids-clause-looks g c =
+pub returns-in_err-touched-clause-looks : goal.returns-in_err-touched-clause-looks
+returns-in_err-touched-clause-looks g c =
+    let r = g.S.RecordSource.records in
+    let m = r c.args.base.now in
+    let e = c.args.entry.now in
+    let named = c.args.entries.now.entries in
+    let m1 = r c.in_ok-changed.changed.source in
+    let made : m1 ≡ apply e m = c.in_ok-changed.ensures.records in
+    let n = c.len-count.result in
+    let h0 : AreVersions m1 [] (shown r c.new-after.result.items) = subst (λ xs. AreVersions m1 [] (shown r xs)) (sym c.new-after.ensures.items) tt in
+    let at = c.args.at in
+    let weighs = finish_weighs m m1 e named at n made c.len-count.ensures.len in
+    let first = c.put_versions.ensures.looks [] h0 in
+    let mids = c.in_ok-put_versions.ensures.versions [] h0 in
+    let later = c.put_versions-2.ensures.looks (entries_within 0 at named) mids in
+    omega (arith, c.apply.ensures.looks, first, later, weighs)
+
+pub returns-in_err-view-clause-looks : goal.returns-in_err-view-clause-looks
+returns-in_err-view-clause-looks g c =
     let r = g.S.RecordSource.records in
     let m = r c.args.base.now in
     let e = c.args.entry.now in
@@ -73,25 +93,6 @@ returns-clause-looks g c =
     let later = c.put_versions-2.ensures.looks (entries_within 0 at named) mids in
     omega (arith, c.apply.ensures.looks, first, later, weighs)
 
-pub returns-clause-versions : goal.returns-clause-versions
-returns-clause-versions g c =
-    let r = g.S.RecordSource.records in
-    let m = r c.args.base.now in
-    let e = c.args.entry.now in
-    let named = c.args.entries.now.entries in
-    let m1 = r c.in_ok-changed.changed.source in
-    let made : m1 ≡ apply e m = c.in_ok-changed.ensures.records in
-    let n = c.len-count.result in
-    let h0 : AreVersions m1 [] (shown r c.new-after.result.items) = subst (λ xs. AreVersions m1 [] (shown r xs)) (sym c.new-after.ensures.items) tt in
-    let at = c.args.at in
-    let mids = shown r c.put_versions.new.versions.items in
-    let news = shown r c.put_versions-2.new.versions.items in
-    let put1 : Puts m1 [] (entries_within 0 at named) mids =
-    λ before h. c.in_ok-put_versions.ensures.versions before (subst (λ xs. AreVersions m1 before (shown r xs)) (sym c.new-after.ensures.items) h) in
-    let put2 : Puts m1 mids (entries_within (at + 1) n named) news = λ before h. c.in_ok-put_versions-2.ensures.versions before h in
-    let new : AreVersions (apply e m) (entries_without at named) news = subst (λ x. AreVersions x (entries_without at named) news) made (others_put m1 named at n mids news c.len-count.ensures.len put1 put2) in
-    new
-
 pub returns-clause-ids : goal.returns-clause-ids
 returns-clause-ids g c =
     let r = g.S.RecordSource.records in
@@ -111,5 +112,27 @@ returns-clause-ids g c =
     let new : AreVersions (apply e m) (entries_without at named) news = subst (λ x. AreVersions x (entries_without at named) news) made (others_put m1 named at n mids news c.len-count.ensures.len put1 put2) in
     let olds = shown r c.args.versions.now in
     let touched : AreTouched m (apply e m) c.in_ok-changed.changed.touched = subst (λ x. AreTouched m x c.in_ok-changed.changed.touched) made c.in_ok-changed.ensures.touched in
-    confirmed_ids m e (entries_of (layers_of named)) (entries_without at named) olds news c.in_ok-changed.changed.touched c.in_ok-ids.ids c.requires.kept.versions touched new
-    (λ id. c.in_ok-ids.ensures id ∙ (λ i. has_text (c.as_slice.ensures i) id || is_noted olds id || is_noted (shown r (c.deref.ensures.value i)) id))
+    confirmed_ids m e (entries_of (layers_of named)) (entries_without at named) olds news c.in_ok-changed.changed.touched c.in_ok-touched.touched c.requires.kept.versions touched new
+    (λ id. c.in_ok-touched.ensures id ∙ (λ i. has_text (c.as_slice.ensures i) id || is_noted olds id || is_noted (shown r (c.deref.ensures.value i)) id))
+
+pub returns-clause-fits : goal.returns-clause-fits
+returns-clause-fits g c =
+    let r = g.S.RecordSource.records in
+    let named = c.args.entries.now.entries in
+    let m1 = r c.in_ok-changed.changed.source in
+    let n = c.len-count.result in
+    let at = c.args.at in
+    let mids = shown r c.put_versions.new.versions.items in
+    let news = shown r c.put_versions-2.new.versions.items in
+    let put1 : Puts m1 [] (entries_within 0 at named) mids =
+    λ before h. c.in_ok-put_versions.ensures.versions before (subst (λ xs. AreVersions m1 before (shown r xs)) (sym c.new-after.ensures.items) h) in
+    let put2 : Puts m1 mids (entries_within (at + 1) n named) news = λ before h. c.in_ok-put_versions-2.ensures.versions before h in
+    let new : AreVersions m1 (entries_without at named) news = others_put m1 named at n mids news c.len-count.ensures.len put1 put2 in
+    record {
+      suits = (within_layers named at c.requires.place, new);
+      view = c.in_ok-view.ensures ∙ c.newest.ensures ∙ ap (λ xs. newest m1 (shown r xs)) c.deref-2.ensures.value ∙ newest_is m1 (entries_without at named) news new
+          ∙ sym (seen_without m1 named at);
+    }
+
+pub returns-clause-placed : goal.returns-clause-placed
+returns-clause-placed g c = λ i. record { base = c.in_ok-changed.ensures.records i; live = all_but c.args.at (layers_of c.args.entries.now.entries) }

@@ -1,9 +1,12 @@
-use Rattle.std.proofs.Common.{◌≡◌, ◌+◌, ◌≤◌, ◌||◌, take, drop, length, sym, ap, ◌∙◌, subst, arith}
-use Rattle.store_layers.proofs.Rebuilt.{Puts, rest_put, reverted_ids, revert_weighs, shown-take, shown-drop, kept_length, others_long}
-use Rattle.store_layers.proofs.Versions.{versions-take}
+use Rattle.std.proofs.Common.{◌≡◌, ◌+◌, [], ◌||◌, take, drop, sym, ap, ◌∙◌, subst, arith}
+use Rattle.store_model.specs.Entries.{fold_entries}
+use Rattle.store_layers.proofs.Drafted.{below_is, seen_above, within_layers}
+use Rattle.store_layers.proofs.Rebuilt.{reverted_ids, revert_weighs, shown-drop, kept_length, within_rest}
+use Rattle.store_layers.proofs.Versions.{newest_is}
 use Rattle.store_layers.proofs.rebuild.revert.Goals as goal
 use Rattle.store_layers.specs.Layered.{entries_of}
-use Rattle.store_layers.specs.Versions.{shown, AreVersions, is_noted, layers_of, entries_within, entries_without}
+use Rattle.store_layers.specs.Versions.{shown, newest, AreVersions, is_noted, layers_of, entries_within}
+use Rattle.store_layers.specs.Work.{weights}
 
 pub split_at-parts-requires : goal.split_at-parts-requires
 split_at-parts-requires g c =
@@ -23,27 +26,45 @@ returns-in_err-put_versions-clause-looks g c =
     let at = c.args.at in
     let n = c.len-count.result in
     let es = entries_of (layers_of named) in
-    let mids : shown r c.in_ok-after.after.items ≡ take at (shown r c.args.versions.now) =
-    c.in_ok-after.ensures ∙ ap (shown r) c.split_at-parts.ensures.front ∙ shown-take r at c.args.versions.now in
-    let below : AreVersions m (take at es) (shown r c.in_ok-after.after.items) =
-    subst (AreVersions m (take at es)) (sym mids) (versions-take at m es (shown r c.args.versions.now) c.requires.kept.versions) in
-    let later = c.put_versions.ensures.looks (take at es) below in
-    omega (arith, later, revert_weighs m named at n c.len-count.ensures.len)
+    let below : r c.newest-below.result.now ≡ fold_entries (take at es) m =
+    c.newest-below.ensures ∙ ap (λ xs. newest m (shown r xs)) c.split_at-parts.ensures.front ∙ below_is r m named at c.args.versions.now c.requires.kept.versions in
+    let h0 : AreVersions (r c.newest-below.result.now) [] (shown r c.new-after.result.items) =
+    subst (λ xs. AreVersions (r c.newest-below.result.now) [] (shown r xs)) (sym c.new-after.ensures.items) tt in
+    let later = c.put_versions.ensures.looks [] h0 in
+    let weighs = ap (weights (entries_within (at + 1) n named)) below ∙ revert_weighs m named at n c.len-count.ensures.len in
+    omega (arith, later, weighs)
 
-pub returns-in_err-ids-clause-looks : goal.returns-in_err-ids-clause-looks
-returns-in_err-ids-clause-looks g c =
+pub returns-in_err-touched-clause-looks : goal.returns-in_err-touched-clause-looks
+returns-in_err-touched-clause-looks g c =
     let r = g.S.RecordSource.records in
     let m = r c.args.base.now in
     let named = c.args.entries.now.entries in
     let at = c.args.at in
     let n = c.len-count.result in
     let es = entries_of (layers_of named) in
-    let mids : shown r c.in_ok-after.after.items ≡ take at (shown r c.args.versions.now) =
-    c.in_ok-after.ensures ∙ ap (shown r) c.split_at-parts.ensures.front ∙ shown-take r at c.args.versions.now in
-    let below : AreVersions m (take at es) (shown r c.in_ok-after.after.items) =
-    subst (AreVersions m (take at es)) (sym mids) (versions-take at m es (shown r c.args.versions.now) c.requires.kept.versions) in
-    let later = c.put_versions.ensures.looks (take at es) below in
-    omega (arith, later, revert_weighs m named at n c.len-count.ensures.len)
+    let below : r c.newest-below.result.now ≡ fold_entries (take at es) m =
+    c.newest-below.ensures ∙ ap (λ xs. newest m (shown r xs)) c.split_at-parts.ensures.front ∙ below_is r m named at c.args.versions.now c.requires.kept.versions in
+    let h0 : AreVersions (r c.newest-below.result.now) [] (shown r c.new-after.result.items) =
+    subst (λ xs. AreVersions (r c.newest-below.result.now) [] (shown r xs)) (sym c.new-after.ensures.items) tt in
+    let later = c.put_versions.ensures.looks [] h0 in
+    let weighs = ap (weights (entries_within (at + 1) n named)) below ∙ revert_weighs m named at n c.len-count.ensures.len in
+    omega (arith, later, weighs)
+
+pub returns-in_err-view-clause-looks : goal.returns-in_err-view-clause-looks
+returns-in_err-view-clause-looks g c =
+    let r = g.S.RecordSource.records in
+    let m = r c.args.base.now in
+    let named = c.args.entries.now.entries in
+    let at = c.args.at in
+    let n = c.len-count.result in
+    let es = entries_of (layers_of named) in
+    let below : r c.newest-below.result.now ≡ fold_entries (take at es) m =
+    c.newest-below.ensures ∙ ap (λ xs. newest m (shown r xs)) c.split_at-parts.ensures.front ∙ below_is r m named at c.args.versions.now c.requires.kept.versions in
+    let h0 : AreVersions (r c.newest-below.result.now) [] (shown r c.new-after.result.items) =
+    subst (λ xs. AreVersions (r c.newest-below.result.now) [] (shown r xs)) (sym c.new-after.ensures.items) tt in
+    let later = c.put_versions.ensures.looks [] h0 in
+    let weighs = ap (weights (entries_within (at + 1) n named)) below ∙ revert_weighs m named at n c.len-count.ensures.len in
+    omega (arith, later, weighs)
 
 pub returns-clause-looks : goal.returns-clause-looks
 returns-clause-looks g c =
@@ -53,44 +74,35 @@ returns-clause-looks g c =
     let at = c.args.at in
     let n = c.len-count.result in
     let es = entries_of (layers_of named) in
-    let mids : shown r c.in_ok-after.after.items ≡ take at (shown r c.args.versions.now) =
-    c.in_ok-after.ensures ∙ ap (shown r) c.split_at-parts.ensures.front ∙ shown-take r at c.args.versions.now in
-    let below : AreVersions m (take at es) (shown r c.in_ok-after.after.items) =
-    subst (AreVersions m (take at es)) (sym mids) (versions-take at m es (shown r c.args.versions.now) c.requires.kept.versions) in
-    let later = c.put_versions.ensures.looks (take at es) below in
-    omega (arith, later, revert_weighs m named at n c.len-count.ensures.len)
+    let below : r c.newest-below.result.now ≡ fold_entries (take at es) m =
+    c.newest-below.ensures ∙ ap (λ xs. newest m (shown r xs)) c.split_at-parts.ensures.front ∙ below_is r m named at c.args.versions.now c.requires.kept.versions in
+    let h0 : AreVersions (r c.newest-below.result.now) [] (shown r c.new-after.result.items) =
+    subst (λ xs. AreVersions (r c.newest-below.result.now) [] (shown r xs)) (sym c.new-after.ensures.items) tt in
+    let later = c.put_versions.ensures.looks [] h0 in
+    let weighs = ap (weights (entries_within (at + 1) n named)) below ∙ revert_weighs m named at n c.len-count.ensures.len in
+    omega (arith, later, weighs)
 
-pub split_at-news-requires : goal.split_at-news-requires
-split_at-news-requires g c =
+pub returns-clause-fits : goal.returns-clause-fits
+returns-clause-fits g c =
     let r = g.S.RecordSource.records in
     let m = r c.args.base.now in
     let named = c.args.entries.now.entries in
     let at = c.args.at in
     let n = c.len-count.result in
     let es = entries_of (layers_of named) in
-    let mids : shown r c.in_ok-after.after.items ≡ take at (shown r c.args.versions.now) =
-    c.in_ok-after.ensures ∙ ap (shown r) c.split_at-parts.ensures.front ∙ shown-take r at c.args.versions.now in
+    let low = r c.newest-below.result.now in
+    let below : low ≡ fold_entries (take at es) m =
+    c.newest-below.ensures ∙ ap (λ xs. newest m (shown r xs)) c.split_at-parts.ensures.front ∙ below_is r m named at c.args.versions.now c.requires.kept.versions in
     let news = shown r c.put_versions.new.versions.items in
-    let put : Puts m (shown r c.in_ok-after.after.items) (entries_within (at + 1) n named) news = λ before h. c.in_ok-put_versions.ensures.versions before h in
-    let new : AreVersions m (entries_without at named) news =
-    rest_put m named at n (shown r c.args.versions.now) (shown r c.in_ok-after.after.items) news c.len-count.ensures.len c.requires.kept.versions mids put in
-    subst (λ xs. at ≤ length xs) (sym c.deref.ensures.value) (others_long r m named at c.put_versions.new.versions.items c.requires.place new)
-
-pub returns-clause-versions : goal.returns-clause-versions
-returns-clause-versions g c =
-    let r = g.S.RecordSource.records in
-    let m = r c.args.base.now in
-    let named = c.args.entries.now.entries in
-    let at = c.args.at in
-    let n = c.len-count.result in
-    let es = entries_of (layers_of named) in
-    let mids : shown r c.in_ok-after.after.items ≡ take at (shown r c.args.versions.now) =
-    c.in_ok-after.ensures ∙ ap (shown r) c.split_at-parts.ensures.front ∙ shown-take r at c.args.versions.now in
-    let news = shown r c.put_versions.new.versions.items in
-    let put : Puts m (shown r c.in_ok-after.after.items) (entries_within (at + 1) n named) news = λ before h. c.in_ok-put_versions.ensures.versions before h in
-    let new : AreVersions m (entries_without at named) news =
-    rest_put m named at n (shown r c.args.versions.now) (shown r c.in_ok-after.after.items) news c.len-count.ensures.len c.requires.kept.versions mids put in
-    new
+    let put : AreVersions low (entries_within (at + 1) n named) news =
+    c.in_ok-put_versions.ensures.versions [] (subst (λ xs. AreVersions low [] (shown r xs)) (sym c.new-after.ensures.items) tt) in
+    let new : AreVersions (fold_entries (take at es) m) (drop (at + 1) es) news =
+    subst (λ x. AreVersions x (drop (at + 1) es) news) below (subst (λ fs. AreVersions low fs news) (within_rest named (at + 1) n c.len-count.ensures.len) put) in
+    record {
+      suits = (within_layers named at c.requires.place, new);
+      view = c.in_ok-view.ensures ∙ c.newest.ensures ∙ ap (λ xs. newest low (shown r xs)) c.deref-2.ensures.value ∙ ap (λ x. newest x news) below
+          ∙ newest_is (fold_entries (take at es) m) (drop (at + 1) es) news new ∙ sym (seen_above m named at);
+    }
 
 pub returns-clause-ids : goal.returns-clause-ids
 returns-clause-ids g c =
@@ -100,14 +112,15 @@ returns-clause-ids g c =
     let at = c.args.at in
     let n = c.len-count.result in
     let es = entries_of (layers_of named) in
-    let mids : shown r c.in_ok-after.after.items ≡ take at (shown r c.args.versions.now) =
-    c.in_ok-after.ensures ∙ ap (shown r) c.split_at-parts.ensures.front ∙ shown-take r at c.args.versions.now in
+    let low = r c.newest-below.result.now in
+    let below : low ≡ fold_entries (take at es) m =
+    c.newest-below.ensures ∙ ap (λ xs. newest m (shown r xs)) c.split_at-parts.ensures.front ∙ below_is r m named at c.args.versions.now c.requires.kept.versions in
     let news = shown r c.put_versions.new.versions.items in
-    let put : Puts m (shown r c.in_ok-after.after.items) (entries_within (at + 1) n named) news = λ before h. c.in_ok-put_versions.ensures.versions before h in
-    let new : AreVersions m (entries_without at named) news =
-    rest_put m named at n (shown r c.args.versions.now) (shown r c.in_ok-after.after.items) news c.len-count.ensures.len c.requires.kept.versions mids put in
+    let put : AreVersions low (entries_within (at + 1) n named) news =
+    c.in_ok-put_versions.ensures.versions [] (subst (λ xs. AreVersions low [] (shown r xs)) (sym c.new-after.ensures.items) tt) in
+    let new : AreVersions (fold_entries (take at es) m) (drop (at + 1) es) news =
+    subst (λ x. AreVersions x (drop (at + 1) es) news) below (subst (λ fs. AreVersions low fs news) (within_rest named (at + 1) n c.len-count.ensures.len) put) in
     let olds = shown r c.args.versions.now in
     let dropped = ap (shown r) c.split_at-parts.ensures.back ∙ shown-drop r at c.args.versions.now in
-    let remade = ap (shown r) (c.split_at-news.ensures.back ∙ ap (drop at) c.deref.ensures.value) ∙ shown-drop r at c.put_versions.new.versions.items in
-    reverted_ids m named at olds news c.in_ok-ids.ids (omega (arith, c.requires.place)) c.requires.kept.versions new
-    (λ id. c.in_ok-ids.ensures id ∙ (λ i. is_noted (dropped i) id || is_noted (remade i) id))
+    reverted_ids m named at olds news c.in_ok-touched.touched c.requires.kept.versions new
+    (λ id. c.in_ok-touched.ensures id ∙ (λ i. is_noted (dropped i) id || is_noted (shown r (c.deref.ensures.value i)) id))
