@@ -37,9 +37,8 @@ impl<S: RecordSource> Engine<S> {
         ensures applies { S.Count.applies steps.new ≡ S.Count.applies steps.old }
     {
         let keep = self.retained.mark(self.layers.base(), steps)?;
-        let mut layers = self.layers.copy()?;
-        let dropped = layers.sweep_base(&keep, steps)?;
-        let answer = collected(self.alloc, dropped.len() as u64, false, n)?;
-        self.change(layers, &dropped, answer, n, steps)
+        let draft = self.layers.draft_sweep(&keep, steps)?;
+        let answer = collected(self.alloc, draft.touched.len() as u64, false, n)?;
+        self.change(draft, answer, n, steps)
     }
 }

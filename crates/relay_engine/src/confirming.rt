@@ -58,8 +58,7 @@ impl<S: RecordSource> Engine<S> {
         ensures looks { ChangesWithin self.old confirming (machine.confirm entry) (S.Count.looks steps.old) (S.Count.looks steps.new) }
     {
         let answer = accept(self.alloc, event, n)?;
-        let mut layers = self.layers.copy()?;
-        let touched = layers.commit(entry, steps)?;
-        self.change(layers, &touched, answer, n, steps)
+        let draft = self.layers.draft_commit(&entry, steps)?;
+        self.change(draft, answer, n, steps)
     }
 }

@@ -68,9 +68,8 @@ impl<S: RecordSource> Engine<S> {
         ensures looks { ChangesWithin self.old starting (machine.with_layer layer entry) (S.Count.looks steps.old) (S.Count.looks steps.new) }
     {
         let answer = accept(self.alloc, "begin", n)?;
-        let mut layers = self.layers.copy()?;
-        let touched = layers.begin(layer, entry, steps)?;
-        self.change(layers, &touched, answer, n, steps)
+        let draft = self.layers.draft_begin(layer, entry, steps)?;
+        self.change(draft, answer, n, steps)
     }
 
     /// Drops a layer, and confirms what the response to a handle says, if there is one, and then the
@@ -118,9 +117,8 @@ impl<S: RecordSource> Engine<S> {
         ensures looks { ChangesWithin self.old confirming (λ s. machine.confirm entry (machine.drop_layer layer.now s)) (S.Count.looks steps.old) (S.Count.looks steps.new) }
     {
         let answer = accept(self.alloc, "finish", n)?;
-        let mut layers = self.layers.copy()?;
-        let touched = layers.finish(layer, entry, steps)?;
-        self.change(layers, &touched, answer, n, steps)
+        let draft = self.layers.draft_finish(layer, &entry, steps)?;
+        self.change(draft, answer, n, steps)
     }
 
     /// Drops a layer.
@@ -143,8 +141,7 @@ impl<S: RecordSource> Engine<S> {
             return refuse(self.alloc, Refusal::UnknownLayer(layer.as_str()), n);
         }
         let answer = accept(self.alloc, "revert", n)?;
-        let mut layers = self.layers.copy()?;
-        let touched = layers.revert(layer, steps)?;
-        self.change(layers, &touched, answer, n, steps)
+        let draft = self.layers.draft_revert(layer, steps)?;
+        self.change(draft, answer, n, steps)
     }
 }

@@ -9,39 +9,40 @@ use Rattle.relay_engine.specs.Work.{confirming}
 use Rattle.relay_machine.specs.Machine.{confirm, drop_layer}
 use Rattle.relay_machine.specs.Printed.{event_line}
 use Rattle.store_layers.specs.Changed.{AreChanged}
+use Rattle.store_layers.specs.Drafts.{Fits, placed}
 use Rattle.store_layers.specs.Layered.{Layered, entries_of, finished, is_live, view_of, without}
 
-pub finish-requires : goal.finish-requires
-finish-requires g c =
-    record { name = subst (λ (l : Layered). is_live l.live c.args.layer.now ≡ true) (sym (c.in_ok-layers.ensures ∙ ap (λ (x : Kept). x.layers) c.self.view_is)) c.requires.live }
+pub draft_finish-requires : goal.draft_finish-requires
+draft_finish-requires g c =
+    record { name = subst (λ (l : Layered). is_live l.live c.args.layer.now ≡ true) (sym (ap (λ (x : Kept). x.layers) c.self.view_is)) c.requires.live }
 
 pub returns-clause-step : goal.returns-clause-step
 returns-clause-step g c =
     let k : Kept = c.args.self.now in
     let e = c.args.entry in
     let name = c.args.layer.now in
-    let ids = c.in_ok-touched.touched in
-    let same : c.in_ok-layers.layers ≡ k.layers = c.in_ok-layers.ensures ∙ ap (λ (x : Kept). x.layers) c.self.view_is in
-    let made : c.finish.new.self ≡ finished name e k.layers = c.in_ok-touched.ensures.ok ∙ ap (finished name e) same in
-    on_change c.change.result k c.change.new.self c.finish.new.self (finished name e k.layers) ids c.in_ok-answer.answer c.args.n (event_line (codes "finish") c.args.n)
+    let ids = c.in_ok-draft.draft.touched in
+    let same : c.self.inside.layers ≡ k.layers = ap (λ (x : Kept). x.layers) c.self.view_is in
+    let made : placed g.S.RecordSource.records k.layers c.in_ok-draft.draft ≡ finished name e k.layers = subst (λ l. placed g.S.RecordSource.records l c.in_ok-draft.draft ≡ finished name e l) same c.in_ok-draft.ensures.placed in
+    on_change c.change.result k c.change.new.self (placed g.S.RecordSource.records k.layers c.in_ok-draft.draft) (finished name e k.layers) ids c.in_ok-answer.answer c.args.n (event_line (codes "finish") c.args.n)
     (λ s. confirm e (drop_layer name s))
     c.change.ensures.step made c.in_ok-answer.ensures
-    (finished_differ k.layers ids name e (subst (λ (l : Layered). AreChanged l.base (entries_of l.live) (e ∷ entries_of (without name l.live)) ids) same c.in_ok-touched.ensures.changed))
+    (finished_differ k.layers ids name e (subst (λ (l : Layered). AreChanged l.base (entries_of l.live) (e ∷ entries_of (without name l.live)) ids) same c.in_ok-draft.ensures.changed))
     (λ s. refl) (λ p s stands. stands_finished k p s stands name e)
 
 pub returns-clause-refused : goal.returns-clause-refused
 returns-clause-refused g c =
     never_refused c.change.result (c.change.new.self ≡ c.args.self.now) c.in_ok-answer.answer (event_line (codes "finish") c.args.n) c.change.ensures.refused c.in_ok-answer.ensures
 
-pub returns-in_err-touched-clause-looks : goal.returns-in_err-touched-clause-looks
-returns-in_err-touched-clause-looks g c = λ p s stands.
+pub returns-in_err-draft-clause-looks : goal.returns-in_err-draft-clause-looks
+returns-in_err-draft-clause-looks g c = λ p s stands.
     let k : Kept = c.args.self.now in
     let e = c.args.entry in
     let name = c.args.layer.now in
     let next = confirm e (drop_layer name s) in
-    let same : c.in_ok-layers.layers ≡ k.layers = c.in_ok-layers.ensures ∙ ap (λ (x : Kept). x.layers) c.self.view_is in
-    call_within p k next (finishing name e c.in_ok-layers.layers) (confirming p s next) (ap (finishing name e) same ∙ finishes k p s stands name e)
-    (g.S.Count.Steps.looks c.args.steps.now) (g.S.Count.Steps.looks c.finish.new.steps) c.finish.ensures.looks
+    let same : c.self.inside.layers ≡ k.layers = ap (λ (x : Kept). x.layers) c.self.view_is in
+    call_within p k next (finishing name e c.self.inside.layers) (confirming p s next) (ap (finishing name e) same ∙ finishes k p s stands name e)
+    (g.S.Count.Steps.looks c.args.steps.now) (g.S.Count.Steps.looks c.draft_finish.new.steps) c.draft_finish.ensures.looks
 
 pub returns-clause-looks : goal.returns-clause-looks
 returns-clause-looks g c = λ p s stands.
@@ -49,8 +50,11 @@ returns-clause-looks g c = λ p s stands.
     let e = c.args.entry in
     let name = c.args.layer.now in
     let next = confirm e (drop_layer name s) in
-    let same : c.in_ok-layers.layers ≡ k.layers = c.in_ok-layers.ensures ∙ ap (λ (x : Kept). x.layers) c.self.view_is in
-    let made : c.finish.new.self ≡ finished name e k.layers = c.in_ok-touched.ensures.ok ∙ ap (finished name e) same in
-    noticed_within p k next (finishing name e c.in_ok-layers.layers) (confirming p s next) (ap (finishing name e) same ∙ finishes k p s stands name e)
-    (g.S.Count.Steps.looks c.args.steps.now) (g.S.Count.Steps.looks c.finish.new.steps) c.finish.ensures.looks c.in_ok-touched.touched c.in_ok-touched.ensures.changed.only
-    c.finish.new.self (ap view_of made ∙ seen_finished k p s stands name e) (g.S.Count.Steps.looks c.change.new.steps) c.change.ensures.looks
+    let same : c.self.inside.layers ≡ k.layers = ap (λ (x : Kept). x.layers) c.self.view_is in
+    let made : placed g.S.RecordSource.records k.layers c.in_ok-draft.draft ≡ finished name e k.layers = subst (λ l. placed g.S.RecordSource.records l c.in_ok-draft.draft ≡ finished name e l) same c.in_ok-draft.ensures.placed in
+    noticed_within p k next (finishing name e c.self.inside.layers) (confirming p s next) (ap (finishing name e) same ∙ finishes k p s stands name e)
+    (g.S.Count.Steps.looks c.args.steps.now) (g.S.Count.Steps.looks c.draft_finish.new.steps) c.draft_finish.ensures.looks c.in_ok-draft.draft.touched c.in_ok-draft.ensures.changed.only
+    (placed g.S.RecordSource.records k.layers c.in_ok-draft.draft) (ap view_of made ∙ seen_finished k p s stands name e) (g.S.Count.Steps.looks c.change.new.steps) c.change.ensures.looks
+
+pub change-requires-clause-fits : goal.change-requires-clause-fits
+change-requires-clause-fits g c = subst (λ (x : Kept). Fits g.S.RecordSource.records x.layers c.in_ok-draft.draft) c.self.view_is c.in_ok-draft.ensures.fits

@@ -16,6 +16,7 @@ use Rattle.relay_machine.specs.Printed.{event_line, refusal_line}
 use Rattle.relay_machine.specs.Refusals.{unknown_layer}
 use Rattle.std.specs.Prelude.{codes}
 use Rattle.store_layers.specs.Changed.{AreChanged}
+use Rattle.store_layers.specs.Drafts.{Fits, placed}
 use Rattle.store_layers.specs.Layered.{Layered, above, below, entries_of, from_on, is_live, reverted, view_of}
 use Rattle.store_layers.specs.Work.{counted}
 use Rattle.store_model.specs.Entries.{fold_entries}
@@ -32,25 +33,25 @@ returns-then-not-is_live-clause-step g c =
     ap (noticed p n (length s.watches))
     (unless-true s n (not (is_layer s.layers name)) (unknown_layer name) _ (ap not live) ∙ ap (λ t. refuse s n (unknown_layer t)) (sym c.as_str-then-not-is_live.ensures)))
 
-pub revert-requires : goal.revert-requires
-revert-requires g c =
+pub draft_revert-requires : goal.draft_revert-requires
+draft_revert-requires g c =
     let live : is_live c.self.inside.layers.live c.args.layer.now ≡ true = sym (c.is_live.ensures ∙ ap (is_live c.self.inside.layers.live) c.as_str.ensures) ∙ c.if-not-is_live.false in
-    subst (λ (l : Layered). is_live l.live c.args.layer.now ≡ true) (sym c.in_ok-layers.ensures) live
+    live
 
 pub returns-clause-step : goal.returns-clause-step
 returns-clause-step g c =
     let k : Kept = c.args.self.now in
     let n = c.args.n in
     let name = c.args.layer.now in
-    let ids = c.in_ok-touched.touched in
+    let ids = c.in_ok-draft.draft.touched in
     let line = event_line (codes "revert") n in
-    let same : c.in_ok-layers.layers ≡ k.layers = c.in_ok-layers.ensures ∙ ap (λ (x : Kept). x.layers) c.self.view_is in
-    let made : c.revert.new.self ≡ reverted name k.layers = c.in_ok-touched.ensures.ok ∙ ap (reverted name) same in
+    let same : c.self.inside.layers ≡ k.layers = ap (λ (x : Kept). x.layers) c.self.view_is in
+    let made : placed g.S.RecordSource.records k.layers c.in_ok-draft.draft ≡ reverted name k.layers = subst (λ l. placed g.S.RecordSource.records l c.in_ok-draft.draft ≡ reverted name l) same c.in_ok-draft.ensures.placed in
     on_step c.change.result k c.change.new.self (λ p s. noticed p n (length s.watches) (accept line (drop_layer name s))) (λ p s. noticed p n (length s.watches) (step_revert s n name))
-    (on_change c.change.result k c.change.new.self c.revert.new.self (reverted name k.layers) ids c.in_ok-answer.answer n line (drop_layer name)
+    (on_change c.change.result k c.change.new.self (placed g.S.RecordSource.records k.layers c.in_ok-draft.draft) (reverted name k.layers) ids c.in_ok-answer.answer n line (drop_layer name)
     c.change.ensures.step made c.in_ok-answer.ensures
     (reverted_differ k.layers ids name
-    (subst (λ (l : Layered). AreChanged (fold_entries (entries_of (below name l.live)) l.base) (entries_of (from_on name l.live)) (entries_of (above name l.live)) ids) same c.in_ok-touched.ensures.changed))
+    (subst (λ (l : Layered). AreChanged (fold_entries (entries_of (below name l.live)) l.base) (entries_of (from_on name l.live)) (entries_of (above name l.live)) ids) same c.in_ok-draft.ensures.changed))
     (λ s. refl) (λ p s stands. stands_reverted k p s stands name))
     (λ p s stands.
     let live : is_layer s.layers name ≡ true = whether_layer k p s stands c.self.inside.layers.live c.as_str.result.now name c.is_live.result (ap (λ (x : Kept). x.layers.live) c.self.view_is) c.as_str.ensures c.is_live.ensures ∙ c.if-not-is_live.false in
@@ -60,33 +61,33 @@ pub returns-clause-refused : goal.returns-clause-refused
 returns-clause-refused g c =
     never_refused c.change.result (c.change.new.self ≡ c.args.self.now) c.in_ok-answer.answer (event_line (codes "revert") c.args.n) c.change.ensures.refused c.in_ok-answer.ensures
 
-pub returns-in_err-touched-clause-applies : goal.returns-in_err-touched-clause-applies
-returns-in_err-touched-clause-applies g c =
-    let same : length c.in_ok-layers.layers.live ≡ length c.args.self.now.layers.live = ap (λ (l : Layered). length l.live) (c.in_ok-layers.ensures ∙ ap (λ (x : Kept). x.layers) c.self.view_is) in
-    let fewer = fewer_above c.args.layer.now c.in_ok-layers.layers.live in
-    omega (arith, fewer, same, c.revert.ensures.applies)
+pub returns-in_err-draft-clause-applies : goal.returns-in_err-draft-clause-applies
+returns-in_err-draft-clause-applies g c =
+    let same : length c.self.inside.layers.live ≡ length c.args.self.now.layers.live = ap (λ (l : Layered). length l.live) (ap (λ (x : Kept). x.layers) c.self.view_is) in
+    let fewer = fewer_above c.args.layer.now c.self.inside.layers.live in
+    omega (arith, fewer, same, c.draft_revert.ensures.applies)
 
 pub returns-clause-applies : goal.returns-clause-applies
 returns-clause-applies g c =
-    let same : length c.in_ok-layers.layers.live ≡ length c.args.self.now.layers.live = ap (λ (l : Layered). length l.live) (c.in_ok-layers.ensures ∙ ap (λ (x : Kept). x.layers) c.self.view_is) in
-    let fewer = fewer_above c.args.layer.now c.in_ok-layers.layers.live in
-    omega (arith, fewer, same, c.revert.ensures.applies, c.change.ensures.applies)
+    let same : length c.self.inside.layers.live ≡ length c.args.self.now.layers.live = ap (λ (l : Layered). length l.live) (ap (λ (x : Kept). x.layers) c.self.view_is) in
+    let fewer = fewer_above c.args.layer.now c.self.inside.layers.live in
+    omega (arith, fewer, same, c.draft_revert.ensures.applies, c.change.ensures.applies)
 
-pub returns-in_err-touched-clause-looks : goal.returns-in_err-touched-clause-looks
-returns-in_err-touched-clause-looks g c = λ p s stands.
+pub returns-in_err-draft-clause-looks : goal.returns-in_err-draft-clause-looks
+returns-in_err-draft-clause-looks g c = λ p s stands.
     let k : Kept = c.args.self.now in
     let n = c.args.n in
     let name = c.args.layer.now in
     let line = event_line (codes "revert") n in
     let next = drop_layer name s in
     let before = g.S.Count.Steps.looks c.args.steps.now in
-    let same : c.in_ok-layers.layers ≡ k.layers = c.in_ok-layers.ensures ∙ ap (λ (x : Kept). x.layers) c.self.view_is in
+    let same : c.self.inside.layers ≡ k.layers = ap (λ (x : Kept). x.layers) c.self.view_is in
     let live : is_layer s.layers name ≡ true = whether_layer k p s stands c.self.inside.layers.live c.as_str.result.now name c.is_live.result (ap (λ (x : Kept). x.layers.live) c.self.view_is) c.as_str.ensures c.is_live.ensures ∙ c.if-not-is_live.false in
     let taken : step_revert s n name ≡ accept line next = unless-false s n (not (is_layer s.layers name)) (unknown_layer name) (accept line next) (ap not live) in
-    let after = g.S.Count.Steps.looks c.revert.new.steps in
+    let after = g.S.Count.Steps.looks c.draft_revert.new.steps in
     event_changes p k s (events.revert name) (step_revert s n name) line next taken before after
-    (call_within p k next (reverting name c.in_ok-layers.layers) (dropping p s (map layer_of s.layers) name) (ap (reverting name) same ∙ reverts k p s stands name)
-    before after c.revert.ensures.looks)
+    (call_within p k next (reverting name c.self.inside.layers) (dropping p s (map layer_of s.layers) name) (ap (reverting name) same ∙ reverts k p s stands name)
+    before after c.draft_revert.ensures.looks)
 
 pub returns-clause-looks : goal.returns-clause-looks
 returns-clause-looks g c = λ p s stands.
@@ -96,15 +97,15 @@ returns-clause-looks g c = λ p s stands.
     let line = event_line (codes "revert") n in
     let next = drop_layer name s in
     let before = g.S.Count.Steps.looks c.args.steps.now in
-    let same : c.in_ok-layers.layers ≡ k.layers = c.in_ok-layers.ensures ∙ ap (λ (x : Kept). x.layers) c.self.view_is in
+    let same : c.self.inside.layers ≡ k.layers = ap (λ (x : Kept). x.layers) c.self.view_is in
     let live : is_layer s.layers name ≡ true = whether_layer k p s stands c.self.inside.layers.live c.as_str.result.now name c.is_live.result (ap (λ (x : Kept). x.layers.live) c.self.view_is) c.as_str.ensures c.is_live.ensures ∙ c.if-not-is_live.false in
     let taken : step_revert s n name ≡ accept line next = unless-false s n (not (is_layer s.layers name)) (unknown_layer name) (accept line next) (ap not live) in
     let after = g.S.Count.Steps.looks c.change.new.steps in
-    let made : c.revert.new.self ≡ reverted name k.layers = c.in_ok-touched.ensures.ok ∙ ap (reverted name) same in
+    let made : placed g.S.RecordSource.records k.layers c.in_ok-draft.draft ≡ reverted name k.layers = subst (λ l. placed g.S.RecordSource.records l c.in_ok-draft.draft ≡ reverted name l) same c.in_ok-draft.ensures.placed in
     event_changes p k s (events.revert name) (step_revert s n name) line next taken before after
-    (noticed_within p k next (reverting name c.in_ok-layers.layers) (dropping p s (map layer_of s.layers) name) (ap (reverting name) same ∙ reverts k p s stands name)
-    before (g.S.Count.Steps.looks c.revert.new.steps) c.revert.ensures.looks c.in_ok-touched.touched c.in_ok-touched.ensures.changed.only
-    c.revert.new.self (ap view_of made ∙ seen_reverted k p s stands name) after c.change.ensures.looks)
+    (noticed_within p k next (reverting name c.self.inside.layers) (dropping p s (map layer_of s.layers) name) (ap (reverting name) same ∙ reverts k p s stands name)
+    before (g.S.Count.Steps.looks c.draft_revert.new.steps) c.draft_revert.ensures.looks c.in_ok-draft.draft.touched c.in_ok-draft.ensures.changed.only
+    (placed g.S.RecordSource.records k.layers c.in_ok-draft.draft) (ap view_of made ∙ seen_reverted k p s stands name) after c.change.ensures.looks)
 
 pub returns-then-not-is_live-clause-exact : goal.returns-then-not-is_live-clause-exact
 returns-then-not-is_live-clause-exact g c =
@@ -116,6 +117,9 @@ pub returns-clause-exact : goal.returns-clause-exact
 returns-clause-exact g c =
     let name = c.args.layer.now in
     let before = g.S.Count.Steps.applies c.args.steps.now in
-    let same : c.in_ok-layers.layers ≡ c.args.self.now.layers = c.in_ok-layers.ensures ∙ ap (λ (x : Kept). x.layers) c.self.view_is in
+    let same : c.self.inside.layers ≡ c.args.self.now.layers = ap (λ (x : Kept). x.layers) c.self.view_is in
     always c.change.result (λ lines. lines.refused ≡ false → g.S.Count.Steps.applies c.change.new.steps ≡ counted (length (above name c.args.self.now.layers.live)) before)
-    (λ lines taken. c.change.ensures.applies ∙ c.in_ok-touched.ensures.exact ∙ ap (λ (l : Layered). counted (length (above name l.live)) before) same)
+    (λ lines taken. c.change.ensures.applies ∙ c.in_ok-draft.ensures.exact ∙ ap (λ (l : Layered). counted (length (above name l.live)) before) same)
+
+pub change-requires-clause-fits : goal.change-requires-clause-fits
+change-requires-clause-fits g c = subst (λ (x : Kept). Fits g.S.RecordSource.records x.layers c.in_ok-draft.draft) c.self.view_is c.in_ok-draft.ensures.fits

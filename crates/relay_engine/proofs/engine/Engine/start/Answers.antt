@@ -9,39 +9,40 @@ use Rattle.relay_engine.specs.Work.{starting}
 use Rattle.relay_machine.specs.Machine.{with_layer}
 use Rattle.relay_machine.specs.Printed.{event_line}
 use Rattle.store_layers.specs.Changed.{AreChanged}
+use Rattle.store_layers.specs.Drafts.{Fits, placed}
 use Rattle.store_layers.specs.Layered.{Layered, begun, is_live, view_of}
 
-pub begin-requires : goal.begin-requires
-begin-requires g c =
-    record { name = subst (λ (l : Layered). is_live l.live c.args.layer ≡ false) (sym (c.in_ok-layers.ensures ∙ ap (λ (x : Kept). x.layers) c.self.view_is)) c.requires.free }
+pub draft_begin-requires : goal.draft_begin-requires
+draft_begin-requires g c =
+    record { name = subst (λ (l : Layered). is_live l.live c.args.layer ≡ false) (sym (ap (λ (x : Kept). x.layers) c.self.view_is)) c.requires.free }
 
 pub returns-clause-step : goal.returns-clause-step
 returns-clause-step g c =
     let k : Kept = c.args.self.now in
     let e = c.args.entry in
     let name = c.args.layer in
-    let ids = c.in_ok-touched.touched in
-    let same : c.in_ok-layers.layers ≡ k.layers = c.in_ok-layers.ensures ∙ ap (λ (x : Kept). x.layers) c.self.view_is in
-    let made : c.begin.new.self ≡ begun name e k.layers = c.in_ok-touched.ensures.ok ∙ ap (begun name e) same in
-    on_change c.change.result k c.change.new.self c.begin.new.self (begun name e k.layers) ids c.in_ok-answer.answer c.args.n (event_line (codes "begin") c.args.n) (with_layer name e)
+    let ids = c.in_ok-draft.draft.touched in
+    let same : c.self.inside.layers ≡ k.layers = ap (λ (x : Kept). x.layers) c.self.view_is in
+    let made : placed g.S.RecordSource.records k.layers c.in_ok-draft.draft ≡ begun name e k.layers = subst (λ l. placed g.S.RecordSource.records l c.in_ok-draft.draft ≡ begun name e l) same c.in_ok-draft.ensures.placed in
+    on_change c.change.result k c.change.new.self (placed g.S.RecordSource.records k.layers c.in_ok-draft.draft) (begun name e k.layers) ids c.in_ok-answer.answer c.args.n (event_line (codes "begin") c.args.n) (with_layer name e)
     c.change.ensures.step made c.in_ok-answer.ensures
-    (begun_differ k.layers ids name e (subst (λ (l : Layered). AreChanged (view_of l) [] (e ∷ []) ids) same c.in_ok-touched.ensures.changed))
+    (begun_differ k.layers ids name e (subst (λ (l : Layered). AreChanged (view_of l) [] (e ∷ []) ids) same c.in_ok-draft.ensures.changed))
     (λ s. refl) (λ p s stands. stands_begun k p s stands name e c.requires.free)
 
 pub returns-clause-refused : goal.returns-clause-refused
 returns-clause-refused g c =
     never_refused c.change.result (c.change.new.self ≡ c.args.self.now) c.in_ok-answer.answer (event_line (codes "begin") c.args.n) c.change.ensures.refused c.in_ok-answer.ensures
 
-pub returns-in_err-touched-clause-looks : goal.returns-in_err-touched-clause-looks
-returns-in_err-touched-clause-looks g c = λ p s stands.
+pub returns-in_err-draft-clause-looks : goal.returns-in_err-draft-clause-looks
+returns-in_err-draft-clause-looks g c = λ p s stands.
     let k : Kept = c.args.self.now in
     let e = c.args.entry in
     let name = c.args.layer in
     let before = g.S.Count.Steps.looks c.args.steps.now in
-    let between = g.S.Count.Steps.looks c.begin.new.steps in
-    let same : c.in_ok-layers.layers ≡ k.layers = c.in_ok-layers.ensures ∙ ap (λ (x : Kept). x.layers) c.self.view_is in
-    call_within p k (with_layer name e s) (beginning e c.in_ok-layers.layers) (starting p s (with_layer name e s)) (ap (beginning e) same ∙ begins k p s stands name e)
-    before between (one_weight before between e (view_of c.in_ok-layers.layers) c.begin.ensures.looks)
+    let between = g.S.Count.Steps.looks c.draft_begin.new.steps in
+    let same : c.self.inside.layers ≡ k.layers = ap (λ (x : Kept). x.layers) c.self.view_is in
+    call_within p k (with_layer name e s) (beginning e c.self.inside.layers) (starting p s (with_layer name e s)) (ap (beginning e) same ∙ begins k p s stands name e)
+    before between (one_weight before between e (view_of c.self.inside.layers) c.draft_begin.ensures.looks)
 
 pub returns-clause-looks : goal.returns-clause-looks
 returns-clause-looks g c = λ p s stands.
@@ -49,9 +50,12 @@ returns-clause-looks g c = λ p s stands.
     let e = c.args.entry in
     let name = c.args.layer in
     let before = g.S.Count.Steps.looks c.args.steps.now in
-    let between = g.S.Count.Steps.looks c.begin.new.steps in
-    let same : c.in_ok-layers.layers ≡ k.layers = c.in_ok-layers.ensures ∙ ap (λ (x : Kept). x.layers) c.self.view_is in
-    let made : c.begin.new.self ≡ begun name e k.layers = c.in_ok-touched.ensures.ok ∙ ap (begun name e) same in
-    noticed_within p k (with_layer name e s) (beginning e c.in_ok-layers.layers) (starting p s (with_layer name e s)) (ap (beginning e) same ∙ begins k p s stands name e)
-    before between (one_weight before between e (view_of c.in_ok-layers.layers) c.begin.ensures.looks) c.in_ok-touched.touched c.in_ok-touched.ensures.changed.only
-    c.begin.new.self (ap view_of made ∙ seen_begun k p s stands name e c.requires.free) (g.S.Count.Steps.looks c.change.new.steps) c.change.ensures.looks
+    let between = g.S.Count.Steps.looks c.draft_begin.new.steps in
+    let same : c.self.inside.layers ≡ k.layers = ap (λ (x : Kept). x.layers) c.self.view_is in
+    let made : placed g.S.RecordSource.records k.layers c.in_ok-draft.draft ≡ begun name e k.layers = subst (λ l. placed g.S.RecordSource.records l c.in_ok-draft.draft ≡ begun name e l) same c.in_ok-draft.ensures.placed in
+    noticed_within p k (with_layer name e s) (beginning e c.self.inside.layers) (starting p s (with_layer name e s)) (ap (beginning e) same ∙ begins k p s stands name e)
+    before between (one_weight before between e (view_of c.self.inside.layers) c.draft_begin.ensures.looks) c.in_ok-draft.draft.touched c.in_ok-draft.ensures.changed.only
+    (placed g.S.RecordSource.records k.layers c.in_ok-draft.draft) (ap view_of made ∙ seen_begun k p s stands name e c.requires.free) (g.S.Count.Steps.looks c.change.new.steps) c.change.ensures.looks
+
+pub change-requires-clause-fits : goal.change-requires-clause-fits
+change-requires-clause-fits g c = subst (λ (x : Kept). Fits g.S.RecordSource.records x.layers c.in_ok-draft.draft) c.self.view_is c.in_ok-draft.ensures.fits

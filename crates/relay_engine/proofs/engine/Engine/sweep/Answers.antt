@@ -11,6 +11,7 @@ use Rattle.relay_engine.specs.Stands.{StandsFor}
 use Rattle.relay_engine.specs.Steps.{HasStepped, IsStep}
 use Rattle.relay_machine.specs.Machine.{Project, State, Step, noticed, sweep_base}
 use Rattle.relay_machine.specs.Printed.{collect_line}
+use Rattle.store_layers.specs.Drafts.{Fits, placed}
 use Rattle.store_layers.specs.Layered.{swept, view_of}
 use Rattle.store_model.specs.Sweeps.{dropped}
 use Rattle.gql_plain.specs.Order.{has_text}
@@ -27,8 +28,8 @@ returns-clause-step g c =
     let n = c.args.n in
     let r = c.self.inside.retained in
     let keep = c.in_ok-keep.keep in
-    let ids = c.in_ok-dropped.dropped in
-    let ls = c.sweep_base.new.self in
+    let ids = c.in_ok-draft.draft.touched in
+    let ls = placed g.S.RecordSource.records k.layers c.in_ok-draft.draft in
     let answer = c.in_ok-answer.answer in
     let live : map handle_kept r.live ≡ k.handles = ap (λ (x : Kept). x.handles) c.self.view_is in
     let gone : map operation_kept r.released ≡ k.released = ap (λ (x : Kept). x.released) c.self.view_is in
@@ -36,9 +37,9 @@ returns-clause-step g c =
     let plans : HoldPlans k.defs k.documents (all_held r) = subst (λ (x : Kept). HoldPlans x.defs x.documents (all_held r)) c.self.view_is c.self.invariant in
     let base : g.S.RecordSource.records c.base.result.now ≡ k.layers.base = c.base.ensures ∙ ap (λ (x : Kept). x.layers.base) c.self.view_is in
     let keeps : (j : Text) → has_text keep j ≡ is_kept (slots_of k.layers.base) (all_held r) j = λ j. c.in_ok-keep.ensures.ids j ∙ ap (λ m. is_kept (slots_of m) (all_held r) j) base in
-    let copied : c.in_ok-layers.layers ≡ k.layers = c.in_ok-layers.ensures ∙ ap (λ (x : Kept). x.layers) c.self.view_is in
-    let made : ls ≡ swept keep k.layers = c.in_ok-dropped.ensures.ok ∙ ap (swept keep) copied in
-    let is : ids ≡ dropped (has_text keep) k.layers.base = c.in_ok-dropped.ensures.dropped ∙ ap (λ l. dropped (has_text keep) l.base) copied in
+    let same : c.self.inside.layers ≡ k.layers = ap (λ (x : Kept). x.layers) c.self.view_is in
+    let made : ls ≡ swept keep k.layers = subst (λ l. placed g.S.RecordSource.records l c.in_ok-draft.draft ≡ swept keep l) same c.in_ok-draft.ensures.placed in
+    let is : ids ≡ dropped (has_text keep) k.layers.base = c.in_ok-draft.ensures.dropped ∙ ap (λ l. dropped (has_text keep) l.base) same in
     IfOk-weaker c.change.result
     (λ lines. (p : Project) (s : State) (step : Step) → StandsFor k p s → DifferAt ids (slots (view_of k.layers)) (slots (view_of ls)) → HasAnswered k ls p s step answer
     → IsStep p (noticed p n (length s.watches) step) lines new)
@@ -49,3 +50,6 @@ returns-clause-step g c =
     (has_swept k p s stands c.requires.alone r live gone buffer plans keep keeps n ids ls answer made is
     (subst (λ d. AreLines (collect_line n d false) false answer) c.len.ensures c.in_ok-answer.ensures)))
     c.change.ensures.step
+
+pub change-requires-clause-fits : goal.change-requires-clause-fits
+change-requires-clause-fits g c = subst (λ (x : Kept). Fits g.S.RecordSource.records x.layers c.in_ok-draft.draft) c.self.view_is c.in_ok-draft.ensures.fits
