@@ -9,6 +9,7 @@ pub mod Numbers
 pub mod Orders
 pub mod RankSteps
 pub mod RankedOrder
+pub mod Reorderings
 pub mod RowLoop
 pub mod RowSteps
 pub mod Seatings

@@ -5,6 +5,7 @@ pub mod Objects
 pub mod PagePlaces
 pub mod Paths
 pub mod Refusals
+pub mod Reordered
 pub mod Rows
 pub mod SaidFacts
 pub mod Steps

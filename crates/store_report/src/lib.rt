@@ -6,6 +6,7 @@ pub mod fault;
 pub mod gathered;
 pub mod laws;
 mod objects;
+mod order;
 mod pages;
 pub mod path;
 mod ranks;

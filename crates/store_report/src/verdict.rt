@@ -1,18 +1,18 @@
 //! What a response is taken for.
 ghost use Rattle.std.specs.Prelude.{◌≡◌, map, IfOk, IfErr};
 ghost use Rattle.std.specs.List.{dedup};
-ghost use Rattle.std.specs.List.Sorted.{IsSorted, IsStable};
+ghost use Rattle.std.specs.List.Sorted.{IsSorted};
 ghost use Rattle.store_model.specs.FactOrder.{handle_cmp};
 ghost use Rattle.store_model.specs.Said.{HaveHandleKeys};
 ghost use Rattle.store_model.specs.Verdicts as verdicts;
 ghost use Rattle.store_report.specs.Gathering.{AreNamed, verdict_of};
-ghost use Rattle.store_report.specs.Objects.{AreRanked};
 ghost use Rattle.store_report.specs.Refusals.{IsRefusedBy};
 ghost use Rattle.store_report.specs.SaidFacts.{fact_of, fault_of, is_same_fact, place_cmp, put_of};
 
 use crate::conflict::conflict;
 use crate::fault::NormFault;
 use crate::gathered::Gathered;
+use crate::order::sorted;
 use crate::pages::in_order;
 use crate::ranks::ranked;
 use crate::rows::rows_of;
@@ -44,7 +44,7 @@ impl Gathered<'_> {
         let Ok(facts) = ranked(alloc, objects, facts) else {
             return Err(NormFault::NoMemory);
         };
-        let Ok(facts) = sorted(facts) else {
+        let Ok(facts) = sorted(alloc, facts) else {
             return Err(NormFault::NoMemory);
         };
         let Ok(found) = conflict(alloc, &facts) else {
@@ -68,16 +68,6 @@ fn refusal(alloc: Global, fault: SaidFault<'_>) -> NormFault
         Ok(fault) => NormFault::Payload(fault),
         Err(_) => NormFault::NoMemory,
     }
-}
-
-/// Facts that have ranks in order of id and key, those of one place in the order in which they were said.
-fn sorted<'r>(mut facts: Vec<SaidFact<'r>>) -> Result<Vec<SaidFact<'r>>, NoMemory>
-    requires { AreRanked facts.items }
-    ensures order { IfOk result (λ sorted. IsSorted place_cmp sorted.items) }
-    ensures stable { IfOk result (λ sorted. IsStable place_cmp facts.entry.items sorted.items) }
-{
-    facts.sort_by(|one, other| one.compare_ranked(other))?;
-    Ok(facts)
 }
 
 /// Facts that are in order of id and key, one of each place, and pages.
