@@ -34,11 +34,12 @@ impl SaidFact<'_> {
         }
     }
 
-    /// Whether the other fact is of the same id and key; takes no memory.
+    /// Whether the other fact is of the same id and key; takes no memory. Keys are compared first: of
+    /// facts that stand side by side in order they mostly differ, and in length.
     pub(crate) fn is_beside(&self, other: &SaidFact<'_>) -> bool
         ensures { result ≡ same_place (put_of self.now) (put_of other.now) }
     {
-        self.id == other.id && self.key == other.key
+        self.key == other.key && self.id == other.id
     }
 
     /// Whether the path is less than that of another fact; takes no memory.
