@@ -45,7 +45,7 @@ pub fn apply<S: RecordSource>(
         source: after,
         changed,
     } = draft;
-    let touched = touched(source, &after, &changed, steps)?;
+    let touched = touched(source, &after, changed, steps)?;
     Ok(Changed {
         source: after,
         touched,
@@ -74,11 +74,11 @@ fn draft_of<S: RecordSource>(
 fn touched<S: RecordSource>(
     before: &S,
     after: &S,
-    ids: &Vec<Id>,
+    ids: Vec<Id>,
     steps: &mut S::Count,
 ) -> Result<Ids, NoMemory>
-    ensures touched { IfOk result (λ touched. AreSortedOf (filter (is_changed (S.records before.now) (S.records after.now)) ids.now.items) touched) }
-    ensures looks { S.Count.looks steps.new ≤ S.Count.looks steps.old + 2 * length ids.now.items }
+    ensures touched { IfOk result (λ touched. AreSortedOf (filter (is_changed (S.records before.now) (S.records after.now)) ids.items) touched) }
+    ensures looks { S.Count.looks steps.new ≤ S.Count.looks steps.old + 2 * length ids.items }
     ensures applies { S.Count.applies steps.new ≡ S.Count.applies steps.old }
 {
     let mut differ = Vec::new(*ids.allocator());
@@ -94,16 +94,16 @@ fn touched<S: RecordSource>(
 fn note_changed<S: RecordSource>(
     before: &S,
     after: &S,
-    id: &Id,
+    id: Id,
     differ: &mut Vec<Id>,
     steps: &mut S::Count,
 ) -> Result<(), NoMemory>
-    ensures differ { OnOk result (differ.new.items ≡ differ.old.items ++ filter (is_changed (S.records before.now) (S.records after.now)) (id.now ∷ [])) }
+    ensures differ { OnOk result (differ.new.items ≡ differ.old.items ++ filter (is_changed (S.records before.now) (S.records after.now)) (id ∷ [])) }
     ensures looks { S.Count.looks steps.new ≤ S.Count.looks steps.old + 2 }
     ensures applies { S.Count.applies steps.new ≡ S.Count.applies steps.old }
 {
     if is_changed(before, after, id.as_str(), steps) {
-        differ.push(id.copy()?)?;
+        differ.push(id)?;
         return Ok(());
     }
     Ok(())
