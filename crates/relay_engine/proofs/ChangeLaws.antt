@@ -1,6 +1,6 @@
 -- Steps that change the records: the notices follow the answer.
 use Rattle.std.proofs.Common.{◌≡◌, ℕ, Bool, true, false, true≢false, cond, List, [], ◌∷◌, ◌++◌, length, map, take, drop, bytes_eq, Result, append-nil, refl, sym, ap, subst, ◌∙◌, arith}
-use Rattle.std.proofs.lemmas.List.{drop_all, map-append, take_all}
+use Rattle.std.proofs.lemmas.List.{drop_all, take_all}
 use Rattle.std.proofs.lemmas.Result.{IfOk-weaker}
 use Rattle.std.specs.Result.{IfOk}
 use Rattle.relay_engine.proofs.NoticeLaws.{keep_accepted, told_is}
@@ -13,10 +13,11 @@ use Rattle.relay_engine.specs.Steps.{HasStepped, IsStep, written}
 use Rattle.relay_engine.specs.declared.lines.Lines.{Lines}
 use Rattle.relay_machine.specs.Machine.{Project, State, Step, Watch, accept, notices_of, noticed, read_again, view, with_notices}
 use Rattle.schema_tables.specs.Types.{Text}
+use Rattle.store_layers.proofs.Drafted.{seen_begun}
 use Rattle.store_layers.proofs.Versions.{fold-append}
 use Rattle.store_layers.specs.Changed.{AreChanged}
 use Rattle.store_layers.specs.Layered.{Layer, Layered, above, below, begun, committed, entries_of, finished, from_on, reverted, view_of, without}
-use Rattle.store_model.specs.Entries.{apply, fold_entries}
+use Rattle.store_model.specs.Entries.{fold_entries}
 use Rattle.store_model.specs.Walks.{Slots}
 use Rattle.store_model.specs.declared.entry.Entry.{Entry}
 use Rattle.store_read.specs.Reading.{slots}
@@ -151,12 +152,8 @@ module _ (ls : Layered) (touched : List Text) where
       → DifferAt touched (slots (view_of ls)) (slots (view_of (finished name e ls)))
   finished_differ name e changed = λ id h. sym (changed.all id h)
 
-  begun_view : (name : Text) (e : Entry) → view_of (begun name e ls) ≡ apply e (view_of ls)
-  begun_view name e =
-      ap (λ es. fold_entries es ls.base) (map-append (λ (l : Layer). l.1) ls.live ((name, e) ∷ [])) ∙ fold-append (entries_of ls.live) (e ∷ []) ls.base
-
   pub begun_differ : (name : Text) (e : Entry) → AreChanged (view_of ls) [] (e ∷ []) touched → DifferAt touched (slots (view_of ls)) (slots (view_of (begun name e ls)))
-  begun_differ name e changed = λ id h. sym (changed.all id h) ∙ ap (λ m. slots m id) (sym (begun_view name e))
+  begun_differ name e changed = λ id h. sym (changed.all id h) ∙ ap (λ m. slots m id) (sym (seen_begun ls name e))
 
   pub reverted_differ : (name : Text)
       → AreChanged (fold_entries (entries_of (below name ls.live)) ls.base) (entries_of (from_on name ls.live)) (entries_of (above name ls.live)) touched

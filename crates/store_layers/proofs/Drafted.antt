@@ -11,9 +11,9 @@ use Rattle.store_layers.proofs.Removed.{removed}
 use Rattle.store_layers.proofs.Rebuilt.{kept_length, shown-length, shown-take}
 use Rattle.store_layers.proofs.Steps.{layers_length}
 use Rattle.store_layers.proofs.Versions.{fold-append, newest_is, versions-append, versions-length, versions-take}
-use Rattle.store_layers.specs.Drafts.{all_but, left_of}
+use Rattle.store_layers.specs.Drafts.{left_of}
 use Rattle.store_layers.specs.Layered.{Layer, Layered, begun, entries_of, view_of}
-use Rattle.store_layers.specs.Versions.{AreVersions, layer_of, layers_of, newest, shown}
+use Rattle.store_layers.specs.Versions.{AreVersions, all_but, layer_of, layers_of, newest, shown}
 
 abbrev Named : Type 0
 Named = List (String Global × Rc Entry Global)

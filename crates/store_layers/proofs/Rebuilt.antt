@@ -14,7 +14,7 @@ use Rattle.store_layers.proofs.Steps.{layers_length}
 use Rattle.store_layers.proofs.Versions.{versions-drop, versions-length, weights-append}
 use Rattle.store_layers.specs.Changed.{AreChanged, is_changed_by}
 use Rattle.store_layers.specs.Layered.{entries_of}
-use Rattle.store_layers.specs.Versions.{Version, AreVersions, is_noted, shown, layers_of, entries_within, entries_without}
+use Rattle.store_layers.specs.Versions.{Version, AreVersions, is_noted, shown, layers_of, entries_within, all_but}
 use Rattle.store_layers.specs.Work.{weights}
 
 abbrev Named : Type 0
@@ -45,7 +45,7 @@ pub all_put : (m : Records) (named : Named) (n : ℕ) (news : List Version) → 
 all_put m named n news is put = subst (λ es. AreVersions m es news) (within_all named n is) (put [] tt)
 
 pub others_put : (m : Records) (named : Named) (at n : ℕ) (mids news : List Version) → n ≡ length named
-    → Puts m [] (entries_within 0 at named) mids → Puts m mids (entries_within (at + 1) n named) news → AreVersions m (entries_without at named) news
+    → Puts m [] (entries_within 0 at named) mids → Puts m mids (entries_within (at + 1) n named) news → AreVersions m (all_but at (entries_of (layers_of named))) news
 others_put m named at n mids news is first then =
     subst (λ es. AreVersions m es news) (λ i. within_first named at i ++ within_rest named (at + 1) n is i) (then (entries_within 0 at named) (first [] tt))
 
@@ -98,7 +98,7 @@ pub confirm_weighs : (m m1 : Records) (e : Entry) (named : Named) (n : ℕ) → 
 confirm_weighs m m1 e named n is len = ap (λ w. weight e m + w) (λ i. weights (sym (within_all named n len) i) (sym is i))
 
 pub finish_weighs : (m m1 : Records) (e : Entry) (named : Named) (at n : ℕ) → m1 ≡ apply e m → n ≡ length named
-    → weights (e ∷ entries_without at named) m
+    → weights (e ∷ all_but at (entries_of (layers_of named))) m
     ≡ weight e m + (weights (entries_within 0 at named) m1 + weights (entries_within (at + 1) n named) (fold_entries (entries_within 0 at named) m1))
 finish_weighs m m1 e named at n is len = ap (λ w. weight e m + w)
     ((λ i. weights (sym (within_first named at) i ++ sym (within_rest named (at + 1) n len) i) (sym is i))

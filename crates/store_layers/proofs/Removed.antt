@@ -5,9 +5,8 @@ use Rattle.std.specs.List.{remove}
 use Rattle.std.specs.declared.rc.Rc.{Rc}
 use Rattle.store_record.specs.Keys.{Text}
 use Rattle.store_model.specs.declared.entry.Entry.{Entry}
-use Rattle.store_layers.specs.Drafts.{all_but}
 use Rattle.store_layers.specs.Layered.{Layer, entries_of, below, from_on, above, without}
-use Rattle.store_layers.specs.Versions.{layer_of, layers_of, entries_without, IsPlaceOf}
+use Rattle.store_layers.specs.Versions.{layer_of, layers_of, all_but, IsPlaceOf}
 
 abbrev Named : Type 0
 Named = List (String Global × Rc Entry Global)
@@ -32,5 +31,5 @@ module _ (name : Text) (named : Named) (at : ℕ) (place : IsPlaceOf name (layer
   pub above_entries : entries_of (above name (layers_of named)) ≡ drop (at + 1) (entries_of (layers_of named))
   above_entries = ap entries_of place.above ∙ sym (drop-map (λ (l : Layer). l.1) (at + 1) (layers_of named))
 
-  pub without_entries : entries_of (without name (layers_of named)) ≡ entries_without at named
+  pub without_entries : entries_of (without name (layers_of named)) ≡ all_but at (entries_of (layers_of named))
   without_entries = ap entries_of place.without ∙ removed (λ (l : Layer). l.1) (layers_of named) at

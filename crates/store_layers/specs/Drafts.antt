@@ -5,14 +5,10 @@ use Rattle.store_model.specs.Records.{Records}
 use Rattle.store_model.specs.declared.entry.Entry.{Entry}
 use Rattle.store_update.specs.Touched.{AreTouched}
 use Rattle.store_layers.specs.Layered.{Layered, begun, entries_of, is_live, view_of}
-use Rattle.store_layers.specs.Versions.{AreVersions, shown}
+use Rattle.store_layers.specs.Versions.{AreVersions, all_but, shown}
 use Rattle.store_layers.specs.declared.drafts.Draft.{Draft}
 use Rattle.store_layers.specs.declared.drafts.Placing.{Placing}
 use Rattle.store_layers.specs.declared.drafts.Placing.TheVariants as P
-
--- a list but for what stands at a place
-abbrev pub all_but : {X : Type 0} → ℕ → List X → List X
-all_but at xs = take at xs ++ drop (at + 1) xs
 
 -- a list, or all but what stands at the place that goes
 abbrev pub left_of : {X : Type 0} → Option ℕ → List X → List X

@@ -59,9 +59,9 @@ layered_of base named = record { base = base; live = layers_of named }
 abbrev pub entries_within : ℕ → ℕ → List (String Global × Rc Entry Global) → List Entry
 entries_within from end named = slice_range (entries_of (layers_of named)) from end
 
--- the entries of the layers but for the one at a place
-abbrev pub entries_without : ℕ → List (String Global × Rc Entry Global) → List Entry
-entries_without at named = take at (entries_of (layers_of named)) ++ drop (at + 1) (entries_of (layers_of named))
+-- a list but for what stands at a place
+abbrev pub all_but : {X : Type 0} → ℕ → List X → List X
+all_but at xs = take at xs ++ drop (at + 1) xs
 
 -- the place of the first layer of a name, and the layers around it
 pub record IsPlaceOf (name : Text) (layers : List Layer) (at : ℕ) : Type 0 where

@@ -1,8 +1,8 @@
 //! The layers by their names.
 ghost use Rattle.std.specs.Prelude.{◌≡◌, ◌+◌, ◌≤◌, ◌++◌, [], ◌∷◌, true, false, length, take, IfOk, OnOk, OnErr};
-ghost use Rattle.store_layers.specs.Drafts.{all_but, left_of};
+ghost use Rattle.store_layers.specs.Drafts.{left_of};
 ghost use Rattle.store_layers.specs.Layered.{is_live};
-ghost use Rattle.store_layers.specs.Versions.{layers_of, IsPlaceOf};
+ghost use Rattle.store_layers.specs.Versions.{all_but, layers_of, IsPlaceOf};
 
 use crate::fold::Entries;
 use gql_plain::{NoMemory, Words};

@@ -6,7 +6,7 @@ ghost use Rattle.store_model.specs.Entries.{weight, fold_entries};
 ghost use Rattle.store_layers.specs.Changed.{AreChanged};
 ghost use Rattle.store_layers.specs.Drafts.{Fits, placed, finished_at, reverted_at};
 ghost use Rattle.store_layers.specs.Layered.{begun, committed, entries_of, is_live, view_of};
-ghost use Rattle.store_layers.specs.Versions.{shown, AreKept, layers_of, layered_of, entries_without};
+ghost use Rattle.store_layers.specs.Versions.{shown, AreKept, layers_of, layered_of, all_but};
 ghost use Rattle.store_layers.specs.Work.{counted, weights};
 
 use crate::drafts::{Draft, Placing};
@@ -96,9 +96,9 @@ pub(crate) fn finish<S: RecordSource>(
     requires place { at < length entries.now.entries }
     ensures fits { IfOk result (λ d. Fits S.records (layered_of (S.records base.now) entries.now.entries) d) }
     ensures placed { IfOk result (λ d. placed S.records (layered_of (S.records base.now) entries.now.entries) d ≡ finished_at at entry.now (layered_of (S.records base.now) entries.now.entries)) }
-    ensures ids { IfOk result (λ d. AreChanged (S.records base.now) (entries_of (layers_of entries.now.entries)) (entry.now ∷ entries_without at entries.now.entries) d.touched) }
+    ensures ids { IfOk result (λ d. AreChanged (S.records base.now) (entries_of (layers_of entries.now.entries)) (entry.now ∷ all_but at (entries_of (layers_of entries.now.entries))) d.touched) }
     ensures applies { S.Count.applies steps.new ≤ S.Count.applies steps.old + length entries.now.entries }
-    ensures looks { S.Count.looks steps.new ≤ S.Count.looks steps.old + 8 * weights (entry.now ∷ entries_without at entries.now.entries) (S.records base.now) }
+    ensures looks { S.Count.looks steps.new ≤ S.Count.looks steps.old + 8 * weights (entry.now ∷ all_but at (entries_of (layers_of entries.now.entries))) (S.records base.now) }
 {
     let changed = apply(base, entry, steps)?;
     let mut after = Vec::new(alloc);

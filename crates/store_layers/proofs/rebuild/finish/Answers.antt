@@ -7,8 +7,7 @@ use Rattle.store_layers.proofs.rebuild.finish.Goals as goal
 use Rattle.store_layers.specs.Layered.{entries_of}
 use Rattle.store_layers.proofs.Drafted.{seen_without, within_layers}
 use Rattle.store_layers.proofs.Versions.{newest_is}
-use Rattle.store_layers.specs.Drafts.{all_but}
-use Rattle.store_layers.specs.Versions.{shown, newest, AreVersions, is_noted, layers_of, entries_within, entries_without}
+use Rattle.store_layers.specs.Versions.{shown, newest, AreVersions, is_noted, layers_of, entries_within, all_but}
 
 pub returns-in_err-put_versions-clause-looks : goal.returns-in_err-put_versions-clause-looks
 returns-in_err-put_versions-clause-looks g c =
@@ -109,10 +108,10 @@ returns-clause-ids g c =
     let put1 : Puts m1 [] (entries_within 0 at named) mids =
     λ before h. c.in_ok-put_versions.ensures.versions before (subst (λ xs. AreVersions m1 before (shown r xs)) (sym c.new-after.ensures.items) h) in
     let put2 : Puts m1 mids (entries_within (at + 1) n named) news = λ before h. c.in_ok-put_versions-2.ensures.versions before h in
-    let new : AreVersions (apply e m) (entries_without at named) news = subst (λ x. AreVersions x (entries_without at named) news) made (others_put m1 named at n mids news c.len-count.ensures.len put1 put2) in
+    let new : AreVersions (apply e m) (all_but at (entries_of (layers_of named))) news = subst (λ x. AreVersions x (all_but at (entries_of (layers_of named))) news) made (others_put m1 named at n mids news c.len-count.ensures.len put1 put2) in
     let olds = shown r c.args.versions.now in
     let touched : AreTouched m (apply e m) c.in_ok-changed.changed.touched = subst (λ x. AreTouched m x c.in_ok-changed.changed.touched) made c.in_ok-changed.ensures.touched in
-    confirmed_ids m e (entries_of (layers_of named)) (entries_without at named) olds news c.in_ok-changed.changed.touched c.in_ok-touched.touched c.requires.kept.versions touched new
+    confirmed_ids m e (entries_of (layers_of named)) (all_but at (entries_of (layers_of named))) olds news c.in_ok-changed.changed.touched c.in_ok-touched.touched c.requires.kept.versions touched new
     (λ id. c.in_ok-touched.ensures id ∙ (λ i. has_text (c.as_slice.ensures i) id || is_noted olds id || is_noted (shown r (c.deref.ensures.value i)) id))
 
 pub returns-clause-fits : goal.returns-clause-fits
@@ -127,10 +126,10 @@ returns-clause-fits g c =
     let put1 : Puts m1 [] (entries_within 0 at named) mids =
     λ before h. c.in_ok-put_versions.ensures.versions before (subst (λ xs. AreVersions m1 before (shown r xs)) (sym c.new-after.ensures.items) h) in
     let put2 : Puts m1 mids (entries_within (at + 1) n named) news = λ before h. c.in_ok-put_versions-2.ensures.versions before h in
-    let new : AreVersions m1 (entries_without at named) news = others_put m1 named at n mids news c.len-count.ensures.len put1 put2 in
+    let new : AreVersions m1 (all_but at (entries_of (layers_of named))) news = others_put m1 named at n mids news c.len-count.ensures.len put1 put2 in
     record {
       suits = (within_layers named at c.requires.place, new);
-      view = c.in_ok-view.ensures ∙ c.newest.ensures ∙ ap (λ xs. newest m1 (shown r xs)) c.deref-2.ensures.value ∙ newest_is m1 (entries_without at named) news new
+      view = c.in_ok-view.ensures ∙ c.newest.ensures ∙ ap (λ xs. newest m1 (shown r xs)) c.deref-2.ensures.value ∙ newest_is m1 (all_but at (entries_of (layers_of named))) news new
           ∙ sym (seen_without m1 named at);
     }
 
