@@ -103,20 +103,30 @@ fn say_field<'r>(
     ensures said { OnOk result (gathered.new ≡ gathered_onto gathered.old (says.group_says collect_plan id.now path.now group.now (Some (says.walk_of collect_plan (view value.now))))) }
     ensures below { below.new ≡ below.old }
 {
-    let path = path.with(alloc, Step::Key(group.response()))?;
-    let at = gathered.field(id, group.key(), Field::Leaf(Plain::Null), &path)?;
+    let response = group.response();
+    let at = gathered.field(id, group.key(), Field::Leaf(Plain::Null), path, response)?;
     say_pages(alloc, group, id, gathered)?;
     let place = Place {
         parent: id,
         key: group.key(),
         index: None,
     };
-    let field = say_value(alloc, &group.form(), below, &place, value, &path, gathered)?;
+    let field = say_value(
+        alloc,
+        &group.form(),
+        below,
+        &place,
+        value,
+        path,
+        response,
+        gathered,
+    )?;
     gathered.set(at, field);
     Ok(())
 }
 
-/// Gathers what a value under a field says, and answers what the field becomes.
+/// Gathers what a value under a response key of an object at a path says, and answers what the field
+/// becomes. Only objects below the field take the path to it.
 #[cycle(walk)]
 #[tactic(auto, using(crate::proofs::Reports::gathering))]
 fn say_value<'r>(
@@ -126,22 +136,25 @@ fn say_value<'r>(
     place: &Place<'_>,
     value: &'r Value,
     path: &Path<'r>,
+    response: &'r str,
     gathered: &mut Gathered<'r>,
 ) -> Result<Field, NoMemory>
     requires { place.now.index ≡ None }
-    ensures field { IfOk result (λ field. field ≡ (says.walk_of collect_plan (view value.now) (form_at form.now) below.old.parts (made_at place.now) path.now).0) }
-    ensures said { OnOk result (gathered.new ≡ gathered_onto gathered.old (says.walk_of collect_plan (view value.now) (form_at form.now) below.old.parts (made_at place.now) path.now).1) }
+    ensures field { IfOk result (λ field. field ≡ (says.walk_of collect_plan (view value.now) (form_at form.now) below.old.parts (made_at place.now) (path.now ++ Key response.now ∷ [])).0) }
+    ensures said { OnOk result (gathered.new ≡ gathered_onto gathered.old (says.walk_of collect_plan (view value.now) (form_at form.now) below.old.parts (made_at place.now) (path.now ++ Key response.now ∷ [])).1) }
     ensures below { below.new ≡ below.old }
 {
     match form {
         FormAt::Typename => Ok(Field::Leaf(Plain::Null)),
-        FormAt::Leaf => leaf(alloc, value, path, gathered),
+        FormAt::Leaf => leaf(alloc, value, path, response, gathered),
         FormAt::One(type_below) => {
-            let id = say_element(alloc, type_below, below, place, value, path, gathered)?;
+            let path = path.with(alloc, Step::Key(response))?;
+            let id = say_element(alloc, type_below, below, place, value, &path, gathered)?;
             Ok(link_or_null(id))
         }
         FormAt::Many(type_below) => {
-            say_list(alloc, type_below, below, place, value, path, gathered)
+            let path = path.with(alloc, Step::Key(response))?;
+            say_list(alloc, type_below, below, place, value, &path, gathered)
         }
     }
 }

@@ -1,12 +1,12 @@
 -- What is gathered, with one thing more.
-use Rattle.std.proofs.Common.{◌≡◌, ℕ, zero, suc, ◌<◌, List, [], ◌∷◌, ◌++◌, length, map, get_or, set, Option, Some, None, refl, ap, ◌∙◌, arith}
+use Rattle.std.proofs.Common.{◌≡◌, ℕ, zero, suc, ◌<◌, List, [], ◌∷◌, ◌++◌, length, map, get_or, set, option_copied, Option, Some, None, refl, ap, ◌∙◌, arith}
 use Rattle.store_record.specs.declared.field.Field.{Field}
 use Rattle.store_model.specs.Says.{Put, report_pages, fault_at}
 use Rattle.store_model.specs.Verdicts.{fault_cmp}
 use Rattle.store_model.specs.declared.facts.HandleFact.{HandleFact}
 use Rattle.store_model.specs.declared.payload_fault.PayloadFault.{PayloadFault}
 use Rattle.store_report.specs.Gathering.{lesser_some, gathered_onto, puts_with}
-use Rattle.store_report.specs.SaidFacts.{put_of}
+use Rattle.store_report.specs.SaidFacts.{path_to, put_of}
 use Rattle.store_report.specs.declared.said.SaidFact.{SaidFact}
 
 nothing_after : {A : Type 0} (xs : List A) → xs ≡ xs ++ []
@@ -36,7 +36,7 @@ pub with_fault : (puts : List Put) (pages : List HandleFact) (fault : Option Pay
 with_fault puts pages fault f = λ i. record { puts = nothing_after puts i; pages = nothing_after pages i; fault = lesser_some fault_cmp fault (Some f) }
 
 pub puts_set : (facts : List SaidFact) (at : ℕ) (f : SaidFact) (value : Field) → at < length facts → f ≡ get_or facts at f
-    → map put_of (set facts at (record { id = f.id; key = f.key; value = value; path = f.path; object = f.object })) ≡ puts_with at value (map put_of facts)
+    → map put_of (set facts at (record { id = f.id; key = f.key; value = value; path = f.path; response = f.response; object = f.object })) ≡ puts_with at value (map put_of facts)
 puts_set [] at f value lt is = absurd (omega (arith, lt))
-puts_set (g ∷ facts) zero f value lt is = ap (λ (h : SaidFact). record { fact = record { id = h.id; key = h.key; value = value }; path = h.path } ∷ map put_of facts) is
+puts_set (g ∷ facts) zero f value lt is = ap (λ (h : SaidFact). record { fact = record { id = h.id; key = h.key; value = value }; path = path_to h.path (option_copied h.response) } ∷ map put_of facts) is
 puts_set (g ∷ facts) (suc at) f value lt is = ap (λ ps. put_of g ∷ ps) (puts_set facts at f value (omega (arith, lt)) is)

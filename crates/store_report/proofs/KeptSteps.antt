@@ -25,13 +25,13 @@ module _ (os new : List SaidObject) (fs : List SaidFact) (key : Text) (kept : Is
       }
 
 pub kept_value : (os : List SaidObject) (fs : List SaidFact) (key : Text) (at : ℕ) (f : SaidFact) (value : Field) → IsKept os fs key → at < length fs → f ≡ get_or fs at f
-    → IsKept os (set fs at (record { id = f.id; key = f.key; value = value; path = f.path; object = f.object })) key
+    → IsKept os (set fs at (record { id = f.id; key = f.key; value = value; path = f.path; response = f.response; object = f.object })) key
 kept_value os fs key at f value kept lt is =
     record {
       key_is = kept.key_is;
       numbered = kept.numbered;
       each_of =
-          All-set (λ g. Contains os (object_of g)) fs at (record { id = f.id; key = f.key; value = value; path = f.path; object = f.object })
+          All-set (λ g. Contains os (object_of g)) fs at (record { id = f.id; key = f.key; value = value; path = f.path; response = f.response; object = f.object })
           (subst (λ (g : SaidFact). Contains os (object_of g)) (sym is) (All-get_or (λ g. Contains os (object_of g)) fs at f lt kept.each_of))
           kept.each_of;
     }

@@ -103,7 +103,7 @@ module _ (os : List SaidObject) (within : AreWithin os) (one : HaveOneId os) (at
 -- ---- facts with ranks
 
 abbrev pub with_rank : List ℕ → SaidFact → SaidFact
-with_rank ranks f = record { id = f.id; key = f.key; value = f.value; path = f.path; object = get_or ranks f.object 0 }
+with_rank ranks f = record { id = f.id; key = f.key; value = f.value; path = f.path; response = f.response; object = get_or ranks f.object 0 }
 
 pub same_puts : (ranks : List ℕ) (fs : List SaidFact) → map put_of (map (with_rank ranks) fs) ≡ map put_of fs
 same_puts ranks [] = refl

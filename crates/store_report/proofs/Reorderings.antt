@@ -6,7 +6,7 @@ use Rattle.std.specs.List.{filter}
 use Rattle.std.specs.List.Sorted.{IsPermutation, IsStable, IsStableBy, IsStableByKey, ties}
 use Rattle.std.specs.Ordering.{is_lt, nat_cmp, ordering_then}
 use Rattle.store_model.specs.FactOrder.{text_cmp}
-use Rattle.store_report.proofs.Clashes.{and_left, and_right}
+use Rattle.store_report.proofs.Clashes.{and_right}
 use Rattle.store_report.specs.Objects.{ranked_cmp}
 use Rattle.store_report.specs.Reordered.{IsReordered}
 use Rattle.store_report.specs.declared.said.SaidFact.{SaidFact}

@@ -1,13 +1,15 @@
 -- What a gathered fact, and a gathered fault, are seen as; and the order of facts by id and key.
-use Rattle.std.specs.Prelude.{Bool, true, false, not, ◌&&◌, cond, List, [], ◌∷◌, Option, Some, None}
+use Rattle.std.specs.Prelude.{Bool, true, false, not, ◌&&◌, cond, List, [], ◌∷◌, ◌++◌, Option, Some, None, option_copied}
 use Rattle.std.specs.Ordering.{is_eq}
 use Rattle.std.specs.declared.cmp.Ordering.{Ordering}
 use Rattle.store_record.specs.Equal.{field_eq}
+use Rattle.store_record.specs.Keys.{Text}
 use Rattle.store_record.specs.declared.field.Field.{Field}
 use Rattle.store_model.specs.FactOrder.{fact_cmp}
-use Rattle.store_model.specs.Says.{Put}
+use Rattle.store_model.specs.Says.{Path, Put}
 use Rattle.store_model.specs.Verdicts.{same_place}
 use Rattle.store_model.specs.declared.facts.Fact.{Fact}
+use Rattle.store_model.specs.declared.payload_fault.PathStep.TheVariants.{Key}
 use Rattle.store_model.specs.declared.payload_fault.PayloadFault.{PayloadFault}
 use Rattle.store_report.specs.declared.said.SaidFact.{SaidFact}
 use Rattle.store_report.specs.declared.said.SaidFault.{SaidFault}
@@ -15,8 +17,13 @@ use Rattle.store_report.specs.declared.said.SaidFault.{SaidFault}
 abbrev pub fact_of : SaidFact → Fact
 fact_of f = record { id = f.id; key = f.key; value = f.value }
 
+-- the path of an object, with a response key behind it where there is one
+abbrev pub path_to : Path → Option Text → Path
+path_to path None = path
+path_to path (Some response) = path ++ Key response ∷ []
+
 abbrev pub put_of : SaidFact → Put
-put_of f = record { fact = fact_of f; path = f.path }
+put_of f = record { fact = fact_of f; path = path_to f.path (option_copied f.response) }
 
 abbrev pub fault_of : SaidFault → PayloadFault
 fault_of f = record { path = f.path; cause = f.cause }

@@ -23,10 +23,10 @@ pub(crate) fn conflict(
     let Some(clash) = first_clash(facts) else {
         return Ok(None);
     };
-    let Some(first) = least(facts, clash, None) else {
+    let Some(first) = least(alloc, facts, clash, None)? else {
         unreachable!()
     };
-    let Some(second) = least(facts, clash, Some(&first.value)) else {
+    let Some(second) = least(alloc, facts, clash, Some(&first.value))? else {
         unreachable!()
     };
     Ok(Some(conflict_of(alloc, first, second)?))
@@ -40,7 +40,7 @@ fn conflict_of(
 ) -> Result<PayloadFault, NoMemory>
     ensures { IfOk result (λ fault. fault ≡ verdicts.conflict_of (said_facts.put_of first.now) (said_facts.put_of second.now)) }
 {
-    let path = second.path.steps(alloc)?;
+    let path = second.path_of(alloc)?.steps(alloc)?;
     let id = first.id.as_words().copy()?;
     let key = first.key.as_words().copy()?;
     let value = first.value.copy()?;
@@ -80,45 +80,47 @@ fn clashes(before: Option<&SaidFact<'_>>, fact: &SaidFact<'_>) -> bool
 
 /// The fact at the least path, of those of a place whose value differs from the one that is given.
 fn least<'f, 'r>(
+    alloc: Global,
     facts: &'f [SaidFact<'r>],
     place: &SaidFact<'_>,
     unlike: Option<&Field>,
-) -> Option<&'f SaidFact<'r>>
-    ensures { option_map said_facts.put_of (option_copied result)
-        ≡ verdicts.least verdicts.put_cmp (verdicts.where_so (said_facts.is_candidate (said_facts.put_of place.now) (option_copied unlike.entry)) (map said_facts.put_of facts.now)) }
+) -> Result<Option<&'f SaidFact<'r>>, NoMemory>
+    ensures { IfOk result (λ best. option_map said_facts.put_of (option_copied best)
+        ≡ verdicts.least verdicts.put_cmp (verdicts.where_so (said_facts.is_candidate (said_facts.put_of place.now) (option_copied unlike.entry)) (map said_facts.put_of facts.now))) }
 {
     let mut best: Option<&SaidFact<'r>> = None;
     'facts: for fact in facts {
-        best = better(best, fact, place, unlike);
+        best = better(alloc, best, fact, place, unlike)?;
     }
-    best
+    Ok(best)
 }
 
 /// The one of two facts that is at the lesser path, the first of two that tie, where the second one is
 /// of a place and its value differs from the one that is given.
 fn better<'f, 'r>(
+    alloc: Global,
     best: Option<&'f SaidFact<'r>>,
     fact: &'f SaidFact<'r>,
     place: &SaidFact<'_>,
     unlike: Option<&Field>,
-) -> Option<&'f SaidFact<'r>>
-    ensures { option_map said_facts.put_of (option_copied result)
+) -> Result<Option<&'f SaidFact<'r>>, NoMemory>
+    ensures { IfOk result (λ next. option_map said_facts.put_of (option_copied next)
         ≡ cond (said_facts.is_candidate (said_facts.put_of place.now) (option_copied unlike.entry) (said_facts.put_of fact.now))
         (lesser_some verdicts.put_cmp (option_map said_facts.put_of (option_copied best.entry)) (Some (said_facts.put_of fact.now)))
-        (option_map said_facts.put_of (option_copied best.entry)) }
+        (option_map said_facts.put_of (option_copied best.entry))) }
 {
     if !is_candidate(place, unlike, fact) {
-        return best;
+        return Ok(best);
     }
     match best {
         Some(found) => {
-            if fact.is_before(found) {
-                Some(fact)
+            if fact.is_before(alloc, found)? {
+                Ok(Some(fact))
             } else {
-                Some(found)
+                Ok(Some(found))
             }
         }
-        None => Some(fact),
+        None => Ok(Some(fact)),
     }
 }
 

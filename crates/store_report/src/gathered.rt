@@ -1,13 +1,14 @@
 //! What is gathered of a response.
-ghost use Rattle.std.specs.Prelude.{◌≡◌, ◌<◌, [], ◌∷◌, length, option_map, Some, IfOk, OnOk};
+ghost use Rattle.std.specs.Prelude.{◌≡◌, ◌<◌, [], ◌∷◌, ◌++◌, length, option_copied, option_map, Some, IfOk, OnOk};
 ghost use Rattle.gql_plain.specs.declared.plain.Plain.TheVariants.{Text as Words};
 ghost use Rattle.store_model.specs.Records.{typename};
 ghost use Rattle.store_model.specs.Says.{put_at, fault_at, report_pages};
 ghost use Rattle.store_model.specs.Verdicts.{fault_cmp};
+ghost use Rattle.store_model.specs.declared.payload_fault.PathStep.TheVariants.{Key};
 ghost use Rattle.store_record.specs.declared.field.Field.TheVariants.{Leaf};
 ghost use Rattle.store_report.specs.Gathering.{nothing, gathered_onto, lesser_some, with_value};
 ghost use Rattle.store_report.specs.Objects.{object_of};
-ghost use Rattle.store_report.specs.SaidFacts.{fault_of, put_of};
+ghost use Rattle.store_report.specs.SaidFacts.{fault_of, path_to, put_of};
 
 use crate::objects::{SaidObject, begin, number_of};
 use crate::path::Path;
@@ -81,24 +82,26 @@ impl<'r> Gathered<'r> {
     {
         let object = begin(&mut self.objects, &mut self.open, id)?;
         let value = Field::Leaf(Plain::Text(name));
-        let fact = said(object, id, &self.type_key, value, path)?;
+        let fact = said(object, id, &self.type_key, value, path, None)?;
         self.facts.push(fact)?;
         Ok(())
     }
 
-    /// Puts a field of a record, said at a path, and answers its place among the facts.
+    /// Puts a field of a record, and answers its place among the facts. It is said under a response key
+    /// of the object at a path.
     pub fn field(
         &mut self,
         id: &SharedText,
         key: &SharedText,
         value: Field,
         path: &Path<'r>,
+        response: &'r str,
     ) -> Result<usize, NoMemory>
         ensures place { IfOk result (λ at. at ≡ length self.old.puts) }
-        ensures put { OnOk result (self.new ≡ gathered_onto self.old (put_at id.now key.now value path.now)) }
+        ensures put { OnOk result (self.new ≡ gathered_onto self.old (put_at id.now key.now value (path.now ++ Key response.now ∷ []))) }
     {
         let object = number_of(&mut self.objects, &mut self.open, id)?;
-        let fact = said(object, id, key, value, path)?;
+        let fact = said(object, id, key, value, path, Some(response))?;
         let at = self.facts.len();
         self.facts.push(fact)?;
         Ok(at)
@@ -134,15 +137,16 @@ impl<'r> Gathered<'r> {
     }
 }
 
-/// A fact of an object that is said at a path.
+/// A fact of an object that stands at a path, said there or under a response key of the object.
 fn said<'r>(
     object: usize,
     id: &SharedText,
     key: &SharedText,
     value: Field,
     path: &Path<'r>,
+    response: Option<&'r str>,
 ) -> Result<SaidFact<'r>, NoMemory>
-    ensures put { IfOk result (λ fact. put_of fact ≡ record { fact = record { id = id.now; key = key.now; value = value }; path = path.now }) }
+    ensures put { IfOk result (λ fact. put_of fact ≡ record { fact = record { id = id.now; key = key.now; value = value }; path = path_to path.now (option_copied response.entry) }) }
     ensures object { IfOk result (λ fact. object_of fact ≡ record { id = id.now; number = object }) }
 {
     let id = id.copy()?;
@@ -153,6 +157,7 @@ fn said<'r>(
         key,
         value,
         path,
+        response,
         object,
     })
 }

@@ -57,6 +57,7 @@ fn take(
         key,
         value,
         path: _path,
+        response: _response,
         object: _object,
     } = fact;
     match begun {

@@ -5,7 +5,7 @@ ghost use Rattle.store_model.specs.Verdicts.{fault_cmp, number_of, put_cmp, same
 ghost use Rattle.store_report.specs.Objects.{ranked_cmp};
 ghost use Rattle.store_report.specs.SaidFacts.{put_of, fault_of};
 
-use crate::path::Path;
+use crate::path::{Path, Step};
 use gql_plain::{NoMemory, SharedText};
 use std::alloc::Global;
 use std::cmp::Ordering;
@@ -18,12 +18,15 @@ pub(crate) struct SaidFact<'r> {
     pub(crate) id: SharedText,
     pub(crate) key: SharedText,
     pub(crate) value: Field,
+    /// The path of the object that the fact is of.
     pub(crate) path: Path<'r>,
+    /// The response key of a field, which is the last step of its path; none for the name of a type.
+    pub(crate) response: Option<&'r str>,
     /// The number of the object that has the id; its rank in the order of ids, once all are gathered.
     pub(crate) object: usize,
 }
 
-impl SaidFact<'_> {
+impl<'r> SaidFact<'r> {
     /// The order of facts by the ranks of their objects and then by key; takes no memory.
     pub(crate) fn compare_ranked(&self, other: &SaidFact<'_>) -> Ordering
         ensures { result ≡ ranked_cmp self.now other.now }
@@ -42,11 +45,23 @@ impl SaidFact<'_> {
         self.key == other.key && self.id == other.id
     }
 
-    /// Whether the path is less than that of another fact; takes no memory.
-    pub(crate) fn is_before(&self, other: &SaidFact<'_>) -> bool
-        ensures { result ≡ is_lt (put_cmp (put_of self.now) (put_of other.now)) }
+    /// Whether the fact is said at a lesser path than another one.
+    pub(crate) fn is_before(&self, alloc: Global, other: &SaidFact<'_>) -> Result<bool, NoMemory>
+        ensures { IfOk result (λ before. before ≡ is_lt (put_cmp (put_of self.now) (put_of other.now))) }
     {
-        self.path.compare(&other.path).is_lt()
+        let path = self.path_of(alloc)?;
+        let other_path = other.path_of(alloc)?;
+        Ok(path.compare(&other_path).is_lt())
+    }
+
+    /// The path at which the fact is said.
+    pub(crate) fn path_of(&self, alloc: Global) -> Result<Path<'r>, NoMemory>
+        ensures { IfOk result (λ path. path ≡ (put_of self.now).path) }
+    {
+        match self.response {
+            Some(response) => self.path.with(alloc, Step::Key(response)),
+            None => self.path.copy(),
+        }
     }
 }
 

@@ -60,7 +60,7 @@ say_field-returns-clause-said t c =
     let key = key_of group.first.ask in
     let d = view c.args.value.now in
     let path = c.args.path.now ++ Key group.first.ask.response ∷ [] in
-    let path_is : c.in_ok-path.path ≡ path = c.in_ok-path.ensures ∙ ap (λ r. c.args.path.now ++ Key r ∷ []) c.response.ensures in
+    let path_is : c.args.path.now ++ Key c.response-response.result.now ∷ [] ≡ path = ap (λ r. c.args.path.now ++ Key r ∷ []) c.response-response.ensures in
     let says_all = walk_of collect_plan d group.first.ask.form (parts group) (client_id id key) path in
     let put : c.field.new.self ≡ gathered_onto g (put_at id key (Leaf Null) path) =
     c.in_ok-at.ensures.put ∙ (λ i. gathered_onto g (put_at id (c.key.ensures i) (Leaf Null) (path_is i))) in

@@ -1,4 +1,4 @@
-use Rattle.std.proofs.Common.{Some, map, sym, ap, ◌∙◌}
+use Rattle.std.proofs.Common.{Some, map, option_copied, option_map, sym, ap, ◌∙◌}
 use Rattle.store_model.specs.Verdicts.{least, put_cmp, places}
 use Rattle.store_report.proofs.Clashes.{rises, rising_map, all_agree, IsClash, clash_is}
 use Rattle.store_report.proofs.Seatings.{candidates, unlike_candidates, agreed_seats, place_among, first_there, second_there, the_conflict}
@@ -18,16 +18,16 @@ unreachable-requires c =
     let rising = rising_map put_of put_place_cmp c.args.facts.now (rises place_cmp facts_placed c.args.facts.now c.requires) in
     let p = put_of c.in-Some.clash.now in
     let clash : IsClash puts p = clash_is puts rising p (sym c.in-Some.ensures) in
-    first_there puts p clash (ap (least put_cmp) (sym (candidates p puts)) ∙ sym c.in_default-least.ensures)
+    first_there puts p clash (ap (least put_cmp) (sym (candidates p puts)) ∙ sym c.in_ok-first.ensures ∙ ap (λ f. option_map put_of (option_copied f)) c.in_default-2.is)
 
-pub unreachable-requires-in_default-least-2 : goal.unreachable-requires-in_default-least-2
-unreachable-requires-in_default-least-2 c =
+pub unreachable-requires-in_default-3 : goal.unreachable-requires-in_default-3
+unreachable-requires-in_default-3 c =
     let puts = map put_of c.args.facts.now in
     let rising = rising_map put_of put_place_cmp c.args.facts.now (rises place_cmp facts_placed c.args.facts.now c.requires) in
     let p = put_of c.in-Some.clash.now in
     let clash : IsClash puts p = clash_is puts rising p (sym c.in-Some.ensures) in
-    let first = put_of c.in-Some-least.first.now in
-    second_there puts p clash first (ap (least put_cmp) (sym (unlike_candidates p first.fact.value puts)) ∙ sym c.in_default-least-2.ensures)
+    let first = put_of c.in-Some-2.first.now in
+    second_there puts p clash first (ap (least put_cmp) (sym (unlike_candidates p first.fact.value puts)) ∙ sym c.in_ok-second.ensures ∙ ap (λ f. option_map put_of (option_copied f)) c.in_default-3.is)
 
 pub returns : goal.returns
 returns c =
@@ -35,9 +35,9 @@ returns c =
     let rising = rising_map put_of put_place_cmp c.args.facts.now (rises place_cmp facts_placed c.args.facts.now c.requires) in
     let p = put_of c.in-Some.clash.now in
     let clash : IsClash puts p = clash_is puts rising p (sym c.in-Some.ensures) in
-    let first = put_of c.in-Some-least.first.now in
-    let second = put_of c.in-Some-least-2.second.now in
+    let first = put_of c.in-Some-2.first.now in
+    let second = put_of c.in-Some-3.second.now in
     ap Some c.in_ok-conflict_of.ensures
     ∙ sym (the_conflict puts p first second clash
-    (ap (least put_cmp) (sym (candidates p puts)) ∙ sym c.in-Some-least.ensures)
-    (ap (least put_cmp) (sym (unlike_candidates p first.fact.value puts)) ∙ sym c.in-Some-least-2.ensures))
+    (ap (least put_cmp) (sym (candidates p puts)) ∙ sym c.in_ok-first.ensures ∙ ap (λ f. option_map put_of (option_copied f)) c.in-Some-2.is)
+    (ap (least put_cmp) (sym (unlike_candidates p first.fact.value puts)) ∙ sym c.in_ok-second.ensures ∙ ap (λ f. option_map put_of (option_copied f)) c.in-Some-3.is))

@@ -10,8 +10,8 @@ pub facts-preserved : goal.facts-preserved
 facts-preserved c =
     let test = is_candidate (put_of c.args.place.now) (option_copied c.args.unlike) in
     least_next c.args.facts.now c.facts.fact-index c.fact-item.result (omega arith) c.fact-item.is test
-    (option_map put_of (option_copied c.facts.best)) (option_map put_of (option_copied c.better-best.result)) (least put_cmp (where_so test (map put_of c.args.facts.now)))
-    c.better-best.ensures c.facts.invariant
+    (option_map put_of (option_copied c.facts.best)) (option_map put_of (option_copied c.in_ok-best.best)) (least put_cmp (where_so test (map put_of c.args.facts.now)))
+    c.in_ok-best.ensures c.facts.invariant
 
 pub returns : goal.returns
 returns c =

@@ -1,4 +1,4 @@
-use Rattle.std.proofs.Common.{◌≡◌, rules, ap}
+use Rattle.std.proofs.Common.{◌≡◌, rules}
 use Rattle.std.proofs.lemmas.Fn.{always_returns_same}
 use Rattle.store_report.proofs.Reorderings.{reordered_ranks, reordered_same}
 use Rattle.store_report.proofs.order.by_objects.Goals as goal

@@ -1,4 +1,4 @@
-use Rattle.std.proofs.Common.{◌≡◌, length, ◌∙◌, arith}
+use Rattle.std.proofs.Common.{◌∙◌, arith}
 use Rattle.std.proofs.lemmas.Result.{on_ok_weaker}
 use Rattle.store_report.proofs.Reorderings.{reordered_length, reordered_twice}
 use Rattle.store_report.proofs.order.sort_few.Goals as goal

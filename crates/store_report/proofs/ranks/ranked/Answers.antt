@@ -38,7 +38,7 @@ facts-preserved c =
     let same : x ≡ y = c.index.ensures ∙ get_or_default ys at x y within ∙ sym c.index_mut.ensures.value in
     let rank_is : rank ≡ get_or ranks y.object 0
     = c.index-in-facts.ensures ∙ get_or_default ranks x.object rank 0 fits ∙ ap (λ (f : SaidFact). get_or ranks f.object 0) same in
-    ap (λ n. set ys at (record { id = y.id; key = y.key; value = y.value; path = y.path; object = n })) rank_is
+    ap (λ n. set ys at (record { id = y.id; key = y.key; value = y.value; path = y.path; response = y.response; object = n })) rank_is
     ∙ map_over_more (with_rank ranks) fs ys at y lt c.facts.invariant c.index_mut.ensures.value
 
 pub returns-clause-puts : goal.returns-clause-puts

@@ -1,6 +1,7 @@
-use Rattle.std.proofs.Common.{length, option_map, sym, ap, ◌∙◌}
+use Rattle.std.proofs.Common.{◌++◌, ◌∷◌, [], length, option_map, sym, ap, ◌∙◌}
 use Rattle.std.proofs.lemmas.List.{length-map}
 use Rattle.store_model.specs.Says.{put_at}
+use Rattle.store_model.specs.declared.payload_fault.PathStep.TheVariants.{Key}
 use Rattle.store_report.proofs.GatherSteps.{with_put}
 use Rattle.store_report.proofs.KeptSteps.{kept_fact, kept_objects}
 use Rattle.store_report.proofs.gathered.Gathered.field.Goals as goal
@@ -12,8 +13,8 @@ returns-clause-put c =
     let inside = c.self.inside in
     rw c.in_ok-push.ensures.items
     (with_put inside.facts.items inside.pages.items (option_map fault_of inside.fault) c.in_ok-fact.fact
-    (record { fact = record { id = c.args.id.now; key = c.args.key.now; value = c.args.value }; path = c.args.path.now }) c.in_ok-fact.ensures.put
-    ∙ ap (λ g. gathered_onto g (put_at c.args.id.now c.args.key.now c.args.value c.args.path.now)) c.self.view_is)
+    (record { fact = record { id = c.args.id.now; key = c.args.key.now; value = c.args.value }; path = c.args.path.now ++ Key c.args.response.now ∷ [] }) c.in_ok-fact.ensures.put
+    ∙ ap (λ g. gathered_onto g (put_at c.args.id.now c.args.key.now c.args.value (c.args.path.now ++ Key c.args.response.now ∷ []))) c.self.view_is)
 
 pub returns-clause-place : goal.returns-clause-place
 returns-clause-place c =
