@@ -1,5 +1,5 @@
 //! Making the groups that plans ask of objects, once for each type.
-ghost use Rattle.std.specs.Prelude.{◌≡◌, map, IfOk};
+ghost use Rattle.std.specs.Prelude.{◌≡◌, true, map, IfOk};
 ghost use Rattle.plan_groups.specs.FieldView.{plan_at};
 ghost use Rattle.store_norm.specs.CacheView.{AreRight, IsPlaceOf, IsRight, IsTypeAt};
 ghost use Rattle.store_norm.specs.Caching.{caches};
@@ -44,7 +44,7 @@ pub(crate) fn caches_below<'p>(
 }
 
 /// The place of the groups that plans ask of an object of a type, which are made where they are not
-/// there yet. With n types there, it takes about log n steps.
+/// there yet. It takes about log n steps with n types there, and one for the type that was made first.
 pub(crate) fn place_of<'p>(
     alloc: Global,
     plans: &[PlanAt<'p>],
@@ -67,7 +67,8 @@ pub(crate) fn place_of<'p>(
     Ok(place)
 }
 
-/// The place of the groups of a type, where they are there; takes no memory.
+/// The place of the groups of a type, where they are there; takes no memory. The first place is looked
+/// at first, since the elements of a list are mostly of one type.
 fn known_place(
     places: &BTreeMap<&str, usize>,
     types: &[TypeGroups<'_>],
@@ -75,14 +76,27 @@ fn known_place(
 ) -> Option<usize>
     ensures { IsPlaceOf types.now name.now result }
 {
-    let place = *places.get(name)?;
-    if place >= types.len() {
-        return None;
+    if is_at(types, 0, name) {
+        return Some(0);
     }
-    if types[place].name == name {
+    let place = *places.get(name)?;
+    if is_at(types, place, name) {
         return Some(place);
     }
     None
+}
+
+/// Whether the groups of a type stand at a place; takes no memory.
+fn is_at(types: &[TypeGroups<'_>], place: usize, name: &str) -> bool
+    ensures { result ≡ true → IsTypeAt types.now place name.now }
+{
+    if place >= types.len() {
+        return false;
+    }
+    if types[place].name == name {
+        return true;
+    }
+    false
 }
 
 /// The groups that plans ask of an object of a type; nothing is made below.
