@@ -1,19 +1,26 @@
 //! The types of objects of a response.
 ghost use Rattle.std.specs.Prelude.{◌≡◌, true, option_copied, option_map};
-ghost use Rattle.serde_json.specs.View.{view};
+ghost use Rattle.serde_json.specs.Find.{get_member};
+ghost use Rattle.serde_json.specs.View.{members_view, view};
+ghost use Rattle.store_model.specs.Records.{typename};
 ghost use Rattle.store_model.specs.Says as says;
 ghost use Rattle.gql_plain.specs.Order.{has_text};
 
+use crate::members::member;
 use gql_plain::Ids;
 use plan_groups::{BelowAt, GroupAt};
-use serde_json::Value;
+use serde_json::{Map, Value};
 
-/// The type of an object, by what stands under `__typename`; takes no memory.
-pub(crate) fn type_under<'r>(below: &BelowAt<'r>, given: Option<&'r Value>) -> Option<&'r str>
-    ensures { option_copied result ≡ says.type_under below.now.open_type below.now.types.now (option_map (λ v. view v.now) given.entry) }
+/// The type of an object, by what stands under `__typename`; takes no memory. Where the type is not
+/// open, the members are not looked at.
+pub(crate) fn type_under<'r>(
+    below: &BelowAt<'r>,
+    members: &'r Map<String, Value>,
+) -> Option<&'r str>
+    ensures { option_copied result ≡ says.type_under below.now.open_type below.now.types.now (get_member typename (members_view members.now.entries)) }
 {
     if below.open_type {
-        return possible_name(below.types, given);
+        return possible_name(below.types, member(members, "__typename"));
     }
     first_of(below.types)
 }
@@ -47,14 +54,14 @@ fn first_of(texts: &Ids) -> Option<&str>
 }
 
 /// Whether something else than the name of the type stands under `__typename`, where the plans ask for
-/// it; takes no memory.
-pub(crate) fn is_misnamed(name: &str, groups: &[GroupAt<'_>], given: Option<&Value>) -> bool
-    ensures { result ≡ says.is_misnamed name.now (says.responses groups.now) (option_map (λ v. view v.now) given.entry) }
+/// it; takes no memory. Where they do not, the members are not looked at.
+pub(crate) fn is_misnamed(name: &str, groups: &[GroupAt<'_>], members: &Map<String, Value>) -> bool
+    ensures { result ≡ says.is_misnamed name.now (says.responses groups.now) (get_member typename (members_view members.now.entries)) }
 {
-    if is_name_or_null(name, given) {
+    if !has_response(groups, "__typename") {
         return false;
     }
-    has_response(groups, "__typename")
+    !is_name_or_null(name, member(members, "__typename"))
 }
 
 /// Whether the value is the name, null or absent.

@@ -1,7 +1,8 @@
 //! The walk of a response along the groups of its plan.
-ghost use Rattle.std.specs.Prelude.{◌≡◌, ◌&&◌, ◌++◌, ◌∷◌, [], not, option_map, None, Some, IfOk, OnOk};
+ghost use Rattle.std.specs.Prelude.{◌≡◌, ◌&&◌, ◌++◌, ◌∷◌, [], not, None, Some, IfOk, OnOk};
 ghost use Rattle.plan_groups.specs.FieldView.{below_at, form_at};
 ghost use Rattle.plan_ir.specs.NormalMeaning.{collect_plan};
+ghost use Rattle.serde_json.specs.Find.{get_member};
 ghost use Rattle.serde_json.specs.View.{items_view, members_view, view};
 ghost use Rattle.store_model.specs.Items.{many, parts};
 ghost use Rattle.store_model.specs.Records.{typename};
@@ -289,7 +290,7 @@ fn say_object<'r>(
     ensures said { OnOk result (gathered.new ≡ gathered_onto gathered.old (says.object_says collect_plan (members_view members.now.entries) (says.walks_of collect_plan (members_view members.now.entries)) (below_at type_below.now) below.old.parts (id_of place.now) path.now).1) }
     ensures below { below.new ≡ below.old }
 {
-    match type_under(type_below, member(members, "__typename")) {
+    match type_under(type_below, members) {
         Some(name) => say_type(
             alloc, type_below, below, name, place, members, path, gathered,
         ),
@@ -363,8 +364,7 @@ fn say_typed<'r>(
     ensures said { OnOk result (gathered.new ≡ gathered_onto gathered.old (walk.object_told (members_view members.now.entries) (below_at type_below.now) of.old.name.now of.old.groups (id_of place.now) path.now).1) }
     ensures below { IsSame of.old of.new }
 {
-    let told = member(members, "__typename");
-    if is_other_type(type_below, of, told) {
+    if is_other_type(type_below, of, members) {
         return no_type(alloc, path, gathered);
     }
     let has_id = type_below.identified.contains(of.name);
@@ -383,11 +383,15 @@ fn say_typed<'r>(
 }
 
 /// Whether another type stands under `__typename` of an object whose type is not open.
-fn is_other_type(type_below: &BelowAt<'_>, of: &TypeGroups<'_>, told: Option<&Value>) -> bool
-    ensures { result ≡ (not type_below.now.open_type && says.is_misnamed of.now.name.now (says.responses of.now.groups) (option_map (λ v. view v.now) told.entry)) }
+fn is_other_type(
+    type_below: &BelowAt<'_>,
+    of: &TypeGroups<'_>,
+    members: &Map<String, Value>,
+) -> bool
+    ensures { result ≡ (not type_below.now.open_type && says.is_misnamed of.now.name.now (says.responses of.now.groups) (get_member typename (members_view members.now.entries))) }
 {
     if type_below.open_type {
         return false;
     }
-    is_misnamed(of.name, of.groups.as_slice(), told)
+    is_misnamed(of.name, of.groups.as_slice(), members)
 }

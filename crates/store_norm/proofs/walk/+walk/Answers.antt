@@ -155,7 +155,7 @@ say_typed-returns-clause-said t c =
     let own = id_under (has_text b.identified name) made here (get_member (codes "id") ms) in
     let known : c.is_other_type.result ≡ false = search rules in
     let other : (not b.open_type && is_misnamed name (responses groups) (get_member typename ms)) ≡ false =
-    sym (ap (λ d. not b.open_type && is_misnamed name (responses groups) d) c.member-told.ensures) ∙ sym c.is_other_type.ensures ∙ known in
+    sym c.is_other_type.ensures ∙ known in
     let id : c.in_ok-id.id ≡ own.0 = c.in_ok-id.ensures.id ∙ (λ i. (id_under (c.contains-has_id.ensures i) made here (c.member.ensures i)).0) in
     let first : c.object_id.new.gathered ≡ gathered_onto g own.1 = c.in_ok-id.ensures.said ∙ (λ i. gathered_onto g (id_under (c.contains-has_id.ensures i) made here (c.member.ensures i)).1) in
     let second : c.name.new.self ≡ gathered_onto c.object_id.new.gathered (put_at own.0 typename (Leaf (Words name)) path) =
