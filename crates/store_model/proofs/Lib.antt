@@ -13,6 +13,7 @@ pub mod FactRowOrder
 pub mod FactRows
 pub mod Deep
 pub mod Flips
+pub mod InOrder
 pub mod ItemReaches
 pub mod ItemReads
 pub mod Joins

@@ -20,7 +20,7 @@ use Rattle.store_model.specs.Verdicts.{in_order, with_one}
 use Rattle.store_model.specs.Walks.{Shown, shown_object, with_value}
 use Rattle.store_read.specs.Members.{mark_members, put_all}
 use Rattle.store_record.specs.Keys.{Text}
-use Rattle.store_report.proofs.InOrder.{order_map}
+use Rattle.store_model.proofs.InOrder.{order_map}
 
 pub put_all-append : (ps qs : List (Text × Tree)) (end : Shown) → put_all (ps ++ qs) end ≡ put_all ps (put_all qs end)
 put_all-append [] qs end = refl

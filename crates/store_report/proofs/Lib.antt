@@ -1,6 +1,5 @@
 pub mod Clashes
 pub mod GatherSteps
-pub mod InOrder
 pub mod Joins
 pub mod KeptSteps
 pub mod LastSteps

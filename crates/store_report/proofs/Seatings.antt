@@ -11,7 +11,7 @@ use Rattle.store_model.specs.Says.{Put}
 use Rattle.store_model.specs.Verdicts.{lesser_of, least, put_cmp, same_place, where_so, Seat, seat_of, seat_at, with_one, places, seats_at, seats, conflict_of, first_conflict}
 use Rattle.store_model.specs.declared.facts.Fact.{Fact}
 use Rattle.store_report.proofs.Clashes.{puts_placed, place_tied, place_itself, place_as, same_fact, Agree, AllAgree, IsClash}
-use Rattle.store_report.proofs.InOrder.{first_so, tied, order_sorted, first_of_order}
+use Rattle.store_model.proofs.InOrder.{first_so, tied, order_sorted, first_of_order}
 use Rattle.store_report.specs.SaidFacts.{put_place_cmp, is_candidate}
 
 -- ---- members that pass a test

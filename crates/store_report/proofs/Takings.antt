@@ -16,7 +16,7 @@ use Rattle.store_model.specs.Verdicts.{least, put_cmp, same_place, where_so, sea
 use Rattle.store_model.specs.declared.facts.HandleFact.{HandleFact}
 use Rattle.store_model.specs.declared.payload_fault.PayloadFault.{PayloadFault}
 use Rattle.store_report.proofs.Clashes.{puts_placed, place_tied, and_left, and_right}
-use Rattle.store_report.proofs.InOrder.{first_so, tied, first_of_order, order_map, kept_by_sort, dedup_is_order}
+use Rattle.store_model.proofs.InOrder.{first_so, tied, first_of_order, order_map, kept_by_sort, dedup_is_order}
 use Rattle.store_report.proofs.Orders.{facts_total}
 use Rattle.store_report.proofs.Seatings.{so_alike, place_among, place_reached, settled_facts}
 use Rattle.store_report.specs.Gathering.{AreNamed, IsNamed, verdict_of}

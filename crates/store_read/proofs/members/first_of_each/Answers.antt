@@ -10,7 +10,7 @@ use Rattle.gql_plain.specs.Order.{AreInOrder}
 use Rattle.gql_plain.specs.Shown.{shown_members}
 use Rattle.store_read.proofs.MemberSteps.{Member, by_key, is_same_key, keys_total, keys_rise, sorted_is_put}
 use Rattle.store_read.proofs.members.first_of_each.Goals as goal
-use Rattle.store_report.proofs.InOrder.{dedup_rises, dedup_is_order}
+use Rattle.store_model.proofs.InOrder.{dedup_rises, dedup_is_order}
 
 pub invariant_of-result : goal.invariant_of-result
 invariant_of-result c =

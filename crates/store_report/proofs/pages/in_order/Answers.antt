@@ -6,7 +6,7 @@ use Rattle.std.specs.List.Sorted.{IsSorted, IsStable}
 use Rattle.std.specs.Ordering.{is_lt}
 use Rattle.store_model.specs.FactOrder.{handle_cmp, AreHandlesInOrder}
 use Rattle.store_model.specs.declared.facts.HandleFact.{HandleFact}
-use Rattle.store_report.proofs.InOrder.{dedup_rises, dedup_is_order}
+use Rattle.store_model.proofs.InOrder.{dedup_rises, dedup_is_order}
 use Rattle.store_report.proofs.Orders.{handles_total}
 use Rattle.store_report.proofs.pages.in_order.Goals as goal
 use Rattle.store_report.specs.PagePlaces.{is_same_page}

@@ -6,7 +6,7 @@ use Rattle.store_model.specs.FactOrder.{handle_cmp}
 use Rattle.store_model.specs.Said.{HaveHandleKeys}
 use Rattle.store_model.specs.Verdicts.{same_place}
 use Rattle.store_report.proofs.Clashes.{place_tied}
-use Rattle.store_report.proofs.InOrder.{dedup_rises}
+use Rattle.store_model.proofs.InOrder.{dedup_rises}
 use Rattle.store_report.proofs.Takings.{facts_placed, order_keeps}
 use Rattle.store_report.proofs.verdict.taken.Goals as goal
 use Rattle.store_report.specs.Gathering.{AreNamed}
