@@ -46,6 +46,17 @@ impl SharedText {
         &self.text
     }
 
+    /// The text for one owner: itself where this was its last owner, which takes no memory, and else a
+    /// copy.
+    pub fn into_words(self) -> Result<Words, NoMemory>
+        ensures { IfOk result (λ words. words ≡ self) }
+    {
+        match Rc::try_unwrap(self.text) {
+            Ok(words) => Ok(words),
+            Err(shared) => shared.copy(),
+        }
+    }
+
     /// One more owner of the same text.
     pub fn copy(&self) -> Result<SharedText, NoMemory>
         ensures { IfOk result (λ shared. shared ≡ self.now) }

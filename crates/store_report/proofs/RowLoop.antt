@@ -16,7 +16,7 @@ use Rattle.store_model.specs.Records.{typename}
 use Rattle.store_model.specs.declared.facts.Fact.{Fact}
 use Rattle.store_report.proofs.RowSteps.{Entries, Below}
 use Rattle.store_report.specs.Gathering.{IsNamed, AreNamed}
-use Rattle.store_report.specs.Rows.{with_name, entries_of, is_filled, shown, shown_some, AreBefore, IsOpen, CanTake, CanTakeFirst, CanTakeAt}
+use Rattle.store_report.specs.Rows.{with_name, entries_of, is_filled, shown, shown_some, AreBefore, IsOpen, IsOpenAt, CanTake, CanTakeFirst, CanTakeAt}
 use Rattle.store_report.specs.SaidFacts.{fact_of, put_of, place_cmp}
 use Rattle.store_report.specs.declared.rows.OpenRow.{OpenRow}
 use Rattle.store_report.specs.declared.said.SaidFact.{SaidFact}
@@ -32,14 +32,10 @@ pub record IsNamedFact (all : List Fact) (f : Fact) : Type 0 where
 abbrev pub AreNamedFacts : List Fact → Type 0
 AreNamedFacts all = AllByRecursion (IsNamedFact all) all
 
-abbrev pub OpenAt : List Fact → Option OpenRow → Type 0
-OpenAt done None = done ≡ []
-OpenAt done (Some r) = IsOpen done r × (is_filled (entries_of r) ≡ true)
-
 -- rows that are done, one that is open, and the facts that are left
 pub record Rowing (all done : List Fact) (open_row : Option OpenRow) (rest : List Fact) : Type 0 where
   pub whole : done ++ (shown_some open_row ++ rest) ≡ all
-  pub at : OpenAt done open_row
+  pub at : IsOpenAt done open_row
 
 -- ---- lists in strict order
 
@@ -204,13 +200,13 @@ can_take_at all done None f rest row up named =
     (row.at, (each_right (IsNamedFact all) done (f ∷ rest) (subst (λ fs. AllByRecursion (IsNamedFact all) fs) (sym row.whole) named)).0.name)
 can_take_at all done (Some r) f rest row up named = can_take all done r f rest row.whole row.at.0 row.at.1 up named
 
-pub rowing_next : (all done next : List Fact) (o : Option OpenRow) (r : OpenRow) (f : Fact) (rest : List Fact) → Rowing all done o (f ∷ rest)
-    → next ++ shown r ≡ done ++ (shown_some o ++ f ∷ []) → IsOpen next r → is_filled (entries_of r) ≡ true → Rowing all next (Some r) rest
-rowing_next all done next o r f rest row e is_open filled = record {
+pub rowing_next : (all done next : List Fact) (o r : Option OpenRow) (f : Fact) (rest : List Fact) → Rowing all done o (f ∷ rest)
+    → next ++ shown_some r ≡ done ++ (shown_some o ++ f ∷ []) → IsOpenAt next r → Rowing all next r rest
+rowing_next all done next o r f rest row e is_open = record {
   whole =
-      sym (append_assoc next (shown r) rest) ∙ ap (λ fs. fs ++ rest) e
+      sym (append_assoc next (shown_some r) rest) ∙ ap (λ fs. fs ++ rest) e
       ∙ append_assoc done (shown_some o ++ f ∷ []) rest ∙ ap (λ fs. done ++ fs) (append_assoc (shown_some o) (f ∷ []) rest) ∙ row.whole;
-  at = (is_open, filled);
+  at = is_open;
 }
 
 -- ---- the last row

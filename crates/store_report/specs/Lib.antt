@@ -1,5 +1,6 @@
 pub mod Codes
 pub mod Gathering
+pub mod Heads
 pub mod Kept
 pub mod Objects
 pub mod PagePlaces

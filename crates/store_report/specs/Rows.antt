@@ -49,6 +49,11 @@ pub record IsOpen (facts : List Fact) (r : OpenRow) : Type 0 where
   pub named : IsNameOrNone r.type_name
   pub after : AreBefore r.id facts
 
+-- the same, where a row is begun, and it has keys
+abbrev pub IsOpenAt : List Fact → Option OpenRow → Type 0
+IsOpenAt facts None = facts ≡ []
+IsOpenAt facts (Some r) = IsOpen facts r × (is_filled (entries_of r) ≡ true)
+
 -- a key and a value may be put behind those of a row
 pub record CanPut (r : OpenRow) (key : Text) (value : Field) : Type 0 where
   pub name : bytes_eq key typename ≡ true → IsTypeName value

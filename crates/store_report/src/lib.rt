@@ -4,6 +4,7 @@
 mod conflict;
 pub mod fault;
 pub mod gathered;
+mod heads;
 pub mod laws;
 mod objects;
 mod order;

@@ -1,7 +1,7 @@
 //! Facts with ranks in order of id and key.
-ghost use Rattle.std.specs.Prelude.{◌≡◌, ◌<◌, ◌≤◌, length, IfOk, OnOk};
+ghost use Rattle.std.specs.Prelude.{◌≡◌, ◌<◌, ◌≤◌, true, length, IfOk, OnOk};
 ghost use Rattle.std.specs.List.Sorted.{IsSorted, IsStable};
-ghost use Rattle.store_report.specs.Objects.{AreRanked};
+ghost use Rattle.store_report.specs.Objects.{AreRanked, ranked_cmp};
 ghost use Rattle.store_report.specs.Reordered.{IsReordered};
 ghost use Rattle.store_report.specs.SaidFacts.{place_cmp};
 
@@ -25,9 +25,19 @@ pub(crate) fn sorted<'r>(
     ensures stable { IfOk result (λ sorted. IsStable place_cmp facts.entry.items sorted.items) }
 {
     let mut facts = by_objects(facts)?;
+    if are_in_order(&facts) {
+        return Ok(facts);
+    }
     sort_few(alloc, &mut facts)?;
     facts.sort_by(|one, other| one.compare_ranked(other))?;
     Ok(facts)
+}
+
+/// Whether facts are in order of rank and key; takes no memory.
+fn are_in_order(facts: &[SaidFact<'_>]) -> bool
+    ensures { result ≡ true → IsSorted ranked_cmp facts.now }
+{
+    facts.is_sorted_by(|one, other| !other.compare_ranked(one).is_lt())
 }
 
 /// The facts in the order of their ranks.

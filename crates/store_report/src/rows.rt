@@ -5,12 +5,13 @@ ghost use Rattle.std.specs.List.Sorted.{IsStrictlySortedBy};
 ghost use Rattle.gql_plain.specs.declared.plain.Plain.TheVariants.{Text as Words};
 ghost use Rattle.store_record.specs.declared.field.Field.TheVariants.{Leaf};
 ghost use Rattle.store_report.specs.Gathering.{IsTypeName, AreNamed};
-ghost use Rattle.store_report.specs.Rows.{IsOpen, CanPut, CanTakeAt, shown, shown_some, entries_of, is_filled};
+ghost use Rattle.store_report.specs.Rows.{IsOpen, IsOpenAt, CanPut, CanTakeAt, shown, shown_some, entries_of, is_filled};
 ghost use Rattle.store_report.specs.SaidFacts.{fact_of, put_of, place_cmp};
 
 use crate::said::SaidFact;
 use gql_plain::{Name, NoMemory, Plain, SharedText};
 use std::alloc::Global;
+use std::mem;
 use store_model::{FactList, FactRow};
 use store_record::{Field, Fields, SharedField};
 
@@ -31,7 +32,7 @@ pub(crate) fn rows_of(alloc: Global, facts: Vec<SaidFact<'_>>) -> Result<FactLis
     let mut rows = FactList::new(alloc);
     let mut begun: Option<OpenRow> = None;
     'facts: for fact in facts {
-        begun = Some(take(alloc, &mut rows, begun, fact)?);
+        take(alloc, &mut rows, &mut begun, fact)?;
     }
     match begun {
         Some(row) => close(&mut rows, row)?,
@@ -40,17 +41,16 @@ pub(crate) fn rows_of(alloc: Global, facts: Vec<SaidFact<'_>>) -> Result<FactLis
     Ok(rows)
 }
 
-/// Puts a fact to the row that is begun, or to a row of its own, where it is of another record.
+/// Puts a fact to the row that is begun, or begins a row with it, where it is of another record.
 fn take(
     alloc: Global,
     rows: &mut FactList,
-    begun: Option<OpenRow>,
+    begun: &mut Option<OpenRow>,
     fact: SaidFact<'_>,
-) -> Result<OpenRow, NoMemory>
-    requires { CanTakeAt rows.old begun (fact_of fact) }
-    ensures facts { IfOk result (λ row. rows.new ++ shown row ≡ rows.old ++ (shown_some begun ++ fact_of fact.entry ∷ [])) }
-    ensures row { IfOk result (λ row. IsOpen rows.new row) }
-    ensures filled { IfOk result (λ row. is_filled (entries_of row) ≡ true) }
+) -> Result<(), NoMemory>
+    requires { CanTakeAt rows.old begun.old (fact_of fact) }
+    ensures facts { OnOk result (rows.new ++ shown_some begun.new ≡ rows.old ++ (shown_some begun.old ++ fact_of fact.entry ∷ [])) }
+    ensures row { OnOk result (IsOpenAt rows.new begun.new) }
 {
     let SaidFact {
         id,
@@ -65,10 +65,16 @@ fn take(
             if row.id == id {
                 return put(alloc, row, key, value);
             }
-            close(rows, row)?;
-            put(alloc, begin(alloc, id), key, value)
+            let whole = mem::replace(row, begin(alloc, id));
+            close(rows, whole)?;
+            put(alloc, row, key, value)
         }
-        None => put(alloc, begin(alloc, id), key, value),
+        None => {
+            let mut row = begin(alloc, id);
+            put(alloc, &mut row, key, value)?;
+            *begun = Some(row);
+            Ok(())
+        }
     }
 }
 
@@ -83,21 +89,21 @@ fn begin(alloc: Global, id: SharedText) -> OpenRow
     }
 }
 
-/// The row with a key and its value, which stands after those before it.
-fn put(alloc: Global, mut row: OpenRow, key: SharedText, value: Field) -> Result<OpenRow, NoMemory>
-    requires { CanPut row key value }
-    ensures id { IfOk result (λ r. r.id ≡ row.id) }
-    ensures entries { IfOk result (λ r. entries_of r ≡ entries_of row ++ (key, value) ∷ []) }
-    ensures row { IfOk result (λ r. (facts : List Fact) → IsOpen facts row → IsOpen facts r) }
-    ensures filled { IfOk result (λ r. is_filled (entries_of r) ≡ true) }
+/// Puts a key and its value to a row, behind those that stand there.
+fn put(alloc: Global, row: &mut OpenRow, key: SharedText, value: Field) -> Result<(), NoMemory>
+    requires { CanPut row.old key value }
+    ensures id { OnOk result (row.new.id ≡ row.old.id) }
+    ensures entries { OnOk result (entries_of row.new ≡ entries_of row.old ++ (key, value) ∷ []) }
+    ensures row { OnOk result ((facts : List Fact) → IsOpen facts row.old → IsOpen facts row.new) }
+    ensures filled { OnOk result (is_filled (entries_of row.new) ≡ true) }
 {
     if key.as_str() == "__typename" {
         row.type_name = Some(name_of(value));
-        return Ok(row);
+        return Ok(());
     }
     let field = SharedField::new(alloc, key, value)?;
     row.fields.put_shared(field)?;
-    Ok(row)
+    Ok(())
 }
 
 /// The name that the value under `__typename` is.
@@ -126,7 +132,7 @@ fn close(rows: &mut FactList, row: OpenRow) -> Result<(), NoMemory>
         unreachable!()
     };
     rows.push_row(FactRow {
-        id: id.as_words().copy()?,
+        id: id.into_words()?,
         type_name,
         fields,
     })

@@ -11,6 +11,17 @@ use Rattle.store_report.specs.Objects.{ranked_cmp}
 use Rattle.store_report.specs.Reordered.{IsReordered}
 use Rattle.store_report.specs.declared.said.SaidFact.{SaidFact}
 
+pub returns-then-are_in_order-clause-order : goal.returns-then-are_in_order-clause-order
+returns-then-are_in_order-clause-order c =
+    let given = c.args.facts.items in
+    let sorted = c.in_ok-facts.facts.items in
+    let up : IsSorted ranked_cmp sorted = subst (IsSorted ranked_cmp) c.deref.ensures.value (c.are_in_order.ensures c.if-are_in_order.true) in
+    placed_order given sorted c.in_ok-facts.ensures.moved c.requires up
+
+pub returns-then-are_in_order-clause-stable : goal.returns-then-are_in_order-clause-stable
+returns-then-are_in_order-clause-stable c =
+    placed_stable c.args.facts.items c.in_ok-facts.facts.items c.in_ok-facts.ensures.moved c.requires c.in_ok-facts.ensures.kept
+
 pub returns-clause-order : goal.returns-clause-order
 returns-clause-order c =
     let given = c.args.facts.items in

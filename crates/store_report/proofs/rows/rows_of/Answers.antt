@@ -17,7 +17,7 @@ facts-preserved c =
     let all = map fact_of c.args.facts.items in
     let rest = map fact_of c.next.new.self.rest.items in
     let row : Rowing all c.facts.rows c.facts.begun (fact_of c.in-Some.fact ∷ rest) = subst (λ fs. Rowing all c.facts.rows c.facts.begun (map fact_of fs)) c.in-Some.ensures.steps.0 c.facts.invariant in
-    rowing_next all c.facts.rows c.take.new.rows c.facts.begun c.in_ok-take.field-0 (fact_of c.in-Some.fact) rest row c.in_ok-take.ensures.facts c.in_ok-take.ensures.row c.in_ok-take.ensures.filled
+    rowing_next all c.facts.rows c.take.new.rows c.facts.begun c.take.new.begun (fact_of c.in-Some.fact) rest row c.in_ok-take.ensures.facts c.in_ok-take.ensures.row
 
 pub close-requires-clause-named : goal.close-requires-clause-named
 close-requires-clause-named c =
