@@ -29,37 +29,11 @@ use Rattle.schema_trees.specs.Located.{directives_nodes}
 use Rattle.schema_types.specs.Environments.{Values, evaluation, items_evaluated, pairs_evaluated, with_new_pair, with_pair}
 use Rattle.schema_types.specs.NameRules.{fragment_named}
 use Rattle.schema_types.specs.Sites.{FragmentAt, arguments_nodes, condition_or, head_nodes, optional_name_nodes, selections_nodes}
-use Rattle.schema_values.specs.Fittings.{are_constant, have_constants, is_constant}
+use Rattle.schema_values.proofs.ConstantValues.{constant_value}
+use Rattle.schema_values.specs.Fittings.{is_constant}
 use Rattle.store_model.proofs.ItemReads.{GivesItems}
 use Rattle.store_model.proofs.SameItems.{AlikeItem, zip_append, zip_cond, zip_either}
 use Rattle.store_model.specs.Items.{Item, asked, pointed}
-
--- ---- a constant is the same in each environment
-
-mutual
-  pub constant_value : (env other : Values) (x : Val) → is_constant x ≡ true → evaluation env x ≡ evaluation other x
-  constant_value env other (v.variable n) e = absurd (true≢false (sym e))
-  constant_value env other (v.int z) e = refl
-  constant_value env other (v.text s) e = refl
-  constant_value env other (v.truth b) e = refl
-  constant_value env other v.null e = refl
-  constant_value env other (v.enum n) e = refl
-  constant_value env other (v.list xs) e = ap t.list (constant_items env other xs e)
-  constant_value env other (v.object ms) e = ap (λ (ps : Values). t.object (t.members_of ps)) (constant_members env other ms e)
-
-  pub constant_items : (env other : Values) (xs : Vals) → are_constant xs ≡ true → items_evaluated env xs ≡ items_evaluated other xs
-  constant_items env other v.no_vals e = refl
-  constant_items env other (v.val x xs) e =
-      let first = constant_value env other x (first_true (is_constant x) (are_constant xs) e) in
-      let rest = constant_items env other xs (then_true (is_constant x) (are_constant xs) e) in
-      λ i. t.tree (first i) (rest i)
-
-  pub constant_members : (env other : Values) (ms : Members) → have_constants ms ≡ true → pairs_evaluated env ms ≡ pairs_evaluated other ms
-  constant_members env other v.no_members e = refl
-  constant_members env other (v.member n x ms) e =
-      let first = constant_value env other x (first_true (is_constant x) (have_constants ms) e) in
-      let rest = constant_members env other ms (then_true (is_constant x) (have_constants ms) e) in
-      λ i. with_new_pair n (first i) (rest i)
 
 -- ---- the values that a pointer gives
 

@@ -10,7 +10,7 @@ use Rattle.gql_plain.specs.Order.{member_at}
 use Rattle.gql_plain.specs.Tree.{Tree}
 use Rattle.gql_syntax.specs.Words.{IsName}
 use Rattle.plan_ir.specs.Substitution.{Arguments, arguments_in}
-use Rattle.plan_read.proofs.KnownDocuments.{HaveConstants, IsConstant, constant_value}
+use Rattle.plan_read.proofs.KnownDocuments.{HaveConstants, IsConstant}
 use Rattle.plan_text.proofs.Evaluating.{found-with_pair}
 use Rattle.plan_text.specs.Collecting.{environment_inside, local_value, with_locals}
 use Rattle.relay_dirs.specs.Connections.{value_of_name}
@@ -20,6 +20,7 @@ use Rattle.retained_reads.proofs.Agreeing.{Agree}
 use Rattle.schema_tables.specs.Types.{Text}
 use Rattle.schema_types.specs.Environments.{Values}
 use Rattle.schema_types.specs.Sites.{FragmentAt}
+use Rattle.schema_values.proofs.ConstantValues.{constant_value}
 
 -- ---- names
 

@@ -3,3 +3,4 @@ pub mod Evaluating
 pub mod Giving
 pub mod Fitting
 pub mod FittingLaws
+pub mod ConstantValues

@@ -69,7 +69,11 @@ fn items_under(alloc: Global, items: &ValueTrees, values: &Pairs) -> Result<Plai
 /// What the fields of an object are, of each name the last one.
 #[cycle(evaluate)]
 #[tactic(auto, using(crate::proofs::Evaluating::levels))]
-fn object_under(alloc: Global, fields: &Arguments, values: &Pairs) -> Result<Pairs, NoMemory>
+pub(crate) fn object_under(
+    alloc: Global,
+    fields: &Arguments,
+    values: &Pairs,
+) -> Result<Pairs, NoMemory>
     ensures { IfOk result (λ pairs. pairs ≡ environments.pairs_evaluated values.now (members_of fields.now)) }
 {
     if fields.items.is_empty() {

@@ -2,6 +2,7 @@
 //! them (GraphQL, October 2021, sections 6.1.2, 6.4.1 and 3.4 to 3.12).
 #![tactic(auto)]
 
+pub mod constants;
 pub mod env;
 mod environment;
 mod evaluated;
@@ -9,6 +10,7 @@ pub mod fittings;
 mod pairs;
 mod suited;
 
+pub use constants::{evaluate_constants, have_constants, is_constant};
 pub use env::{Env, VarFault};
 pub use environment::variables;
 pub use evaluated::{evaluate, evaluate_arguments};

@@ -3,7 +3,6 @@
 //! `@argumentDefinitions(size: { type: "[Int" })` breaks it at `size`.
 ghost use Rattle.std.specs.Prelude.{◌≡◌, map, option_map, IfOk, OnOk};
 ghost use Rattle.gql_ast.specs.TypeView.{ty_of};
-ghost use Rattle.gql_ast.specs.Value.{members_of, vals_of};
 ghost use Rattle.gql_ast.specs.ValueView.{value_of};
 ghost use Rattle.schema_types.specs.ArgumentRules as arguments;
 ghost use Rattle.gql_graph.specs.Leasts.{least_from};
@@ -12,15 +11,15 @@ ghost use Rattle.doc_sites.specs.SitesView.{argument_of, definition_of, directiv
 ghost use Rattle.relay_dirs.specs.Locals as spec;
 ghost use Rattle.relay_dirs.specs.RelayRules as rules;
 ghost use Rattle.relay_dirs.specs.View.{local_view};
-ghost use Rattle.schema_values.specs.Fittings.{is_constant, are_constant, have_constants};
 
 use crate::local_variables::local_of;
 use doc_sites::{ArgumentAt, DefinitionAt, DirectiveAt};
-use gql_ast::{Arguments, TypeTree, ValueTree, ValueTrees, VariableDef};
+use gql_ast::{TypeTree, ValueTree, VariableDef};
 use gql_graph::least::Least;
 use gql_plain::NoMemory;
 use schema_tables::type_forms::base_of;
 use schema_types::{Schema, TypeKind};
+use schema_values::is_constant;
 use std::alloc::Global;
 
 /// V17: each argument of `@argumentDefinitions` says a local variable of an input type, whose default
@@ -160,47 +159,4 @@ fn default_fits(
         }
         None => Ok(true),
     }
-}
-
-/// Whether no variable stands in a value.
-#[cycle(constants)]
-fn is_constant(value: &ValueTree) -> bool
-    ensures { result ≡ is_constant (value_of value.now) }
-{
-    match value {
-        ValueTree::Variable(_) => false,
-        ValueTree::Int(_) => true,
-        ValueTree::Text(_) => true,
-        ValueTree::Bool(_) => true,
-        ValueTree::Null => true,
-        ValueTree::Enum(_) => true,
-        ValueTree::List(values) => are_constant(values),
-        ValueTree::Object(members) => have_constants(members),
-    }
-}
-
-/// Whether no variable stands in values.
-#[cycle(constants)]
-fn are_constant(values: &ValueTrees) -> bool
-    ensures { result ≡ are_constant (vals_of values.now) }
-{
-    'items: for value in values.as_slice() {
-        if !is_constant(value) {
-            return false;
-        }
-    }
-    true
-}
-
-/// Whether no variable stands in the values of members.
-#[cycle(constants)]
-fn have_constants(members: &Arguments) -> bool
-    ensures { result ≡ have_constants (members_of members.now) }
-{
-    'members: for member in members.as_slice() {
-        if !is_constant(&member.value) {
-            return false;
-        }
-    }
-    true
 }

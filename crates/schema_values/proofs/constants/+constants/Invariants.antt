@@ -3,7 +3,7 @@ use Rattle.std.proofs.Common.{◌≡◌, ◌+◌, ◌*◌, map, drop}
 use Rattle.gql_ast.specs.Value.{members_of, vals_of, val_depth, vals_depth, members_depth}
 use Rattle.gql_ast.specs.ValueView.{value_of, argument_of}
 use Rattle.schema_values.specs.Fittings.{are_constant, have_constants}
-use Rattle.relay_dirs.proofs.rules.locals.+constants.Given as goal
+use Rattle.schema_values.proofs.constants.+constants.Given as goal
 
 abbrev pub decreases-is_constant : goal.decreases-is_constant
 decreases-is_constant l = 2 * val_depth (value_of l.value.now)

@@ -3,7 +3,7 @@ use Rattle.std.proofs.Common.{◌≤◌, arith}
 use Rattle.gql_ast.specs.Value.{val_depth, vals_of, vals_depth, members_of, members_depth}
 use Rattle.gql_ast.specs.ValueView.{value_of}
 use Rattle.schema_trees.proofs.LocatedSteps.{value_below, member_below}
-use Rattle.relay_dirs.proofs.rules.locals.+constants.Goals as goal
+use Rattle.schema_values.proofs.constants.+constants.Goals as goal
 
 pub have_constants-is_constant-requires : goal.have_constants-is_constant-requires
 have_constants-is_constant-requires t c =
