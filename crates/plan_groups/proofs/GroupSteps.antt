@@ -108,3 +108,8 @@ module _ (gs all : List Fields) (f : FieldAt) (others : Vec FieldAt Global) (non
       ∙ (λ i. cond (bytes_eq (key i) n) (Some (whole i)) (was i))
       ∙ place_new (map group_of gs) (asked_at f) n unplaced
       ∙ ap (λ (hs : List (Group Plan)). place_of hs n) (sym one_more)
+
+-- ---- the key of one step
+
+pub only_key : (k j : Option Text) → k ∷ [] ≡ j ∷ [] → k ≡ j
+only_key k j e = cc

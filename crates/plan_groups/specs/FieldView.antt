@@ -1,5 +1,5 @@
 -- What fields of plans ask, and what stands below them.
-use Rattle.std.specs.Prelude.{[], codes, Option, Some, None, option_map, option_copied}
+use Rattle.std.specs.Prelude.{◌≡◌, [], codes, Option, Some, None, option_map, option_copied}
 use Rattle.plan_ir.specs.Normal.{Normal, done}
 use Rattle.plan_ir.specs.NormalMeaning.{Plan, connection_of_step}
 use Rattle.plan_groups.specs.declared.field.BelowAt.{BelowAt}
@@ -10,7 +10,7 @@ use Rattle.plan_groups.specs.declared.field.FormAt.TheVariants as F
 use Rattle.plan_groups.specs.declared.field.PlanAt.{PlanAt}
 use Rattle.schema_tables.specs.Types.{Text}
 use Rattle.schema_types.specs.Environments.{Values, arguments_in_environment}
-use Rattle.store_model.specs.Items.{Ask, Asked, Below, Form, typename, leaf, one, many}
+use Rattle.store_model.specs.Items.{Ask, Asked, Below, Form, key_of, typename, leaf, one, many}
 use Rattle.store_record.specs.Keys.{Arguments}
 
 abbrev pub steps_or_done : Option Normal → Normal
@@ -42,6 +42,10 @@ arguments_called env (Some c) = arguments_in_environment env c.arguments.now
 -- what a field asks
 abbrev pub ask_at : FieldAt → Ask
 ask_at f = record { response = f.response.now; name = name_called f.call; arguments = arguments_called f.part.env.now.values f.call; connection = option_map connection_of_step (option_copied f.connection); form = form_at f.form }
+
+-- the key that is kept with a field is the one that it is stored under
+abbrev pub IsKept : FieldAt → Type 0
+IsKept f = (key : Text) → option_copied f.key ≡ Some key → key ≡ key_of (ask_at f)
 
 -- a field, and what stands below it
 abbrev pub asked_at : FieldAt → Asked Plan

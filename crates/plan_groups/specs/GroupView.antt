@@ -1,10 +1,9 @@
 -- Fields by their response keys.
-use Rattle.std.specs.Prelude.{◌≡◌, List, map}
-use Rattle.std.specs.BTreeMap.{get_by}
-use Rattle.std.specs.Cmp.Lexicographic.{slice_cmp}
-use Rattle.std.specs.Ordering.{nat_cmp}
+use Rattle.std.specs.Prelude.{◌≡◌, List, map, bytes_eq}
+use Rattle.std.specs.List.{All}
+use Rattle.std.specs.HashMap.{get_by}
 use Rattle.plan_ir.specs.NormalMeaning.{Plan}
-use Rattle.plan_groups.specs.FieldView.{asked_at}
+use Rattle.plan_groups.specs.FieldView.{asked_at, IsKept}
 use Rattle.plan_groups.specs.Putting.{place_of}
 use Rattle.plan_groups.specs.declared.gathered.Fields.{Fields}
 use Rattle.plan_groups.specs.declared.gathered.Gathered.{Gathered}
@@ -17,6 +16,11 @@ group_of g = record { first = asked_at g.first; others = map asked_at g.others.i
 abbrev pub groups_in : Gathered → List (Group Plan)
 groups_in g = map group_of g.groups.items
 
--- each response key has the place of its group
-abbrev pub IsPlaced : Gathered → Type 0
-IsPlaced g = (n : Text) → get_by (λ k. slice_cmp nat_cmp n k.now) g.places ≡ place_of (groups_in g) n
+-- the key that is kept with the first field of each group is the one that it is stored under
+abbrev pub AreKept : List Fields → Type 0
+AreKept gs = All (λ g. IsKept g.first) gs
+
+-- each response key has the place of its group, and keys are kept
+pub record IsPlaced (g : Gathered) : Type 0 where
+  pub at : (n : Text) → get_by (λ k. bytes_eq n k.now) g.places ≡ place_of (groups_in g) n
+  pub kept : AreKept g.groups.items

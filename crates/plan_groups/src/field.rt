@@ -6,10 +6,11 @@ ghost use Rattle.store_model.specs.Items as items;
 ghost use Rattle.store_model.specs.Items.{asked};
 ghost use Rattle.store_model.specs.Reaches.{types_of};
 ghost use Rattle.store_model.specs.Says.{first_of};
-ghost use Rattle.plan_groups.specs.FieldView.{ask_at, asked_at, form_at, plan_at};
+ghost use Rattle.plan_ir.specs.FieldKeys.{constant_key};
+ghost use Rattle.plan_groups.specs.FieldView.{ask_at, asked_at, form_at, plan_at, IsKept};
 
 use gql_ast::Arguments;
-use gql_plain::{Conn, Ids, Name, NoMemory, Pairs, Words};
+use gql_plain::{Conn, Ids, Name, NoMemory, Pairs, SharedText, Words};
 use plan_ir::{NormalPlan, NormalSteps};
 use schema_values::{Env, evaluate_arguments};
 use std::alloc::Global;
@@ -127,12 +128,15 @@ pub(crate) struct FieldAt<'p> {
     pub(crate) form: FormAt<'p>,
     /// What stands below, and the environment.
     pub(crate) part: PlanAt<'p>,
+    /// The key that the field is stored under, where the plan keeps it.
+    pub(crate) key: Option<&'p SharedText>,
 }
 
 impl<'p> FieldAt<'p> {
     /// The name of the type of the record; takes no memory.
     pub(crate) fn type_name(env: &'p Env, response: &'p Name) -> FieldAt<'p>
-        ensures { asked (asked_at result) ≡ item_of (typename_ask response.now) env.now.values done }
+        ensures field { asked (asked_at result) ≡ item_of (typename_ask response.now) env.now.values done }
+        ensures kept { IsKept result }
     {
         FieldAt {
             response,
@@ -140,6 +144,7 @@ impl<'p> FieldAt<'p> {
             connection: None,
             form: FormAt::Typename,
             part: PlanAt { env, steps: None },
+            key: None,
         }
     }
 
@@ -149,8 +154,11 @@ impl<'p> FieldAt<'p> {
         response: &'p Name,
         name: &'p Name,
         arguments: &'p Arguments,
+        key: Option<&'p SharedText>,
     ) -> FieldAt<'p>
-        ensures { asked (asked_at result) ≡ item_of (ask_step env.now.values response.now name.now arguments.now None items.leaf) env.now.values done }
+        requires { option_copied key ≡ constant_key name.now arguments.now }
+        ensures field { asked (asked_at result) ≡ item_of (ask_step env.now.values response.now name.now arguments.now None items.leaf) env.now.values done }
+        ensures kept { IsKept result }
     {
         FieldAt {
             response,
@@ -158,6 +166,7 @@ impl<'p> FieldAt<'p> {
             connection: None,
             form: FormAt::Leaf,
             part: PlanAt { env, steps: None },
+            key,
         }
     }
 
@@ -171,13 +180,24 @@ impl<'p> FieldAt<'p> {
         }
     }
 
-    /// The key that the field is stored under; its arguments have these values.
-    pub(crate) fn key(&self, alloc: Global, arguments: &Pairs) -> Result<Words, NoMemory>
-        requires { arguments.now ≡ (ask_at self.now).arguments }
+    /// The key that the field is stored under: one more owner of the one that the plan keeps, where it
+    /// keeps it.
+    pub(crate) fn key(&self, alloc: Global) -> Result<SharedText, NoMemory>
+        requires { IsKept self.now }
+        ensures { IfOk result (λ key. key ≡ items.key_of (ask_at self.now)) }
+    {
+        match self.key {
+            Some(key) => key.copy(),
+            None => SharedText::new(alloc, self.made_key(alloc)?),
+        }
+    }
+
+    /// The key that the field is stored under, made of its name and the values of its arguments.
+    fn made_key(&self, alloc: Global) -> Result<Words, NoMemory>
         ensures { IfOk result (λ key. key ≡ items.key_of (ask_at self.now)) }
     {
         match self.call {
-            Some(call) => field_key(alloc, call.name, arguments),
+            Some(call) => field_key(alloc, call.name, &self.arguments(alloc)?),
             None => Words::new(alloc, "__typename"),
         }
     }

@@ -1,19 +1,20 @@
 //! The fields of steps by their response keys.
-ghost use Rattle.std.specs.Prelude.{◌≡◌, ◌<◌, [], map, length, set, slice_index, OnOk, IfOk};
+ghost use Rattle.std.specs.Prelude.{◌≡◌, ◌<◌, [], ◌∷◌, map, length, set, slice_index, OnOk, IfOk};
 ghost use Rattle.plan_ir.specs.NormalMeaning.{collect_steps, collect_plan};
+ghost use Rattle.plan_ir.specs.NormalKeys.{keys_of};
 ghost use Rattle.plan_ir.specs.NormalView.{step_of};
 ghost use Rattle.store_model.specs.Items.{asked_of, collect_all, grouped_onto, groups_at, with_asked};
-ghost use Rattle.plan_groups.specs.FieldView.{asked_at, plan_at};
-ghost use Rattle.plan_groups.specs.GroupView.{group_of, groups_in, IsPlaced};
+ghost use Rattle.plan_groups.specs.FieldView.{asked_at, plan_at, IsKept};
+ghost use Rattle.plan_groups.specs.GroupView.{group_of, groups_in, AreKept, IsPlaced};
 ghost use Rattle.plan_groups.specs.Putting.{put_at};
 
 use crate::field::{Call, FieldAt, PlanAt, connection_in, form_of_objects};
 use crate::guards::guard_passes;
-use gql_plain::NoMemory;
+use gql_plain::{NoMemory, SharedText};
 use plan_ir::{NormalStep, NormalSteps};
 use schema_values::Env;
 use std::alloc::Global;
-use std::collections::BTreeMap;
+use std::collections::HashMap;
 
 /// The fields of one response key.
 #[derive(Drop)]
@@ -27,7 +28,7 @@ pub(crate) struct Fields<'p> {
 pub(crate) struct Gathered<'p> {
     pub(crate) groups: Vec<Fields<'p>>,
     /// Where the fields of a response key stand.
-    pub(crate) places: BTreeMap<&'p str, usize>,
+    pub(crate) places: HashMap<&'p str, usize>,
 }
 
 /// The fields that plans ask of an object of that type.
@@ -36,7 +37,8 @@ pub(crate) fn gather<'p>(
     object: &str,
     parts: &[PlanAt<'p>],
 ) -> Result<Vec<Fields<'p>>, NoMemory>
-    ensures { IfOk result (λ groups. map group_of groups.items ≡ groups_at collect_plan object.now (map plan_at parts.now)) }
+    ensures groups { IfOk result (λ groups. map group_of groups.items ≡ groups_at collect_plan object.now (map plan_at parts.now)) }
+    ensures kept { IfOk result (λ groups. AreKept groups.items) }
 {
     let mut gathered = Gathered::new(alloc);
     'parts: for part in parts {
@@ -53,7 +55,7 @@ impl<'p> Gathered<'p> {
     {
         Gathered {
             groups: Vec::new(alloc),
-            places: BTreeMap::new(alloc),
+            places: HashMap::new(alloc),
         }
     }
 
@@ -82,8 +84,10 @@ impl<'p> Gathered<'p> {
         ensures put { OnOk result (groups_in self.new ≡ grouped_onto (groups_in self.old) (asked_of (collect_steps env.now.values object.now steps.now))) }
         ensures placed { OnOk result (IsPlaced self.new) }
     {
-        'steps: for step in steps.as_slice() {
-            self.put_step(alloc, env, object, step)?;
+        let items = steps.as_slice();
+        let keys = steps.keys();
+        'steps: for (at, step) in items.iter().enumerate() {
+            self.put_step(alloc, env, object, step, &keys[at])?;
         }
         Ok(())
     }
@@ -96,8 +100,10 @@ impl<'p> Gathered<'p> {
         env: &'p Env,
         object: &str,
         step: &'p NormalStep,
+        key: &'p Option<SharedText>,
     ) -> Result<(), NoMemory>
-        requires { IsPlaced self.old }
+        requires placed { IsPlaced self.old }
+        requires key { key.now ∷ [] ≡ keys_of (step_of step.now) }
         ensures put { OnOk result (groups_in self.new ≡ grouped_onto (groups_in self.old) (asked_of (collect_steps env.now.values object.now (step_of step.now)))) }
         ensures placed { OnOk result (IsPlaced self.new) }
     {
@@ -109,7 +115,10 @@ impl<'p> Gathered<'p> {
                 response,
                 name,
                 arguments,
-            } => self.put(alloc, FieldAt::leaf(env, response, name, arguments)),
+            } => self.put(
+                alloc,
+                FieldAt::leaf(env, response, name, arguments, key.as_ref()),
+            ),
             NormalStep::Object {
                 response,
                 name,
@@ -127,6 +136,7 @@ impl<'p> Gathered<'p> {
                     connection: connection_in(connection),
                     form: form_of_objects(*many, types, identified, *open_type),
                     part: PlanAt::new(env, child),
+                    key: key.as_ref(),
                 };
                 self.put(alloc, field)
             }
@@ -142,7 +152,8 @@ impl<'p> Gathered<'p> {
 
     /// Puts a field behind those of its response key.
     fn put(&mut self, alloc: Global, field: FieldAt<'p>) -> Result<(), NoMemory>
-        requires { IsPlaced self.old }
+        requires placed { IsPlaced self.old }
+        requires kept { IsKept field }
         ensures put { OnOk result (groups_in self.new ≡ with_asked (groups_in self.old) (asked_at field.entry)) }
         ensures placed { OnOk result (IsPlaced self.new) }
     {
@@ -171,7 +182,8 @@ fn put_behind<'p>(
     field: FieldAt<'p>,
 ) -> Result<(), NoMemory>
     requires { place < length groups.old.items }
-    ensures { OnOk result (map group_of groups.new.items ≡ put_at place (map group_of groups.old.items) (asked_at field.entry)) }
+    ensures put { OnOk result (map group_of groups.new.items ≡ put_at place (map group_of groups.old.items) (asked_at field.entry)) }
+    ensures kept { OnOk result (AreKept groups.old.items → AreKept groups.new.items) }
 {
     let group = &mut groups[place];
     group.others.push(field)?;

@@ -5,7 +5,7 @@ ghost use Rattle.plan_ir.specs.NormalMeaning.{collect_plan};
 ghost use Rattle.store_model.specs.Items.{asks, handle_of, key_of, parts};
 ghost use Rattle.store_model.specs.Reaches.{types_of};
 ghost use Rattle.store_model.specs.Says as says;
-ghost use Rattle.plan_groups.specs.FieldView.{ask_at, asked_at, form_at, plan_at};
+ghost use Rattle.plan_groups.specs.FieldView.{ask_at, asked_at, form_at, plan_at, IsKept};
 ghost use Rattle.plan_groups.specs.GroupView.{group_of};
 ghost use Rattle.plan_groups.specs.Made.{AreKept};
 
@@ -24,8 +24,6 @@ pub struct GroupAt<'p> {
     fields: Fields<'p>,
     /// What stands below the fields, where there are several.
     parts: Vec<PlanAt<'p>>,
-    /// The values of the first field's arguments.
-    arguments: Pairs,
     key: SharedText,
     handles: Ids,
 }
@@ -46,22 +44,21 @@ impl<'p> Model for GroupAt<'p> {
 
     ghost view = { λ g. group_of g.fields };
 
-    ghost invariant = { λ g. IsMade (group_of g.fields) (map plan_at g.parts.items) g.arguments g.key g.handles };
+    ghost invariant = { λ g. IsMade (group_of g.fields) (map plan_at g.parts.items) g.key g.handles };
 }
 
 impl<'p> GroupAt<'p> {
     /// The group of these fields.
     pub(crate) fn of(alloc: Global, fields: Fields<'p>) -> Result<GroupAt<'p>, NoMemory>
+        requires { IsKept fields.first }
         ensures { IfOk result (λ group. group ≡ group_of fields.entry) }
     {
-        let arguments = fields.first.arguments(alloc)?;
-        let key = SharedText::new(alloc, fields.first.key(alloc, &arguments)?)?;
-        let handles = handles_of(alloc, &fields, &arguments)?;
+        let key = fields.first.key(alloc)?;
+        let handles = handles_of(alloc, &fields)?;
         let parts = parts_of(alloc, &fields)?;
         Ok(GroupAt {
             fields,
             parts,
-            arguments,
             key,
             handles,
         })
@@ -105,19 +102,26 @@ impl<'p> GroupAt<'p> {
         self.handles.as_slice()
     }
 
+    /// The values of the first field's arguments.
+    fn arguments(&self, alloc: Global) -> Result<Pairs, NoMemory>
+        ensures { IfOk result (λ arguments. arguments ≡ self.now.first.ask.arguments) }
+    {
+        self.fields.first.arguments(alloc)
+    }
+
     /// The value of the argument `after` of the first field, null where it is not given (Cursor
     /// Connections, section 4).
-    pub fn after(&self) -> Result<Plain, NoMemory>
+    pub fn after(&self, alloc: Global) -> Result<Plain, NoMemory>
         ensures { IfOk result (λ plain. plain ≡ says.value_of (codes "after") self.now.first.ask.arguments) }
     {
-        value_or_null(&self.arguments, "after")
+        value_or_null(&self.arguments(alloc)?, "after")
     }
 
     /// The value of the argument `before` of the first field, null where it is not given.
-    pub fn before(&self) -> Result<Plain, NoMemory>
+    pub fn before(&self, alloc: Global) -> Result<Plain, NoMemory>
         ensures { IfOk result (λ plain. plain ≡ says.value_of (codes "before") self.now.first.ask.arguments) }
     {
-        value_or_null(&self.arguments, "before")
+        value_or_null(&self.arguments(alloc)?, "before")
     }
 
     /// The type of the page where the fields are of a connection: the first possible type of the
@@ -160,14 +164,12 @@ fn put_parts<'p>(parts: &mut Vec<PlanAt<'p>>, fields: &[FieldAt<'p>]) -> Result<
     Ok(())
 }
 
-/// The distinct keys of the connections of the fields, in byte order; the first field's arguments
-/// have these values.
-fn handles_of(alloc: Global, fields: &Fields<'_>, arguments: &Pairs) -> Result<Ids, NoMemory>
-    requires { arguments.now ≡ (ask_at fields.now.first).arguments }
+/// The distinct keys of the connections of the fields, in byte order.
+fn handles_of(alloc: Global, fields: &Fields<'_>) -> Result<Ids, NoMemory>
     ensures { IfOk result (λ keys. keys ≡ sorted_texts (says.handles (asks (group_of fields.now)))) }
 {
     let mut keys = Vec::new(alloc);
-    put_handle(alloc, &mut keys, &fields.first, arguments)?;
+    put_own_handle(alloc, &mut keys, &fields.first)?;
     put_handles(alloc, &mut keys, &fields.others)?;
     if keys.is_empty() {
         return Ok(Ids::new(alloc));

@@ -46,8 +46,8 @@ fn page_of(
         parent: id.copy()?,
         handle_key: handle.copy()?,
         field_key: group.key().as_words().copy()?,
-        after: group.after()?,
-        before: group.before()?,
+        after: group.after(alloc)?,
+        before: group.before(alloc)?,
         page_type: Words::new(alloc, page_type)?,
         info_type: Words::new(alloc, info_type)?,
     })

@@ -4,3 +4,6 @@ pub mod ReaderDepth
 pub mod ReaderLaws
 pub mod ExpansionRows
 pub mod TextRows
+pub mod KeptKeys
+pub mod NormalKeys
+pub mod ReaderKeys

@@ -2,6 +2,7 @@ pub mod Nodes
 pub mod NodesCode
 pub mod NodesView
 pub mod NodesFall
+pub mod FieldKeys
 pub mod Normal
 pub mod NormalCode
 pub mod NormalView
@@ -18,3 +19,5 @@ pub mod OperationText
 pub mod NormalMeaning
 pub mod NormalReach
 pub mod ReaderMeaning
+pub mod NormalKeys
+pub mod ReaderKeys

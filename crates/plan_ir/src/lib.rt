@@ -10,6 +10,7 @@ mod copies;
 pub mod expanded;
 pub mod form;
 pub mod guard;
+mod keys;
 pub mod node;
 pub mod normal;
 pub mod reader;

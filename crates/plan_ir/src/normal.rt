@@ -1,12 +1,14 @@
 //! Plans by which a response is normalized.
-ghost use Rattle.std.specs.Prelude.{◌≡◌, IfOk, OnOk, OnErr, IsTrue, ◌↔◌};
+ghost use Rattle.std.specs.Prelude.{◌≡◌, [], ◌∷◌, IfOk, OnOk, OnErr, IsTrue, ◌↔◌};
 ghost use Rattle.plan_ir.specs.Normal.{done, normal_append, number_of};
+ghost use Rattle.plan_ir.specs.NormalKeys.{keys_of};
 ghost use Rattle.plan_ir.specs.NormalView.{step_of, steps_of};
 
 use crate::copies::copy_of_conn;
 use crate::guard::Guard;
+use crate::keys::{constant_key, copy_of_keys};
 use gql_ast::Arguments;
-use gql_plain::{Conn, Ids, Name, NoMemory};
+use gql_plain::{Conn, Ids, Name, NoMemory, SharedText};
 use std::alloc::Global;
 use std::marker::Model;
 
@@ -58,7 +60,9 @@ pub enum NormalStep {
 #[cycle(normal)]
 #[derive(Debug, Drop)]
 pub struct NormalSteps {
-    pub items: Vec<NormalStep>,
+    items: Vec<NormalStep>,
+    /// The key that the field of each step is stored under, where no variable changes it.
+    keys: Vec<Option<SharedText>>,
 }
 
 impl Model for NormalSteps {
@@ -72,6 +76,11 @@ impl Model for NormalSteps {
     ghost use Rattle.plan_ir.specs.NormalView.{steps_of};
 
     ghost view = { λ s. steps_of s.items.items };
+
+    ghost use Rattle.std.specs.Prelude.{◌≡◌};
+    ghost use Rattle.plan_ir.specs.NormalKeys.{keys_of};
+
+    ghost invariant = { λ s. s.keys.items ≡ keys_of (steps_of s.items.items) };
 
     ghost size = { depth };
 
@@ -87,6 +96,7 @@ impl NormalSteps {
     {
         NormalSteps {
             items: Vec::new(alloc),
+            keys: Vec::new(alloc),
         }
     }
 
@@ -95,8 +105,15 @@ impl NormalSteps {
         ensures ok { OnOk result (self.new ≡ normal_append self.old (step_of step)) }
         ensures err { OnErr result (self.new ≡ self.old) }
     {
-        self.items.push(step)?;
-        Ok(())
+        let key = kept_key(*self.items.allocator(), &step)?;
+        self.keys.push(key)?;
+        match self.items.push(step) {
+            Ok(()) => Ok(()),
+            Err(_) => {
+                drop(self.keys.pop());
+                Err(NoMemory)
+            }
+        }
     }
 
     /// The steps in order.
@@ -104,6 +121,14 @@ impl NormalSteps {
         ensures { steps_of result.now ≡ self.now }
     {
         &self.items
+    }
+
+    /// For each step the key that its field is stored under, made once; None for what is no field, and
+    /// for a field in whose arguments a variable stands. Takes no memory.
+    pub fn keys(&self) -> &[Option<SharedText>]
+        ensures { result.now ≡ keys_of self.now }
+    {
+        &self.keys
     }
 
     /// The number of steps, those inside them not counted.
@@ -129,7 +154,28 @@ impl NormalSteps {
         'steps: for step in &self.items {
             items.push(step.copy()?)?;
         }
-        Ok(NormalSteps { items })
+        let keys = copy_of_keys(&self.keys)?;
+        Ok(NormalSteps { items, keys })
+    }
+}
+
+/// The key that the field of a step is stored under, where no variable changes it.
+fn kept_key(alloc: Global, step: &NormalStep) -> Result<Option<SharedText>, NoMemory>
+    ensures { IfOk result (λ key. key ∷ [] ≡ keys_of (step_of step.now)) }
+{
+    match step {
+        NormalStep::Typename { .. } => Ok(None),
+        NormalStep::Leaf {
+            name,
+            arguments,
+            ..
+        } => constant_key(alloc, name, arguments),
+        NormalStep::Object {
+            name,
+            arguments,
+            ..
+        } => constant_key(alloc, name, arguments),
+        NormalStep::Guarded { .. } => Ok(None),
     }
 }
 

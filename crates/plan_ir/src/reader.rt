@@ -1,12 +1,14 @@
 //! Plans by which records are read.
-ghost use Rattle.std.specs.Prelude.{◌≡◌, IfOk, OnOk, OnErr, IsTrue, ◌↔◌};
+ghost use Rattle.std.specs.Prelude.{◌≡◌, [], ◌∷◌, IfOk, OnOk, OnErr, IsTrue, ◌↔◌};
 ghost use Rattle.plan_ir.specs.Reader.{done, reader_append, number_of};
+ghost use Rattle.plan_ir.specs.ReaderKeys.{keys_of};
 ghost use Rattle.plan_ir.specs.ReaderView.{step_of, steps_of};
 
 use crate::copies::copy_of_conn;
 use crate::guard::Guard;
+use crate::keys::{constant_key, copy_of_keys};
 use gql_ast::Arguments;
-use gql_plain::{Conn, Ids, Name, NoMemory};
+use gql_plain::{Conn, Ids, Name, NoMemory, SharedText};
 use std::alloc::Global;
 use std::marker::Model;
 
@@ -66,7 +68,9 @@ pub enum ReaderStep {
 #[cycle(reader)]
 #[derive(Debug, Drop)]
 pub struct ReaderSteps {
-    pub items: Vec<ReaderStep>,
+    items: Vec<ReaderStep>,
+    /// The key that the field of each step is stored under, where no variable changes it.
+    keys: Vec<Option<SharedText>>,
 }
 
 impl Model for ReaderSteps {
@@ -80,6 +84,11 @@ impl Model for ReaderSteps {
     ghost use Rattle.plan_ir.specs.ReaderView.{steps_of};
 
     ghost view = { λ s. steps_of s.items.items };
+
+    ghost use Rattle.std.specs.Prelude.{◌≡◌};
+    ghost use Rattle.plan_ir.specs.ReaderKeys.{keys_of};
+
+    ghost invariant = { λ s. s.keys.items ≡ keys_of (steps_of s.items.items) };
 
     ghost size = { depth };
 
@@ -95,6 +104,7 @@ impl ReaderSteps {
     {
         ReaderSteps {
             items: Vec::new(alloc),
+            keys: Vec::new(alloc),
         }
     }
 
@@ -103,8 +113,15 @@ impl ReaderSteps {
         ensures ok { OnOk result (self.new ≡ reader_append self.old (step_of step)) }
         ensures err { OnErr result (self.new ≡ self.old) }
     {
-        self.items.push(step)?;
-        Ok(())
+        let key = kept_key(*self.items.allocator(), &step)?;
+        self.keys.push(key)?;
+        match self.items.push(step) {
+            Ok(()) => Ok(()),
+            Err(_) => {
+                drop(self.keys.pop());
+                Err(NoMemory)
+            }
+        }
     }
 
     /// The steps in order.
@@ -112,6 +129,14 @@ impl ReaderSteps {
         ensures { steps_of result.now ≡ self.now }
     {
         &self.items
+    }
+
+    /// For each step the key that its field is stored under, made once; None for what is no field, and
+    /// for a field in whose arguments a variable stands. Takes no memory.
+    pub fn keys(&self) -> &[Option<SharedText>]
+        ensures { result.now ≡ keys_of self.now }
+    {
+        &self.keys
     }
 
     /// The number of steps, those inside them not counted.
@@ -137,7 +162,29 @@ impl ReaderSteps {
         'steps: for step in &self.items {
             items.push(step.copy()?)?;
         }
-        Ok(ReaderSteps { items })
+        let keys = copy_of_keys(&self.keys)?;
+        Ok(ReaderSteps { items, keys })
+    }
+}
+
+/// The key that the field of a step is stored under, where no variable changes it.
+fn kept_key(alloc: Global, step: &ReaderStep) -> Result<Option<SharedText>, NoMemory>
+    ensures { IfOk result (λ key. key ∷ [] ≡ keys_of (step_of step.now)) }
+{
+    match step {
+        ReaderStep::Typename { .. } => Ok(None),
+        ReaderStep::Leaf {
+            name,
+            arguments,
+            ..
+        } => constant_key(alloc, name, arguments),
+        ReaderStep::Object {
+            name,
+            arguments,
+            ..
+        } => constant_key(alloc, name, arguments),
+        ReaderStep::Guarded { .. } => Ok(None),
+        ReaderStep::Pointer { .. } => Ok(None),
     }
 }
 

@@ -1,5 +1,5 @@
 -- What fields and spreads of plans ask, and what stands below them.
-use Rattle.std.specs.Prelude.{true, false, Option, Some, None, option_map, option_copied}
+use Rattle.std.specs.Prelude.{◌≡◌, true, false, Option, Some, None, option_map, option_copied}
 use Rattle.gql_ast.specs.Value.{Val}
 use Rattle.plan_groups.specs.FieldView.{arguments_called, form_at, name_called}
 use Rattle.plan_ir.specs.NormalMeaning.{connection_of_step}
@@ -10,7 +10,7 @@ use Rattle.gql_plain.specs.Tree.{Tree}
 use Rattle.schema_tables.specs.Types.{Text}
 use Rattle.schema_types.specs.Environments.{Values, evaluation}
 use Rattle.std.specs.Prelude.{List}
-use Rattle.store_model.specs.Items.{Ask, Asked, Pointer}
+use Rattle.store_model.specs.Items.{Ask, Asked, Pointer, key_of}
 use Rattle.store_read.specs.declared.field.FieldAt.{FieldAt}
 use Rattle.store_read.specs.declared.field.PartAt.{PartAt}
 use Rattle.store_read.specs.declared.spread.SpreadAt.{SpreadAt}
@@ -26,6 +26,10 @@ part_at p = record { environment = p.env.now.values; steps = steps_or_done (opti
 -- what a field asks
 abbrev pub ask_at : FieldAt → Ask
 ask_at f = record { response = f.response.now; name = name_called f.call; arguments = arguments_called f.part.env.now.values f.call; connection = option_map connection_of_step (option_copied f.connection); form = form_at f.form }
+
+-- the key that is kept with a field is the one that it is stored under
+abbrev pub IsKept : FieldAt → Type 0
+IsKept f = (key : Text) → option_copied f.key ≡ Some key → key ≡ key_of (ask_at f)
 
 -- a field, and what stands below it
 abbrev pub asked_at : FieldAt → Asked ReaderPart

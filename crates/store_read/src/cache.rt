@@ -1,6 +1,6 @@
 //! What plans ask of records, by types.
 use crate::field::PartAt;
-use gql_plain::{Ids, Pairs, Words};
+use gql_plain::{Ids, Pairs, SharedText};
 use plan_groups::FormAt;
 use std::collections::BTreeMap;
 use std::marker::Model;
@@ -34,7 +34,7 @@ pub(crate) struct TypeItems<'p> {
 pub(crate) struct FieldGroup<'p> {
     pub(crate) response: &'p str,
     /// The key that they are read under, made once.
-    pub(crate) key: Words,
+    pub(crate) key: SharedText,
     pub(crate) form: FormAt<'p>,
     pub(crate) below: Cache<'p>,
 }

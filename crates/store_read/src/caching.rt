@@ -2,8 +2,8 @@
 ghost use Rattle.std.specs.Prelude.{◌≡◌, ◌++◌, ◌∷◌, [], map, IfOk, OnOk};
 ghost use Rattle.store_read.specs.CacheView.{AreRight, IsPlaceOf, IsRight, IsTypeAt, group_view, pointer_view};
 ghost use Rattle.store_read.specs.Caching.{read_group, read_pointer};
-ghost use Rattle.store_read.specs.FieldView.{part_at, spread_at};
-ghost use Rattle.store_read.specs.Gathering.{group_of};
+ghost use Rattle.store_read.specs.FieldView.{part_at, spread_at, IsKept};
+ghost use Rattle.store_read.specs.Gathering.{group_of, AreKept};
 ghost use Rattle.store_model.specs.Items.{parts};
 
 use crate::cache::{Cache, FieldGroup, PointerAt, TypeItems};
@@ -105,6 +105,7 @@ fn groups_made<'p>(
     groups: &[Fields<'p>],
     levels: usize,
 ) -> Result<Vec<FieldGroup<'p>>, NoMemory>
+    requires { AreKept groups.now }
     ensures { IfOk result (λ made. map group_view made.items ≡ map (read_group levels) (map group_of groups.now)) }
 {
     let mut made = Vec::with_capacity(alloc, groups.len())?;
@@ -120,6 +121,7 @@ fn group_made<'p>(
     fields: &Fields<'p>,
     levels: usize,
 ) -> Result<FieldGroup<'p>, NoMemory>
+    requires { IsKept fields.now.first }
     ensures { IfOk result (λ made. group_view made ≡ read_group levels (group_of fields.now)) }
 {
     let key = fields.first.read_key(alloc)?;

@@ -1,15 +1,16 @@
 //! Fields of plans in the environments of their operations.
-ghost use Rattle.std.specs.Prelude.{◌≡◌, None, IfOk};
+ghost use Rattle.std.specs.Prelude.{◌≡◌, None, option_copied, IfOk};
+ghost use Rattle.plan_ir.specs.FieldKeys.{constant_key};
 ghost use Rattle.plan_ir.specs.NormalMeaning.{ask_step, typename_ask};
 ghost use Rattle.plan_ir.specs.Reader.{done};
 ghost use Rattle.plan_ir.specs.ReaderMeaning.{field_item};
 ghost use Rattle.store_model.specs.Items as items;
 ghost use Rattle.store_model.specs.Items.{asked};
 ghost use Rattle.store_model.specs.Walks as walks;
-ghost use Rattle.store_read.specs.FieldView.{ask_at, asked_at, part_at};
+ghost use Rattle.store_read.specs.FieldView.{ask_at, asked_at, part_at, IsKept};
 
 use gql_ast::Arguments;
-use gql_plain::{Conn, Name, NoMemory, Pairs, Words};
+use gql_plain::{Conn, Name, NoMemory, Pairs, SharedText, Words};
 use plan_groups::{Call, FormAt};
 use plan_ir::{ReaderPlan, ReaderSteps};
 use schema_values::{Env, evaluate_arguments};
@@ -46,12 +47,15 @@ pub(crate) struct FieldAt<'p> {
     pub(crate) form: FormAt<'p>,
     /// What stands below, and the environment.
     pub(crate) part: PartAt<'p>,
+    /// The key that the field is stored under, where the plan keeps it.
+    pub(crate) key: Option<&'p SharedText>,
 }
 
 impl<'p> FieldAt<'p> {
     /// The name of the type of the record; takes no memory.
     pub(crate) fn type_name(env: &'p Env, response: &'p Name) -> FieldAt<'p>
-        ensures { asked (asked_at result) ≡ field_item (typename_ask response.now) env.now.values done }
+        ensures field { asked (asked_at result) ≡ field_item (typename_ask response.now) env.now.values done }
+        ensures kept { IsKept result }
     {
         FieldAt {
             response,
@@ -59,6 +63,7 @@ impl<'p> FieldAt<'p> {
             connection: None,
             form: FormAt::Typename,
             part: PartAt { env, steps: None },
+            key: None,
         }
     }
 
@@ -68,8 +73,11 @@ impl<'p> FieldAt<'p> {
         response: &'p Name,
         name: &'p Name,
         arguments: &'p Arguments,
+        key: Option<&'p SharedText>,
     ) -> FieldAt<'p>
-        ensures { asked (asked_at result) ≡ field_item (ask_step env.now.values response.now name.now arguments.now None items.leaf) env.now.values done }
+        requires { option_copied key ≡ constant_key name.now arguments.now }
+        ensures field { asked (asked_at result) ≡ field_item (ask_step env.now.values response.now name.now arguments.now None items.leaf) env.now.values done }
+        ensures kept { IsKept result }
     {
         FieldAt {
             response,
@@ -77,17 +85,22 @@ impl<'p> FieldAt<'p> {
             connection: None,
             form: FormAt::Leaf,
             part: PartAt { env, steps: None },
+            key,
         }
     }
 
-    /// The key that the field is read under: that of its connection, or its own where it has none.
-    pub(crate) fn read_key(&self, alloc: Global) -> Result<Words, NoMemory>
+    /// The key that the field is read under: that of its connection, or its own where it has none, which
+    /// the plan may keep.
+    pub(crate) fn read_key(&self, alloc: Global) -> Result<SharedText, NoMemory>
+        requires { IsKept self.now }
         ensures { IfOk result (λ key. key ≡ walks.read_key (ask_at self.now)) }
     {
-        let arguments = self.arguments(alloc)?;
         match self.connection {
-            Some(connection) => handle_key(alloc, connection, &arguments),
-            None => self.own_key(alloc, &arguments),
+            Some(connection) => {
+                let key = handle_key(alloc, connection, &self.arguments(alloc)?)?;
+                SharedText::new(alloc, key)
+            }
+            None => self.own_key(alloc),
         }
     }
 
@@ -101,13 +114,24 @@ impl<'p> FieldAt<'p> {
         }
     }
 
-    /// The key that the field is stored under; its arguments have these values.
-    fn own_key(&self, alloc: Global, arguments: &Pairs) -> Result<Words, NoMemory>
-        requires { arguments.now ≡ (ask_at self.now).arguments }
+    /// The key that the field is stored under: one more owner of the one that the plan keeps, where it
+    /// keeps it.
+    fn own_key(&self, alloc: Global) -> Result<SharedText, NoMemory>
+        requires { IsKept self.now }
+        ensures { IfOk result (λ key. key ≡ items.key_of (ask_at self.now)) }
+    {
+        match self.key {
+            Some(key) => key.copy(),
+            None => SharedText::new(alloc, self.made_key(alloc)?),
+        }
+    }
+
+    /// The key that the field is stored under, made of its name and the values of its arguments.
+    fn made_key(&self, alloc: Global) -> Result<Words, NoMemory>
         ensures { IfOk result (λ key. key ≡ items.key_of (ask_at self.now)) }
     {
         match self.call {
-            Some(call) => field_key(alloc, call.name, arguments),
+            Some(call) => field_key(alloc, call.name, &self.arguments(alloc)?),
             None => Words::new(alloc, "__typename"),
         }
     }

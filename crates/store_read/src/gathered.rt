@@ -1,21 +1,22 @@
 //! What plans ask of a record: fields by their response keys, and spreads by their fragments.
-ghost use Rattle.std.specs.Prelude.{◌≡◌, ◌<◌, [], length, map, set, IfOk, OnOk};
+ghost use Rattle.std.specs.Prelude.{◌≡◌, ◌<◌, [], ◌∷◌, length, map, set, IfOk, OnOk};
 ghost use Rattle.plan_ir.specs.ReaderMeaning.{collect_reader, collect_reading};
+ghost use Rattle.plan_ir.specs.ReaderKeys.{keys_of};
 ghost use Rattle.plan_ir.specs.ReaderView.{step_of};
 ghost use Rattle.plan_groups.specs.Putting.{put_at};
 ghost use Rattle.store_model.specs.Items.{asked_of, collect_all, grouped_onto, groups_at, pointers_on, with_asked};
-ghost use Rattle.store_read.specs.FieldView.{asked_at, part_at, spread_at};
-ghost use Rattle.store_read.specs.Gathering.{group_of, groups_in, spreads_in, IsPlaced};
+ghost use Rattle.store_read.specs.FieldView.{asked_at, part_at, spread_at, IsKept};
+ghost use Rattle.store_read.specs.Gathering.{group_of, groups_in, spreads_in, AreKept, IsPlaced};
 ghost use Rattle.store_read.specs.Spreads.{pointers_onto, with_pointer};
 
 use crate::field::{FieldAt, PartAt};
 use crate::spread::SpreadAt;
-use gql_plain::NoMemory;
+use gql_plain::{NoMemory, SharedText};
 use plan_groups::{Call, connection_in, form_of_objects, guard_passes};
 use plan_ir::{ReaderStep, ReaderSteps};
 use schema_values::Env;
 use std::alloc::Global;
-use std::collections::BTreeMap;
+use std::collections::{BTreeMap, HashMap};
 
 /// The fields of one response key.
 #[derive(Drop)]
@@ -30,7 +31,7 @@ pub(crate) struct Fields<'p> {
 pub(crate) struct Gathered<'p> {
     pub(crate) groups: Vec<Fields<'p>>,
     /// Where the fields of a response key stand.
-    pub(crate) places: BTreeMap<&'p str, usize>,
+    pub(crate) places: HashMap<&'p str, usize>,
     pub(crate) spreads: Vec<SpreadAt<'p>>,
     /// Where the spread of a fragment stands.
     pub(crate) fragments: BTreeMap<&'p str, usize>,
@@ -45,6 +46,7 @@ pub(crate) fn gather<'p>(
 ) -> Result<Gathered<'p>, NoMemory>
     ensures groups { IfOk result (λ gathered. groups_in gathered ≡ groups_at collect_reader object.now (map part_at parts.now)) }
     ensures spreads { IfOk result (λ gathered. spreads_in gathered ≡ pointers_on collect_reader object.now (map part_at parts.now)) }
+    ensures kept { IfOk result (λ gathered. AreKept gathered.groups.items) }
 {
     let mut gathered = Gathered::new(alloc);
     'parts: for part in parts {
@@ -62,7 +64,7 @@ impl<'p> Gathered<'p> {
     {
         Gathered {
             groups: Vec::new(alloc),
-            places: BTreeMap::new(alloc),
+            places: HashMap::new(alloc),
             spreads: Vec::new(alloc),
             fragments: BTreeMap::new(alloc),
         }
@@ -95,8 +97,10 @@ impl<'p> Gathered<'p> {
         ensures spreads { OnOk result (spreads_in self.new ≡ pointers_onto (spreads_in self.old) (collect_reading env.now.values object.now steps.now)) }
         ensures placed { OnOk result (IsPlaced self.new) }
     {
-        'steps: for step in steps.as_slice() {
-            self.put_step(alloc, env, object, step)?;
+        let items = steps.as_slice();
+        let keys = steps.keys();
+        'steps: for (at, step) in items.iter().enumerate() {
+            self.put_step(alloc, env, object, step, &keys[at])?;
         }
         Ok(())
     }
@@ -109,8 +113,10 @@ impl<'p> Gathered<'p> {
         env: &'p Env,
         object: &str,
         step: &'p ReaderStep,
+        key: &'p Option<SharedText>,
     ) -> Result<(), NoMemory>
-        requires { IsPlaced self.old }
+        requires placed { IsPlaced self.old }
+        requires key { key.now ∷ [] ≡ keys_of (step_of step.now) }
         ensures groups { OnOk result (groups_in self.new ≡ grouped_onto (groups_in self.old) (asked_of (collect_reading env.now.values object.now (step_of step.now)))) }
         ensures spreads { OnOk result (spreads_in self.new ≡ pointers_onto (spreads_in self.old) (collect_reading env.now.values object.now (step_of step.now))) }
         ensures placed { OnOk result (IsPlaced self.new) }
@@ -123,7 +129,10 @@ impl<'p> Gathered<'p> {
                 response,
                 name,
                 arguments,
-            } => self.put_field(alloc, FieldAt::leaf(env, response, name, arguments)),
+            } => self.put_field(
+                alloc,
+                FieldAt::leaf(env, response, name, arguments, key.as_ref()),
+            ),
             ReaderStep::Object {
                 response,
                 name,
@@ -141,6 +150,7 @@ impl<'p> Gathered<'p> {
                     connection: connection_in(connection),
                     form: form_of_objects(*many, types, identified, *open_type),
                     part: PartAt::new(env, child),
+                    key: key.as_ref(),
                 };
                 self.put_field(alloc, field)
             }
@@ -161,7 +171,8 @@ impl<'p> Gathered<'p> {
 
     /// Puts a field behind those of its response key.
     fn put_field(&mut self, alloc: Global, field: FieldAt<'p>) -> Result<(), NoMemory>
-        requires { IsPlaced self.old }
+        requires placed { IsPlaced self.old }
+        requires kept { IsKept field }
         ensures groups { OnOk result (groups_in self.new ≡ with_asked (groups_in self.old) (asked_at field.entry)) }
         ensures spreads { OnOk result (spreads_in self.new ≡ spreads_in self.old) }
         ensures placed { OnOk result (IsPlaced self.new) }
@@ -209,7 +220,8 @@ fn put_behind<'p>(
     field: FieldAt<'p>,
 ) -> Result<(), NoMemory>
     requires { place < length groups.old.items }
-    ensures { OnOk result (map group_of groups.new.items ≡ put_at place (map group_of groups.old.items) (asked_at field.entry)) }
+    ensures put { OnOk result (map group_of groups.new.items ≡ put_at place (map group_of groups.old.items) (asked_at field.entry)) }
+    ensures kept { OnOk result (AreKept groups.old.items → AreKept groups.new.items) }
 {
     let group = &mut groups[place];
     group.others.push(field)?;

@@ -15,8 +15,8 @@ decreases-put_step l = 2 * depth (step_of l.step.now)
 
 abbrev pub invariant-put_steps-steps : goal.invariant-put_steps-steps
 invariant-put_steps-steps l = record {
-  within : steps_of l.step-items ≡ l.steps;
-  put : grouped_onto (groups_in l.self) (asked_of (collect_steps l.env.values l.object (steps_of (drop l.step-index l.step-items))))
+  within : steps_of l.items ≡ l.steps;
+  put : grouped_onto (groups_in l.self) (asked_of (collect_steps l.env.values l.object (steps_of (drop l.at l.items))))
       ≡ grouped_onto (groups_in l.initial.self) (asked_of (collect_steps l.env.values l.object l.steps));
   placed : IsPlaced l.self;
 }

@@ -16,10 +16,10 @@ decreases-put_step l = 2 * depth (step_of l.step.now)
 
 abbrev pub invariant-put_steps-steps : goal.invariant-put_steps-steps
 invariant-put_steps-steps l = record {
-  within : steps_of l.step-items ≡ l.steps;
-  groups : grouped_onto (groups_in l.self) (asked_of (collect_reading l.env.values l.object (steps_of (drop l.step-index l.step-items))))
+  within : steps_of l.items ≡ l.steps;
+  groups : grouped_onto (groups_in l.self) (asked_of (collect_reading l.env.values l.object (steps_of (drop l.at l.items))))
       ≡ grouped_onto (groups_in l.initial.self) (asked_of (collect_reading l.env.values l.object l.steps));
-  spreads : pointers_onto (spreads_in l.self) (collect_reading l.env.values l.object (steps_of (drop l.step-index l.step-items)))
+  spreads : pointers_onto (spreads_in l.self) (collect_reading l.env.values l.object (steps_of (drop l.at l.items)))
       ≡ pointers_onto (spreads_in l.initial.self) (collect_reading l.env.values l.object l.steps);
   placed : IsPlaced l.self;
 }

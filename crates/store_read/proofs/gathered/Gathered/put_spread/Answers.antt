@@ -28,6 +28,7 @@ returns-in_ok-push-in-None-clause-spreads c =
 pub returns-in_ok-push-in-None-clause-placed : goal.returns-in_ok-push-in-None-clause-placed
 returns-in_ok-push-in-None-clause-placed c = record {
   keys = c.requires.keys;
+  kept = c.requires.kept;
   names = λ n.
       ap is_some (btree_map_updates_str c.as_str-name.result.now c.args.self.now.fragments c.insert.new.self _ c.in_ok-insert-in-None.ensures.updates n)
       ∙ known_more (fragments (spreads_in c.args.self.now)) c.as_str-name.result.now n c.len.result _ (c.requires.names n)

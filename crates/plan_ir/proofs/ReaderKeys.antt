@@ -1,0 +1,66 @@
+-- The keys of steps that are put behind one another, and those of each step.
+use Rattle.std.proofs.Common.{◌≡◌, ℕ, zero, suc, ◌<◌, List, [], ◌∷◌, ◌++◌, length, get_or, Option, Some, None, refl, ap, sym, ◌∙◌, arith}
+use Rattle.plan_ir.specs.FieldKeys.{constant_key}
+use Rattle.plan_ir.proofs.ReaderLaws.{steps_of-append}
+use Rattle.plan_ir.specs.Reader.{Reader, done, typename, leaf, object, guarded, pointer, pointer_inline, reader_append}
+use Rattle.plan_ir.specs.ReaderKeys.{keys_of}
+use Rattle.plan_ir.specs.ReaderView.{step_before, step_of, steps_of}
+use Rattle.plan_ir.specs.declared.reader.ReaderStep.{ReaderStep}
+use Rattle.plan_ir.specs.declared.reader.ReaderStep.TheVariants as N
+use Rattle.schema_tables.specs.Types.{Text}
+
+pub keys_of-append : (s t : Reader) → keys_of (reader_append s t) ≡ keys_of s ++ keys_of t
+keys_of-append done t = refl
+keys_of-append (typename r s) t = ap (λ ks. None ∷ ks) (keys_of-append s t)
+keys_of-append (leaf r n xs s) t = ap (λ ks. constant_key n xs ∷ ks) (keys_of-append s t)
+keys_of-append (object r n xs m ts is o c child s) t = ap (λ ks. constant_key n xs ∷ ks) (keys_of-append s t)
+keys_of-append (guarded g child s) t = ap (λ ks. None ∷ ks) (keys_of-append s t)
+keys_of-append (pointer f xs s) t = ap (λ ks. None ∷ ks) (keys_of-append s t)
+keys_of-append (pointer_inline f xs child s) t = ap (λ ks. None ∷ ks) (keys_of-append s t)
+
+-- ---- each step has its key
+
+pub keys_counted : (xs : List ReaderStep) → length (keys_of (steps_of xs)) ≡ length xs
+keys_counted [] = refl
+keys_counted (N.Typename r ∷ zs) = ap suc (keys_counted zs)
+keys_counted (N.Leaf r n xs ∷ zs) = ap suc (keys_counted zs)
+keys_counted (N.Object r n xs m ts is o c child ∷ zs) = ap suc (keys_counted zs)
+keys_counted (N.Guarded g child ∷ zs) = ap suc (keys_counted zs)
+keys_counted (N.Pointer f xs None ∷ zs) = ap suc (keys_counted zs)
+keys_counted (N.Pointer f xs (Some child) ∷ zs) = ap suc (keys_counted zs)
+
+key_first : (x : ReaderStep) (t : Reader) (k : Option Text) → k ≡ get_or (keys_of (step_before x t)) 0 k → k ∷ [] ≡ keys_of (step_of x)
+key_first (N.Typename r) t k = λ e. ap (λ j. j ∷ []) e
+key_first (N.Leaf r n xs) t k = λ e. ap (λ j. j ∷ []) e
+key_first (N.Object r n xs m ts is o c child) t k = λ e. ap (λ j. j ∷ []) e
+key_first (N.Guarded g child) t k = λ e. ap (λ j. j ∷ []) e
+key_first (N.Pointer f xs None) t k = λ e. ap (λ j. j ∷ []) e
+key_first (N.Pointer f xs (Some child)) t k = λ e. ap (λ j. j ∷ []) e
+
+key_later : (x : ReaderStep) (t : Reader) (i : ℕ) (k : Option Text) → get_or (keys_of (step_before x t)) (suc i) k ≡ get_or (keys_of t) i k
+key_later (N.Typename r) t i k = refl
+key_later (N.Leaf r n xs) t i k = refl
+key_later (N.Object r n xs m ts is o c child) t i k = refl
+key_later (N.Guarded g child) t i k = refl
+key_later (N.Pointer f xs None) t i k = refl
+key_later (N.Pointer f xs (Some child)) t i k = refl
+
+at_place : (xs : List ReaderStep) (i : ℕ) (x : ReaderStep) (k : Option Text) → i < length xs → k ≡ get_or (keys_of (steps_of xs)) i k → k ∷ [] ≡ keys_of (step_of (get_or xs i x))
+at_place [] i x k h e = absurd (omega arith)
+at_place (y ∷ xs) zero x k h e = key_first y (steps_of xs) k e
+at_place (y ∷ xs) (suc i) x k h e = at_place xs i x k (omega arith) (e ∙ key_later y (steps_of xs) i k)
+
+-- the key at the place of a step is that of its field
+pub key_at : (xs : List ReaderStep) (ks : List (Option Text)) (i : ℕ) (x : ReaderStep) (k : Option Text) → i < length xs → x ≡ get_or xs i x → ks ≡ keys_of (steps_of xs) → k ≡ get_or ks i k
+    → k ∷ [] ≡ keys_of (step_of x)
+key_at xs ks i x k h is keys e = at_place xs i x k h (e ∙ ap (λ js. get_or js i k) keys) ∙ sym (ap (λ (y : ReaderStep). keys_of (step_of y)) is)
+
+-- one more step, and its key
+pub keys_pushed : (xs ys : List ReaderStep) (x : ReaderStep) (ks js : List (Option Text)) (k : Option Text) → ks ≡ keys_of (steps_of xs) → k ∷ [] ≡ keys_of (step_of x) → js ≡ ks ++ k ∷ [] → ys ≡ xs ++ x ∷ []
+    → js ≡ keys_of (steps_of ys)
+keys_pushed xs ys x ks js k kept key pushed grown =
+    pushed
+    ∙ (λ i. kept i ++ key i)
+    ∙ sym (keys_of-append (steps_of xs) (step_of x))
+    ∙ ap keys_of (sym (steps_of-append xs (x ∷ [])))
+    ∙ ap (λ (zs : List ReaderStep). keys_of (steps_of zs)) (sym grown)

@@ -1,0 +1,11 @@
+-- The keys under which fields are stored, where they are the same in each environment (this project's own).
+use Rattle.std.specs.Prelude.{cond, List, [], Option, Some, None}
+use Rattle.gql_ast.specs.Value.{Val, members_of}
+use Rattle.schema_tables.specs.Types.{Text}
+use Rattle.schema_types.specs.Environments.{arguments_in_environment}
+use Rattle.schema_values.specs.Fittings.{have_constants}
+use Rattle.store_record.specs.Keys.{field_key}
+
+-- the key of a field in whose arguments no variable stands
+abbrev pub constant_key : Text → List (Text × Val) → Option Text
+constant_key name xs = cond (have_constants (members_of xs)) (Some (field_key name (arguments_in_environment [] xs))) None

@@ -1,0 +1,48 @@
+//! The storage keys of fields that are the same in each environment.
+ghost use Rattle.std.specs.Prelude.{◌≡◌, IfOk};
+ghost use Rattle.plan_ir.specs.FieldKeys as keys;
+
+use gql_ast::Arguments;
+use gql_plain::{Name, NoMemory, SharedText};
+use schema_values::{evaluate_constants, have_constants};
+use std::alloc::Global;
+use store_record::field_key;
+
+/// The key that a field is stored under, where no variable stands in its arguments; else None.
+pub(crate) fn constant_key(
+    alloc: Global,
+    name: &Name,
+    arguments: &Arguments,
+) -> Result<Option<SharedText>, NoMemory>
+    ensures { IfOk result (λ key. key ≡ keys.constant_key name.now arguments.now) }
+{
+    if !have_constants(arguments) {
+        return Ok(None);
+    }
+    let values = evaluate_constants(alloc, arguments)?;
+    let key = field_key(alloc, name, &values)?;
+    Ok(Some(SharedText::new(alloc, key)?))
+}
+
+/// One more owner of each key.
+pub(crate) fn copy_of_keys(
+    keys: &Vec<Option<SharedText>>,
+) -> Result<Vec<Option<SharedText>>, NoMemory>
+    ensures { IfOk result (λ copy. copy.items ≡ keys.now.items) }
+{
+    let mut copies = Vec::with_capacity(*keys.allocator(), keys.len())?;
+    'keys: for key in keys {
+        copies.push(copy_of_key(key)?)?;
+    }
+    Ok(copies)
+}
+
+/// One more owner of the key, or none where there is none.
+fn copy_of_key(key: &Option<SharedText>) -> Result<Option<SharedText>, NoMemory>
+    ensures { IfOk result (λ copy. copy ≡ key.now) }
+{
+    match key {
+        Some(key) => Ok(Some(key.copy()?)),
+        None => Ok(None),
+    }
+}
