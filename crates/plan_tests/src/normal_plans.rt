@@ -55,7 +55,7 @@ fn put_guard(text: &mut String, guard: &Guard) -> Result<(), Fail> {
 fn put_plan(text: &mut String, plan: &NormalPlan) -> Result<(), Fail> {
     text.push_str("{")?;
     let mut begun = false;
-    for step in &plan.steps.items {
+    for step in plan.steps.as_slice() {
         if begun {
             text.push_str(" ")?;
         }
