@@ -5,5 +5,6 @@ pub mod FormedSteps
 pub mod HandleKeys
 pub mod NamedReports
 pub mod Reports
+pub mod TakeSteps
 pub mod TypeNameKeys
 pub mod WalkSteps

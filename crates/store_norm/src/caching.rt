@@ -10,6 +10,9 @@ use plan_groups::{GroupAt, Groups, PlanAt};
 use std::alloc::Global;
 use std::collections::BTreeMap;
 
+/// More levels than any plan has.
+pub(crate) const LEVELS: usize = 1_000_000;
+
 impl<'p> GroupCache<'p> {
     /// What these plans ask; nothing is made yet.
     fn new(alloc: Global, plans: &[PlanAt<'p>], levels: usize) -> Result<GroupCache<'p>, NoMemory>

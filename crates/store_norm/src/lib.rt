@@ -9,6 +9,8 @@ mod members;
 mod pages;
 pub mod plans;
 pub mod response;
+mod taken;
+mod taking;
 mod types;
 mod walk;
 

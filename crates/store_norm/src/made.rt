@@ -22,7 +22,7 @@ pub(crate) struct Place<'a> {
 }
 
 /// The id that is made for an object.
-fn made_id(alloc: Global, place: &Place<'_>) -> Result<SharedText, NoMemory>
+pub(crate) fn made_id(alloc: Global, place: &Place<'_>) -> Result<SharedText, NoMemory>
     ensures { IfOk result (λ id. id ≡ id_of place.now) }
 {
     let id = client_id(

@@ -9,8 +9,9 @@ ghost use Rattle.store_model.specs.Verdicts.{content};
 ghost use Rattle.store_report.specs.Gathering.{gathered_onto};
 ghost use Rattle.store_report.specs.Refusals.{IsRefusedBy};
 
-use crate::caching::caches_below;
+use crate::caching::{LEVELS, caches_below};
 use crate::members::member;
+use crate::taken::taken;
 use crate::walk::say_groups;
 use gql_plain::{NoMemory, SharedText, Words};
 use plan_groups::{Groups, PlanAt};
@@ -19,20 +20,31 @@ use schema_values::Env;
 use serde_json::{Map, Value};
 use std::alloc::Global;
 use store_model::{Cause, Facts};
-use store_report::{Gathered, NormFault, Path};
-
-/// More levels than any plan has.
-const LEVELS: usize = 1_000_000;
+use store_report::{Gathered, NormFault, Path, Untaken};
 
 /// The facts of a response to an operation, by its plan and environment. Err: the least fault of the
-/// response, by path and cause; where there is none, the first conflict by id and key. The response is
-/// walked once, and the groups of a list's elements are made once for each of their types.
+/// response, by path and cause; where there is none, the first conflict by id and key. A response in which
+/// nothing is wrong is walked once; else a second walk tells what comes first. The groups of a list's
+/// elements are made once a walk for each of their types.
 pub fn facts(
     alloc: Global,
     plan: &NormalPlan,
     env: &Env,
     response: &Value,
 ) -> Result<Facts, NormFault>
+    requires formed { is_formed plan.now.steps ≡ true }
+    ensures facts { IfOk result (λ facts. plan_says env.now.root env.now.values plan.now.steps (view response.now) ≡ content facts) }
+    ensures fault { IfErr result (IsRefusedBy (plan_says env.now.root env.now.values plan.now.steps (view response.now))) }
+{
+    match taken(alloc, plan, env, response) {
+        Ok(facts) => Ok(facts),
+        Err(Untaken::Faulty) => said(alloc, plan, env, response),
+        Err(Untaken::NoMemory) => Err(NormFault::NoMemory),
+    }
+}
+
+/// The facts of a response, or what is wrong in it first.
+fn said(alloc: Global, plan: &NormalPlan, env: &Env, response: &Value) -> Result<Facts, NormFault>
     requires formed { is_formed plan.now.steps ≡ true }
     ensures facts { IfOk result (λ facts. plan_says env.now.root env.now.values plan.now.steps (view response.now) ≡ content facts) }
     ensures fault { IfErr result (IsRefusedBy (plan_says env.now.root env.now.values plan.now.steps (view response.now))) }

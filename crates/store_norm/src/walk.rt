@@ -78,7 +78,7 @@ fn say_group<'r>(
 }
 
 /// Whether the name of the type of the record stands there.
-fn is_typename(form: &FormAt<'_>) -> bool
+pub(crate) fn is_typename(form: &FormAt<'_>) -> bool
     ensures { result ≡ walk.is_typename (form_at form.now) }
 {
     match form {
@@ -161,7 +161,7 @@ fn say_value<'r>(
 }
 
 /// The link to an object, null where there is none.
-fn link_or_null(id: Option<Id>) -> Field
+pub(crate) fn link_or_null(id: Option<Id>) -> Field
     ensures { result ≡ says.link_or_null id }
 {
     match id {
@@ -383,7 +383,7 @@ fn say_typed<'r>(
 }
 
 /// Whether another type stands under `__typename` of an object whose type is not open.
-fn is_other_type(
+pub(crate) fn is_other_type(
     type_below: &BelowAt<'_>,
     of: &TypeGroups<'_>,
     members: &Map<String, Value>,

@@ -136,6 +136,14 @@ impl Fields {
         }
     }
 
+    /// The fields of entries that are in byte order of their keys; takes no memory.
+    pub fn from_entries(entries: Vec<SharedField>) -> Fields
+        requires { AreInOrder (keys_of entries.items) }
+        ensures { result ≡ entries.items }
+    {
+        Fields { entries }
+    }
+
     /// The field under a key, or None where there is none; takes no memory.
     pub fn get(&self, key: &str) -> Option<&Field>
         ensures { option_copied result ≡ member_at self.now key.now }

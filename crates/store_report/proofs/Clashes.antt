@@ -34,7 +34,7 @@ place_tied p q =
     (λ i. sym (is_eq-slice_cmp p.fact.id q.fact.id) i && sym (is_eq-slice_cmp p.fact.key q.fact.key) i)
     ∙ sym (then_eq (text_cmp p.fact.id q.fact.id) (text_cmp p.fact.key q.fact.key))
 
-is_tie : (r : Ordering) → is_eq r ≡ true → r ≡ Equal
+pub is_tie : (r : Ordering) → is_eq r ≡ true → r ≡ Equal
 is_tie Less e = absurd (true≢false (sym e))
 is_tie Equal e = refl
 is_tie Greater e = absurd (true≢false (sym e))

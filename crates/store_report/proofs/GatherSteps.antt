@@ -36,7 +36,7 @@ pub with_fault : (puts : List Put) (pages : List HandleFact) (fault : Option Pay
 with_fault puts pages fault f = λ i. record { puts = nothing_after puts i; pages = nothing_after pages i; fault = lesser_some fault_cmp fault (Some f) }
 
 pub puts_set : (facts : List SaidFact) (at : ℕ) (f : SaidFact) (value : Field) → at < length facts → f ≡ get_or facts at f
-    → map put_of (set facts at (record { id = f.id; key = f.key; value = value; path = f.path; response = f.response; object = f.object })) ≡ puts_with at value (map put_of facts)
+    → map put_of (set facts at (record { id = f.id; key = f.key; value = value; path = f.path; response = f.response })) ≡ puts_with at value (map put_of facts)
 puts_set [] at f value lt is = absurd (omega (arith, lt))
 puts_set (g ∷ facts) zero f value lt is = ap (λ (h : SaidFact). record { fact = record { id = h.id; key = h.key; value = value }; path = path_to h.path (option_copied h.response) } ∷ map put_of facts) is
 puts_set (g ∷ facts) (suc at) f value lt is = ap (λ ps. put_of g ∷ ps) (puts_set facts at f value (omega (arith, lt)) is)

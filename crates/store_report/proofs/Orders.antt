@@ -1,10 +1,8 @@
 -- Faults, facts and pages are in total orders; and the lesser of two, and the least of a list.
-use Rattle.std.proofs.Common.{◌≡◌, ◌+◌, Bool, true, false, true≢false, not, cond, List, [], ◌∷◌, ◌++◌, get_or, Option, Some, None, Ordering, Less, Equal, Greater, refl, sym, ap, ◌∙◌}
+use Rattle.std.proofs.Common.{◌≡◌, Bool, true, false, true≢false, cond, List, [], ◌∷◌, ◌++◌, Option, Some, None, Ordering, Less, Equal, Greater, refl, sym, ap, ◌∙◌}
 use Rattle.std.proofs.lemmas.Cmp.{nat_cmp_total, nat_list_cmp_total, on_total, then_total}
 use Rattle.std.proofs.lemmas.List.MinMax.{ranks_by}
 use Rattle.std.specs.Cmp.{IsTotalOrder}
-use Rattle.std.specs.List.{IsAllAdjacentAnswer}
-use Rattle.std.specs.List.Sorted.{IsSorted}
 use Rattle.std.specs.Ordering.{is_lt}
 use Rattle.store_model.proofs.Seats.{paths_total}
 use Rattle.store_model.specs.FactOrder.{fact_cmp, handle_cmp}
@@ -57,13 +55,3 @@ module _ {A : Type 0} (cmp : A → A → Ordering) (o : IsTotalOrder cmp) where
   pub least_append : (xs ys : List A) → least cmp (xs ++ ys) ≡ lesser_some cmp (least cmp xs) (least cmp ys)
   least_append [] ys = refl
   least_append (x ∷ xs) ys = ap (lesser_some cmp (Some x)) (least_append xs ys) ∙ sym (some_assoc (Some x) (least cmp xs) (least cmp ys))
-
--- ---- lists that were found to be in order
-
-not_is : (b : Bool) → true ≡ not b → b ≡ false
-not_is true e = absurd (true≢false e)
-not_is false e = refl
-
-pub in_order_where : {A : Type 0} (cmp : A → A → Ordering) (xs : List A) (found : Bool) → IsAllAdjacentAnswer (λ x y b. b ≡ not (is_lt (cmp y x))) xs found → found ≡ true → IsSorted cmp xs
-in_order_where cmp xs true all e = λ k d low lt. not_is (is_lt (cmp (get_or xs (k + 1) d) (get_or xs k d))) (all k d lt)
-in_order_where cmp xs false all e = absurd (true≢false (sym e))

@@ -45,7 +45,7 @@ some_any test x (y ∷ ys) (inr h) e = at (test y) (some_any test x ys h e)
     at true rest = refl
     at false rest = rest
 
-first_among : {A : Type 0} (test : A → Bool) (xs : List A) (x : A) → first_so test xs ≡ Some x → Among x xs × (test x ≡ true)
+pub first_among : {A : Type 0} (test : A → Bool) (xs : List A) (x : A) → first_so test xs ≡ Some x → Among x xs × (test x ≡ true)
 first_among {A} test [] x e = absurd (subst IsThere (sym e) tt)
   where
     IsThere : Option A → Type 0

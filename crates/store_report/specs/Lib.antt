@@ -1,12 +1,11 @@
 pub mod Codes
 pub mod Gathering
 pub mod Heads
-pub mod Kept
-pub mod Objects
+pub mod Joining
+pub mod ObjectRows
 pub mod PagePlaces
 pub mod Paths
 pub mod Refusals
-pub mod Reordered
 pub mod Rows
 pub mod SaidFacts
 pub mod Steps

@@ -7,10 +7,8 @@ ghost use Rattle.store_model.specs.Verdicts.{fault_cmp};
 ghost use Rattle.store_model.specs.declared.payload_fault.PathStep.TheVariants.{Key};
 ghost use Rattle.store_record.specs.declared.field.Field.TheVariants.{Leaf};
 ghost use Rattle.store_report.specs.Gathering.{nothing, gathered_onto, lesser_some, with_value};
-ghost use Rattle.store_report.specs.Objects.{object_of};
 ghost use Rattle.store_report.specs.SaidFacts.{fault_of, path_to, put_of};
 
-use crate::objects::{SaidObject, begin, number_of};
 use crate::path::Path;
 use crate::said::{SaidFact, SaidFault};
 use gql_plain::{Name, NoMemory, Plain, SharedText, Words as Text};
@@ -21,16 +19,9 @@ use store_record::Field;
 
 /// What is gathered of a response while it is walked: facts, each with the path where it is said, the
 /// pages of connections, and the least fault so far. Texts of the response are borrowed.
-///
-/// Each object is numbered when its type is named, so that facts are put in order by numbers. That a
-/// field is of an object is seen without a search where the walk is inside the object.
 #[derive(Drop)]
 pub struct Gathered<'r> {
     pub(crate) facts: Vec<SaidFact<'r>>,
-    /// The objects, in the order of their numbers.
-    pub(crate) objects: Vec<SaidObject>,
-    /// The numbers of objects inside which the walk may be, the innermost last.
-    pub(crate) open: Vec<usize>,
     pub(crate) pages: Vec<HandleFact>,
     pub(crate) fault: Option<SaidFault<'r>>,
     /// The key of the name of a type.
@@ -51,13 +42,12 @@ impl<'r> Model for Gathered<'r> {
 
     ghost coded = { gathering_code fact.the_row.coded step.the_row.coded handle.the_row.coded refused.the_row.coded };
 
+    ghost use Rattle.store_model.specs.Records.{typename};
     ghost use Rattle.store_report.specs.SaidFacts.{put_of, fault_of};
 
     ghost view = { λ g. record { puts = map put_of g.facts.items; pages = g.pages.items; fault = option_map fault_of g.fault } };
 
-    ghost use Rattle.store_report.specs.Kept.{IsKept};
-
-    ghost invariant = { λ g. IsKept g.objects.items g.facts.items g.type_key };
+    ghost invariant = { λ g. g.type_key ≡ typename };
 }
 
 impl<'r> Gathered<'r> {
@@ -68,21 +58,18 @@ impl<'r> Gathered<'r> {
         let type_key = SharedText::new(alloc, Text::new(alloc, "__typename")?)?;
         Ok(Gathered {
             facts: Vec::new(alloc),
-            objects: Vec::new(alloc),
-            open: Vec::new(alloc),
             pages: Vec::new(alloc),
             fault: None,
             type_key,
         })
     }
 
-    /// Puts the name of the type of a record, said at a path. It is said before the fields of the record.
+    /// Puts the name of the type of a record, said at a path.
     pub fn name(&mut self, id: &SharedText, name: Name, path: &Path<'r>) -> Result<(), NoMemory>
         ensures { OnOk result (self.new ≡ gathered_onto self.old (put_at id.now typename (Leaf (Words name)) path.now)) }
     {
-        let object = begin(&mut self.objects, &mut self.open, id)?;
         let value = Field::Leaf(Plain::Text(name));
-        let fact = said(object, id, &self.type_key, value, path, None)?;
+        let fact = said(id, &self.type_key, value, path, None)?;
         self.facts.push(fact)?;
         Ok(())
     }
@@ -100,8 +87,7 @@ impl<'r> Gathered<'r> {
         ensures place { IfOk result (λ at. at ≡ length self.old.puts) }
         ensures put { OnOk result (self.new ≡ gathered_onto self.old (put_at id.now key.now value (path.now ++ Key response.now ∷ []))) }
     {
-        let object = number_of(&mut self.objects, &mut self.open, id)?;
-        let fact = said(object, id, key, value, path, Some(response))?;
+        let fact = said(id, key, value, path, Some(response))?;
         let at = self.facts.len();
         self.facts.push(fact)?;
         Ok(at)
@@ -139,15 +125,13 @@ impl<'r> Gathered<'r> {
 
 /// A fact of an object that stands at a path, said there or under a response key of the object.
 fn said<'r>(
-    object: usize,
     id: &SharedText,
     key: &SharedText,
     value: Field,
     path: &Path<'r>,
     response: Option<&'r str>,
 ) -> Result<SaidFact<'r>, NoMemory>
-    ensures put { IfOk result (λ fact. put_of fact ≡ record { fact = record { id = id.now; key = key.now; value = value }; path = path_to path.now (option_copied response.entry) }) }
-    ensures object { IfOk result (λ fact. object_of fact ≡ record { id = id.now; number = object }) }
+    ensures { IfOk result (λ fact. put_of fact ≡ record { fact = record { id = id.now; key = key.now; value = value }; path = path_to path.now (option_copied response.entry) }) }
 {
     let id = id.copy()?;
     let key = key.copy()?;
@@ -158,7 +142,6 @@ fn said<'r>(
         value,
         path,
         response,
-        object,
     })
 }
 

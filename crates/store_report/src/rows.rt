@@ -58,7 +58,6 @@ fn take(
         value,
         path: _path,
         response: _response,
-        object: _object,
     } = fact;
     match begun {
         Some(row) => {

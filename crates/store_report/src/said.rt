@@ -2,8 +2,7 @@
 ghost use Rattle.std.specs.Prelude.{◌≡◌, IfOk};
 ghost use Rattle.std.specs.Ordering.{is_lt};
 ghost use Rattle.store_model.specs.Verdicts.{fault_cmp, number_of, put_cmp, same_place};
-ghost use Rattle.store_report.specs.Objects.{ranked_cmp};
-ghost use Rattle.store_report.specs.SaidFacts.{put_of, fault_of};
+ghost use Rattle.store_report.specs.SaidFacts.{put_of, fault_of, place_cmp};
 
 use crate::path::{Path, Step};
 use gql_plain::{NoMemory, SharedText};
@@ -22,16 +21,14 @@ pub(crate) struct SaidFact<'r> {
     pub(crate) path: Path<'r>,
     /// The response key of a field, which is the last step of its path; none for the name of a type.
     pub(crate) response: Option<&'r str>,
-    /// The number of the object that has the id; its rank in the order of ids, once all are gathered.
-    pub(crate) object: usize,
 }
 
 impl<'r> SaidFact<'r> {
-    /// The order of facts by the ranks of their objects and then by key; takes no memory.
-    pub(crate) fn compare_ranked(&self, other: &SaidFact<'_>) -> Ordering
-        ensures { result ≡ ranked_cmp self.now other.now }
+    /// The order of facts by id and then by key; takes no memory.
+    pub(crate) fn compare(&self, other: &SaidFact<'_>) -> Ordering
+        ensures { result ≡ place_cmp self.now other.now }
     {
-        match self.object.cmp(&other.object) {
+        match self.id.cmp(&other.id) {
             Ordering::Equal => self.key.cmp(&other.key),
             unequal => unequal,
         }

@@ -14,7 +14,6 @@ use crate::fault::NormFault;
 use crate::gathered::Gathered;
 use crate::order::sorted;
 use crate::pages::in_order;
-use crate::ranks::ranked;
 use crate::rows::rows_of;
 use crate::said::{SaidFact, SaidFault};
 use gql_plain::NoMemory;
@@ -32,8 +31,6 @@ impl Gathered<'_> {
     {
         let Gathered {
             facts,
-            objects,
-            open: _open,
             pages,
             fault,
             type_key: _type_key,
@@ -41,10 +38,7 @@ impl Gathered<'_> {
         if let Some(fault) = fault {
             return Err(refusal(alloc, fault));
         }
-        let Ok(facts) = ranked(alloc, objects, facts) else {
-            return Err(NormFault::NoMemory);
-        };
-        let Ok(facts) = sorted(alloc, facts) else {
+        let Ok(facts) = sorted(facts) else {
             return Err(NormFault::NoMemory);
         };
         let Ok(found) = conflict(alloc, &facts) else {

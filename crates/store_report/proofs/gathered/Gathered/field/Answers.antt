@@ -3,7 +3,6 @@ use Rattle.std.proofs.lemmas.List.{length-map}
 use Rattle.store_model.specs.Says.{put_at}
 use Rattle.store_model.specs.declared.payload_fault.PathStep.TheVariants.{Key}
 use Rattle.store_report.proofs.GatherSteps.{with_put}
-use Rattle.store_report.proofs.KeptSteps.{kept_fact, kept_objects}
 use Rattle.store_report.proofs.gathered.Gathered.field.Goals as goal
 use Rattle.store_report.specs.Gathering.{Gathering, gathered_onto}
 use Rattle.store_report.specs.SaidFacts.{put_of, fault_of}
@@ -13,23 +12,10 @@ returns-clause-put c =
     let inside = c.self.inside in
     rw c.in_ok-push.ensures.items
     (with_put inside.facts.items inside.pages.items (option_map fault_of inside.fault) c.in_ok-fact.fact
-    (record { fact = record { id = c.args.id.now; key = c.args.key.now; value = c.args.value }; path = c.args.path.now ++ Key c.args.response.now ∷ [] }) c.in_ok-fact.ensures.put
+    (record { fact = record { id = c.args.id.now; key = c.args.key.now; value = c.args.value }; path = c.args.path.now ++ Key c.args.response.now ∷ [] }) c.in_ok-fact.ensures
     ∙ ap (λ g. gathered_onto g (put_at c.args.id.now c.args.key.now c.args.value (c.args.path.now ++ Key c.args.response.now ∷ []))) c.self.view_is)
 
 pub returns-clause-place : goal.returns-clause-place
 returns-clause-place c =
     let facts = c.self.inside.facts in
     c.len-at.ensures ∙ facts.ok.0 ∙ sym (length-map facts.items put_of) ∙ ap (λ (g : Gathering). length g.puts) c.self.view_is
-
-pub invariant_of-self-in_err-push : goal.invariant_of-self-in_err-push
-invariant_of-self-in_err-push c =
-    let inside = c.self.inside in
-    rw c.in_err-push.ensures.items
-    (kept_objects inside.objects.items c.number_of.new.objects.items inside.facts.items inside.type_key c.self.invariant c.number_of.ensures.numbered c.number_of.ensures.kept)
-
-pub invariant_of-self-2 : goal.invariant_of-self-2
-invariant_of-self-2 c =
-    let inside = c.self.inside in
-    rw c.in_ok-push.ensures.items
-    (kept_fact inside.objects.items c.number_of.new.objects.items inside.facts.items inside.type_key c.self.invariant c.number_of.ensures.numbered c.number_of.ensures.kept
-    c.in_ok-fact.fact (record { id = c.args.id.now; number = c.in_ok-object.object }) c.in_ok-fact.ensures.object c.in_ok-object.ensures.there)

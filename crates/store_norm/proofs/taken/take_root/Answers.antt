@@ -1,0 +1,23 @@
+-- The root is an object whose type, id and name are known.
+use Rattle.std.proofs.Common.{rules, ◌≡◌, ◌∷◌, [], codes, sym, ap, ◌∙◌}
+use Rattle.plan_groups.specs.FieldView.{plan_at}
+use Rattle.plan_ir.specs.NormalMeaning.{collect_plan}
+use Rattle.serde_json.specs.View.{members_view}
+use Rattle.store_model.specs.Items.{groups_at}
+use Rattle.store_norm.proofs.CacheSteps.{plans_of-caches}
+use Rattle.store_norm.proofs.TakeSteps.{fields_taken}
+use Rattle.store_norm.proofs.taken.take_root.Goals as goal
+use Rattle.store_norm.specs.Caching.{parts_of, plans_of}
+use Rattle.store_record.specs.Keys.{root}
+
+pub take_groups-requires : goal.take_groups-requires
+take_groups-requires c =
+    ap plans_of (c.deref_mut.ensures.value ∙ c.in_ok-below.ensures) ∙ plans_of-caches _ c.as_slice.result.now ∙ ap parts_of (c.as_slice.ensures ∙ sym c.as_slice-3.ensures)
+
+pub returns : goal.returns
+returns c =
+    let groups = groups_at collect_plan c.args.root.now (plan_at c.args.part ∷ []) in
+    let row : c.in_ok-into_words.field-0 ≡ c.in_ok-id.id = search rules in
+    fields_taken c.args.rows.now c.take_groups.new.rows c.push.new.self c.in_ok-id.id root c.in_ok-into_words.field-0 c.in_ok-new-2.field-0 (codes "__Root") c.in_ok-fields.fields.items c.take_groups.new.fields.items []
+    (members_view c.args.members.now.entries) c.as_slice-3.result.now groups (c.in_ok-id.ensures ∙ c.in_ok-new.ensures) (search rules) (c.as_slice-3.ensures ∙ c.in_ok-groups.ensures) row (search rules)
+    (c.in_ok-take_groups.ensures.said []) c.in_ok-push.ensures.facts c.in_ok-push.ensures.pages

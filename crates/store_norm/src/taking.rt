@@ -1,0 +1,371 @@
+//! The walk of a response in which nothing is wrong, along the groups of its plan, by rows.
+ghost use Rattle.std.specs.Prelude.{◌≡◌, ◌++◌, ◌∷◌, [], codes, option_map, None, Some, IfOk, OnOk};
+ghost use Rattle.plan_groups.specs.FieldView.{below_at, form_at};
+ghost use Rattle.plan_ir.specs.NormalMeaning.{collect_plan};
+ghost use Rattle.serde_json.specs.View.{items_view, members_view, view};
+ghost use Rattle.store_model.specs.Events.{plain_of_data};
+ghost use Rattle.store_model.specs.Items.{many, parts};
+ghost use Rattle.store_model.specs.Says as says;
+ghost use Rattle.store_model.specs.declared.payload_fault.PathStep.TheVariants.{Key};
+ghost use Rattle.store_norm.specs.CacheView.{IsSame};
+ghost use Rattle.store_norm.specs.Caching.{plans_of, parts_of};
+ghost use Rattle.store_norm.specs.MadeView.{id_of, made_at};
+ghost use Rattle.store_norm.specs.Walk as walk;
+ghost use Rattle.store_record.specs.Keys.{Text};
+ghost use Rattle.store_report.specs.ObjectRows.{Adds, with_open};
+
+use crate::cache::{GroupCache, TypeGroups};
+use crate::caching::place_of;
+use crate::made::{Place, made_id};
+use crate::members::member;
+use crate::types::type_under;
+use crate::walk::{is_other_type, is_typename, link_or_null};
+use gql_plain::{Id, OptIds, Plain, PlainFault, SharedText, Words, plain_of};
+use plan_groups::{BelowAt, FormAt, GroupAt, put_pages};
+use serde_json::{Map, Value};
+use std::alloc::Global;
+use store_record::{Field, SharedField};
+use store_report::{ObjectRows, Untaken};
+
+/// Takes what the fields of an object say, those of each group that is there: its own fields, and the rows
+/// of the objects below.
+#[cycle(take)]
+pub(crate) fn take_groups<'r>(
+    alloc: Global,
+    groups: &[GroupAt<'r>],
+    below: &mut [GroupCache<'r>],
+    id: &SharedText,
+    members: &'r Map<String, Value>,
+    fields: &mut Vec<SharedField>,
+    rows: &mut ObjectRows,
+) -> Result<(), Untaken>
+    requires { plans_of below.old ≡ parts_of groups.now }
+    ensures said { OnOk result ((path : says.Path) → Adds (with_open id.now fields.old.items rows.old) (with_open id.now fields.new.items rows.new) (says.groups_say collect_plan id.now path (says.walks_of collect_plan (members_view members.now.entries)) groups.now)) }
+    ensures below { below.new ≡ below.old }
+{
+    'groups: for (at, group) in groups.iter().enumerate() {
+        take_group(alloc, group, &mut below[at], id, members, fields, rows)?;
+    }
+    Ok(())
+}
+
+/// Takes what the fields of a group say, where their response key is there. What stands under
+/// `__typename` is taken once, as the type of the object.
+#[cycle(take)]
+fn take_group<'r>(
+    alloc: Global,
+    group: &GroupAt<'r>,
+    below: &mut GroupCache<'r>,
+    id: &SharedText,
+    members: &'r Map<String, Value>,
+    fields: &mut Vec<SharedField>,
+    rows: &mut ObjectRows,
+) -> Result<(), Untaken>
+    requires { below.old.parts ≡ parts group.now }
+    ensures said { OnOk result ((path : says.Path) → Adds (with_open id.now fields.old.items rows.old) (with_open id.now fields.new.items rows.new) (walk.group_told id.now path (members_view members.now.entries) group.now)) }
+    ensures below { below.new ≡ below.old }
+{
+    if is_typename(&group.form()) {
+        return Ok(());
+    }
+    match member(members, group.response()) {
+        Some(value) => take_field(alloc, group, below, id, value, fields, rows),
+        None => Ok(()),
+    }
+}
+
+/// Takes a field: its pages, what its value says, and the field itself.
+#[cycle(take)]
+fn take_field<'r>(
+    alloc: Global,
+    group: &GroupAt<'r>,
+    below: &mut GroupCache<'r>,
+    id: &SharedText,
+    value: &'r Value,
+    fields: &mut Vec<SharedField>,
+    rows: &mut ObjectRows,
+) -> Result<(), Untaken>
+    requires { below.old.parts ≡ parts group.now }
+    ensures said { OnOk result ((path : says.Path) → Adds (with_open id.now fields.old.items rows.old) (with_open id.now fields.new.items rows.new) (says.group_says collect_plan id.now path group.now (Some (says.walk_of collect_plan (view value.now))))) }
+    ensures below { below.new ≡ below.old }
+{
+    take_pages(alloc, group, id, rows)?;
+    let place = Place {
+        parent: id,
+        key: group.key(),
+        index: None,
+    };
+    let field = take_value(alloc, &group.form(), below, &place, value, rows)?;
+    let key = group.key().copy()?;
+    fields.push(SharedField::new(alloc, key, field)?)?;
+    Ok(())
+}
+
+/// Takes the pages of a group's fields.
+fn take_pages(
+    alloc: Global,
+    group: &GroupAt<'_>,
+    id: &SharedText,
+    rows: &mut ObjectRows,
+) -> Result<(), Untaken>
+    ensures { OnOk result (Adds rows.old rows.new (says.report_pages (says.pages_of collect_plan id.now group.now))) }
+{
+    let mut pages = Vec::new(alloc);
+    put_pages(alloc, group, id.as_words(), &mut pages)?;
+    'pages: for page in pages {
+        rows.page(page)?;
+    }
+    Ok(())
+}
+
+/// Takes what a value says, and answers what the field becomes.
+#[cycle(take)]
+fn take_value<'r>(
+    alloc: Global,
+    form: &FormAt<'r>,
+    below: &mut GroupCache<'r>,
+    place: &Place<'_>,
+    value: &'r Value,
+    rows: &mut ObjectRows,
+) -> Result<Field, Untaken>
+    requires { place.now.index ≡ None }
+    ensures field { IfOk result (λ field. (path : says.Path) → field ≡ (says.walk_of collect_plan (view value.now) (form_at form.now) below.old.parts (made_at place.now) path).0) }
+    ensures said { OnOk result ((path : says.Path) → Adds rows.old rows.new (says.walk_of collect_plan (view value.now) (form_at form.now) below.old.parts (made_at place.now) path).1) }
+    ensures below { below.new ≡ below.old }
+{
+    match form {
+        FormAt::Typename => Ok(Field::Leaf(Plain::Null)),
+        FormAt::Leaf => leaf_of(alloc, value),
+        FormAt::One(type_below) => {
+            let id = take_element(alloc, type_below, below, place, value, rows)?;
+            Ok(link_or_null(id))
+        }
+        FormAt::Many(type_below) => take_list(alloc, type_below, below, place, value, rows),
+    }
+}
+
+/// The value of a leaf, where each of its numbers is whole.
+fn leaf_of(alloc: Global, value: &Value) -> Result<Field, Untaken>
+    ensures field { IfOk result (λ field. (path : says.Path) → field ≡ (says.leaf_of (plain_of_data (view value.now)) path).0) }
+    ensures said { OnOk result ((path : says.Path) → (says.leaf_of (plain_of_data (view value.now)) path).1 ≡ says.no_report) }
+{
+    match plain_of(alloc, value) {
+        Ok(plain) => Ok(Field::Leaf(plain)),
+        Err(PlainFault::NotWhole) => Err(Untaken::Faulty),
+        Err(PlainFault::NoMemory) => Err(Untaken::NoMemory),
+    }
+}
+
+/// Takes what a value says where a list of objects should stand.
+#[cycle(take)]
+fn take_list<'r>(
+    alloc: Global,
+    type_below: &BelowAt<'r>,
+    below: &mut GroupCache<'r>,
+    place: &Place<'_>,
+    value: &'r Value,
+    rows: &mut ObjectRows,
+) -> Result<Field, Untaken>
+    ensures field { IfOk result (λ field. (path : says.Path) → field ≡ (says.walk_of collect_plan (view value.now) (many (below_at type_below.now)) below.old.parts (made_at place.now) path).0) }
+    ensures said { OnOk result ((path : says.Path) → Adds rows.old rows.new (says.walk_of collect_plan (view value.now) (many (below_at type_below.now)) below.old.parts (made_at place.now) path).1) }
+    ensures below { below.new ≡ below.old }
+{
+    match value {
+        Value::Null => Ok(Field::Leaf(Plain::Null)),
+        Value::Bool(_) => Err(Untaken::Faulty),
+        Value::Number(_) => Err(Untaken::Faulty),
+        Value::String(_) => Err(Untaken::Faulty),
+        Value::Array(items) => {
+            let ids = take_elements(alloc, type_below, below, place, items, rows)?;
+            Ok(Field::Links(ids))
+        }
+        Value::Object(_) => Err(Untaken::Faulty),
+    }
+}
+
+/// Takes what the elements of a list say, and answers their ids.
+#[cycle(take)]
+fn take_elements<'r>(
+    alloc: Global,
+    type_below: &BelowAt<'r>,
+    below: &mut GroupCache<'r>,
+    place: &Place<'_>,
+    items: &'r Vec<Value>,
+    rows: &mut ObjectRows,
+) -> Result<OptIds, Untaken>
+    ensures ids { IfOk result (λ ids. (path : says.Path) → ids ≡ (says.elements_under (says.elements_of collect_plan (items_view items.now.items)) (below_at type_below.now) below.old.parts (made_at place.now) 0 path).0) }
+    ensures said { OnOk result ((path : says.Path) → Adds rows.old rows.new (says.elements_under (says.elements_of collect_plan (items_view items.now.items)) (below_at type_below.now) below.old.parts (made_at place.now) 0 path).1) }
+    ensures below { below.new ≡ below.old }
+{
+    let mut ids = OptIds::new(alloc);
+    'items: for (at, item) in items.iter().enumerate() {
+        let place = Place {
+            parent: place.parent,
+            key: place.key,
+            index: Some(at as u64),
+        };
+        let id = take_element(alloc, type_below, below, &place, item, rows)?;
+        ids.push(id)?;
+    }
+    Ok(ids)
+}
+
+/// Takes what an object, or null, says under a field of objects, and answers the id of the object.
+#[cycle(take)]
+fn take_element<'r>(
+    alloc: Global,
+    type_below: &BelowAt<'r>,
+    below: &mut GroupCache<'r>,
+    place: &Place<'_>,
+    value: &'r Value,
+    rows: &mut ObjectRows,
+) -> Result<Option<Id>, Untaken>
+    ensures id { IfOk result (λ id. (path : says.Path) → id ≡ (says.element_of collect_plan (view value.now) (below_at type_below.now) below.old.parts (id_of place.now) path).0) }
+    ensures said { OnOk result ((path : says.Path) → Adds rows.old rows.new (says.element_of collect_plan (view value.now) (below_at type_below.now) below.old.parts (id_of place.now) path).1) }
+    ensures below { below.new ≡ below.old }
+{
+    match value {
+        Value::Null => Ok(None),
+        Value::Bool(_) => Err(Untaken::Faulty),
+        Value::Number(_) => Err(Untaken::Faulty),
+        Value::String(_) => Err(Untaken::Faulty),
+        Value::Array(_) => Err(Untaken::Faulty),
+        Value::Object(members) => take_object(alloc, type_below, below, place, members, rows),
+    }
+}
+
+/// Takes what an object says, and answers its id.
+#[cycle(take)]
+fn take_object<'r>(
+    alloc: Global,
+    type_below: &BelowAt<'r>,
+    below: &mut GroupCache<'r>,
+    place: &Place<'_>,
+    members: &'r Map<String, Value>,
+    rows: &mut ObjectRows,
+) -> Result<Option<Id>, Untaken>
+    ensures id { IfOk result (λ id. (path : says.Path) → id ≡ (says.object_says collect_plan (members_view members.now.entries) (says.walks_of collect_plan (members_view members.now.entries)) (below_at type_below.now) below.old.parts (id_of place.now) path).0) }
+    ensures said { OnOk result ((path : says.Path) → Adds rows.old rows.new (says.object_says collect_plan (members_view members.now.entries) (says.walks_of collect_plan (members_view members.now.entries)) (below_at type_below.now) below.old.parts (id_of place.now) path).1) }
+    ensures below { below.new ≡ below.old }
+{
+    match type_under(type_below, members) {
+        Some(name) => take_type(alloc, type_below, below, name, place, members, rows),
+        None => Err(Untaken::Faulty),
+    }
+}
+
+/// Takes what an object of a type says, and answers its id.
+#[cycle(take)]
+fn take_type<'r>(
+    alloc: Global,
+    type_below: &BelowAt<'r>,
+    below: &mut GroupCache<'r>,
+    name: &'r str,
+    place: &Place<'_>,
+    members: &'r Map<String, Value>,
+    rows: &mut ObjectRows,
+) -> Result<Option<Id>, Untaken>
+    ensures id { IfOk result (λ id. (path : says.Path) → id ≡ (says.typed_says collect_plan (members_view members.now.entries) (says.walks_of collect_plan (members_view members.now.entries)) (below_at type_below.now) below.old.parts (id_of place.now) path (Some name.now)).0) }
+    ensures said { OnOk result ((path : says.Path) → Adds rows.old rows.new (says.typed_says collect_plan (members_view members.now.entries) (says.walks_of collect_plan (members_view members.now.entries)) (below_at type_below.now) below.old.parts (id_of place.now) path (Some name.now)).1) }
+    ensures below { below.new ≡ below.old }
+{
+    let at = place_of(
+        alloc,
+        &below.parts,
+        below.levels,
+        &mut below.places,
+        &mut below.types,
+        name,
+    )?;
+    take_typed(
+        alloc,
+        type_below,
+        &mut below.types[at],
+        place,
+        members,
+        rows,
+    )
+}
+
+/// Takes what an object of a type says, by the groups of the type, and answers its id.
+#[cycle(take)]
+fn take_typed<'r>(
+    alloc: Global,
+    type_below: &BelowAt<'r>,
+    of: &mut TypeGroups<'r>,
+    place: &Place<'_>,
+    members: &'r Map<String, Value>,
+    rows: &mut ObjectRows,
+) -> Result<Option<Id>, Untaken>
+    requires { plans_of of.old.below.items ≡ parts_of of.old.groups }
+    ensures id { IfOk result (λ id. (path : says.Path) → id ≡ (walk.object_told (members_view members.now.entries) (below_at type_below.now) of.old.name.now of.old.groups (id_of place.now) path).0) }
+    ensures said { OnOk result ((path : says.Path) → Adds rows.old rows.new (walk.object_told (members_view members.now.entries) (below_at type_below.now) of.old.name.now of.old.groups (id_of place.now) path).1) }
+    ensures below { IsSame of.old of.new }
+{
+    if is_other_type(type_below, of, members) {
+        return Err(Untaken::Faulty);
+    }
+    let has_id = type_below.identified.contains(of.name);
+    let id = take_id(alloc, has_id, place, member(members, "id"))?;
+    let mut fields = Vec::with_capacity(alloc, of.groups.as_slice().len())?;
+    take_groups(
+        alloc,
+        of.groups.as_slice(),
+        &mut of.below,
+        &id,
+        members,
+        &mut fields,
+        rows,
+    )?;
+    let link = id.as_words().copy()?;
+    rows.push(id.into_words()?, Words::new(alloc, of.name)?, fields)?;
+    Ok(Some(link))
+}
+
+/// The id of an object: that under `id`, where its type has one; else the one that is made for it.
+fn take_id(
+    alloc: Global,
+    has_id: bool,
+    place: &Place<'_>,
+    given: Option<&Value>,
+) -> Result<SharedText, Untaken>
+    ensures id { IfOk result (λ id. (path : says.Path) → id ≡ (says.id_under has_id (id_of place.now) (path ++ Key (codes "id") ∷ []) (option_map (λ v. view v.now) given.entry)).0) }
+    ensures said { OnOk result ((path : says.Path) → (says.id_under has_id (id_of place.now) (path ++ Key (codes "id") ∷ []) (option_map (λ v. view v.now) given.entry)).1 ≡ says.no_report) }
+{
+    if !has_id {
+        return Ok(made_id(alloc, place)?);
+    }
+    match given {
+        None => Ok(made_id(alloc, place)?),
+        Some(value) => given_id(alloc, place, value),
+    }
+}
+
+/// The id of an object for which this value is given.
+fn given_id(alloc: Global, place: &Place<'_>, value: &Value) -> Result<SharedText, Untaken>
+    ensures id { IfOk result (λ id. (path : says.Path) → id ≡ (says.id_of_value (id_of place.now) (path ++ Key (codes "id") ∷ []) (Some (view value.now))).0) }
+    ensures said { OnOk result ((path : says.Path) → (says.id_of_value (id_of place.now) (path ++ Key (codes "id") ∷ []) (Some (view value.now))).1 ≡ says.no_report) }
+{
+    match value {
+        Value::Null => Ok(made_id(alloc, place)?),
+        Value::Bool(_) => Err(Untaken::Faulty),
+        Value::Number(_) => Err(Untaken::Faulty),
+        Value::String(text) => text_id(alloc, text.as_str()),
+        Value::Array(_) => Err(Untaken::Faulty),
+        Value::Object(_) => Err(Untaken::Faulty),
+    }
+}
+
+/// The id that a text is: one that is not empty, and not like a generated one.
+fn text_id(alloc: Global, text: &str) -> Result<SharedText, Untaken>
+    ensures id { IfOk result (λ id. (made : Text) (path : says.Path) → id ≡ (says.id_of_text made path text.now).0) }
+    ensures said { OnOk result ((made : Text) (path : says.Path) → (says.id_of_text made path text.now).1 ≡ says.no_report) }
+{
+    if text.is_empty() {
+        return Err(Untaken::Faulty);
+    }
+    if text.starts_with("client:") {
+        return Err(Untaken::Faulty);
+    }
+    Ok(SharedText::new(alloc, Words::new(alloc, text)?)?)
+}
