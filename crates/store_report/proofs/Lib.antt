@@ -1,6 +1,9 @@
 pub mod AddSteps
+pub mod ClashSteps
+pub mod ClashVerdicts
 pub mod Clashes
 pub mod GatherSteps
+pub mod JoinOrder
 pub mod JoinSteps
 pub mod Joins
 pub mod LastSteps
@@ -13,3 +16,5 @@ pub mod RowVerdicts
 pub mod SameMembers
 pub mod Seatings
 pub mod Takings
+pub mod TornFields
+pub mod TornRows

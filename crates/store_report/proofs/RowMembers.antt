@@ -21,7 +21,7 @@ use Rattle.store_record.specs.Equal.{fields_eq, fields_eq-Decides}
 use Rattle.store_record.specs.Keys.{Text}
 use Rattle.store_record.specs.declared.field.Field.{Field}
 use Rattle.store_record.specs.declared.field.Field.TheVariants.{Leaf}
-use Rattle.store_model.proofs.Least.{Each}
+use Rattle.store_model.proofs.Least.{Each, each_append}
 use Rattle.store_model.proofs.Seated.{among_left, among_map, among_right, each_among, of_among}
 use Rattle.store_model.specs.Alike.{Among}
 use Rattle.store_model.specs.FactOrder.{text_cmp}
@@ -35,7 +35,7 @@ use Rattle.store_report.specs.ObjectRows.{HoldSame, object_facts}
 
 -- ---- two words for a member
 
-contains_among : {A : Type 0} (x : A) (xs : List A) (k : ℕ) → k < length xs → get_or xs k x ≡ x → Among x xs
+pub contains_among : {A : Type 0} (x : A) (xs : List A) (k : ℕ) → k < length xs → get_or xs k x ≡ x → Among x xs
 contains_among x [] k lt is = absurd (omega arith)
 contains_among x (y ∷ xs) zero lt is = inl is
 contains_among x (y ∷ xs) (suc k) lt is = inr (contains_among x xs k (omega arith) is)
@@ -83,7 +83,7 @@ strict_where cmp o xs found all e = strict_so cmp o xs (subst (IsAllAdjacentAnsw
 pub rows_total : IsTotalOrder (λ (a b : FactRow). text_cmp a.id b.id)
 rows_total = on_total (λ (r : FactRow). r.id) nat_list_cmp_total
 
-fields_total : IsTotalOrder (λ (a b : Text × Field). text_cmp a.0 b.0)
+pub fields_total : IsTotalOrder (λ (a b : Text × Field). text_cmp a.0 b.0)
 fields_total = on_total (λ (e : Text × Field). e.0) nat_list_cmp_total
 
 below_keys : (key : Text) (es : List (Text × Field)) → AllByRecursion (λ e. text_cmp key e.0 ≡ Less) es → AllByRecursion (λ k. text_cmp key k ≡ Less) (keys_of es)
@@ -133,9 +133,12 @@ none_of key (e ∷ es) all = ap (λ b. cond b (Some e.1) (member_at es key)) all
 pub apart_same : (xs ys : List (Text × Field)) → HoldSame xs ys → member_at ys typename ≡ None → member_at xs typename ≡ None
 apart_same xs ys same none = none_of typename xs (each_same (IsOther typename) xs ys same (others_of typename ys none))
 
+pub apart_append : (xs ys : List (Text × Field)) → member_at xs typename ≡ None → member_at ys typename ≡ None → member_at (xs ++ ys) typename ≡ None
+apart_append xs ys none nor = none_of typename (xs ++ ys) (each_append (IsOther typename) xs ys (others_of typename xs none) (others_of typename ys nor))
+
 -- ---- a key that is put among others
 
-same_cons : {A : Type 0} (x : A) (xs ys : List A) → HoldSame xs ys → HoldSame (x ∷ xs) (x ∷ ys)
+pub same_cons : {A : Type 0} (x : A) (xs ys : List A) → HoldSame xs ys → HoldSame (x ∷ xs) (x ∷ ys)
 same_cons x xs ys same = same_append (x ∷ []) (x ∷ []) xs ys (same_refl (x ∷ [])) same
 
 first_two : {A : Type 0} (z x y : A) (xs : List A) → Among z (x ∷ y ∷ xs) → Among z (y ∷ x ∷ xs)
@@ -165,7 +168,7 @@ same_put key value (e ∷ es) all = at (text_cmp key e.0) refl (same_put key val
 
 -- ---- what is seen of members
 
-among_from : {A B : Type 0} (f : A → B) (y : B) (xs : List A) (G : Type 0) → ((x : A) → Among x xs → f x ≡ y → G) → Among y (map f xs) → G
+pub among_from : {A B : Type 0} (f : A → B) (y : B) (xs : List A) (G : Type 0) → ((x : A) → Among x xs → f x ≡ y → G) → Among y (map f xs) → G
 among_from f y [] G found h = absurd h
 among_from f y (x ∷ xs) G found (inl e) = found x (inl refl) e
 among_from f y (x ∷ xs) G found (inr h) = among_from f y xs G (λ z there e. found z (inr there) e) h

@@ -28,7 +28,7 @@ not_itself key e = true≢false (sym (ap is_eq (tied_itself nat_list_cmp_total k
 turned : (a b : Text) → text_cmp a b ≡ Less → text_cmp b a ≡ Greater
 turned a b e = nat_list_cmp_total.antisymm b a ∙ ap ordering_reverse e
 
-same_text : (a b : Text) → text_cmp a b ≡ Equal → a ≡ b
+pub same_text : (a b : Text) → text_cmp a b ≡ Equal → a ≡ b
 same_text a b e = (bytes_eq-Decides a b).0 (sym (is_eq-slice_cmp a b) ∙ ap is_eq e)
 
 -- ---- a key behind others

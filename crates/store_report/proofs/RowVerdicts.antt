@@ -74,10 +74,10 @@ module _ {A : Type 0} (cmp : A → A → Ordering) (o : IsTotalOrder cmp) where
 
 -- ---- what the report is taken for
 
-pub rows_verdict : (r : Report) (facts : List Fact) → r.faults ≡ [] → IsStrictlySortedBy fact_cmp facts → HoldSame facts (facts_said r)
+pub rows_verdict : (r : Report) (facts : List Fact) → least fault_cmp r.faults ≡ None → IsStrictlySortedBy fact_cmp facts → HoldSame facts (facts_said r)
     → verdict r ≡ content (record { facts = facts; handles = in_order handle_cmp r.pages })
-rows_verdict r facts whole up same =
-    ap (λ faults. unless_fault (least fault_cmp faults) r) whole
+rows_verdict r facts none up same =
+    ap (λ fault. unless_fault fault r) none
     ∙ ap (λ o. unless_conflict o (seats r.puts) r.pages) settled
     ∙ ap (λ fs. content (record { facts = fs; handles = in_order handle_cmp r.pages })) taken
   where

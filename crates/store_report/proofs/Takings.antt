@@ -28,7 +28,7 @@ facts_placed = on_total fact_of facts_total
 
 -- ---- each place is named
 
-any_some : {A : Type 0} (test : A → Bool) (xs : List A) → list_any test xs ≡ true → (x : A) × Among x xs × (test x ≡ true)
+pub any_some : {A : Type 0} (test : A → Bool) (xs : List A) → list_any test xs ≡ true → (x : A) × Among x xs × (test x ≡ true)
 any_some test [] h = absurd (true≢false (sym h))
 any_some {A} test (x ∷ xs) h = at (test x) refl h (any_some test xs)
   where

@@ -6,6 +6,8 @@ pub mod ObjectRows
 pub mod PagePlaces
 pub mod Paths
 pub mod Refusals
+pub mod RowFields
 pub mod Rows
 pub mod SaidFacts
 pub mod Steps
+pub mod Trails

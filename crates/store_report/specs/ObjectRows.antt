@@ -1,8 +1,10 @@
 -- Rows of objects as they are met, and whether they hold what a report says, in whatever order.
-use Rattle.std.specs.Prelude.{◌≡◌, List, [], ◌∷◌, ◌++◌, map}
+use Rattle.std.specs.Prelude.{◌≡◌, true, false, List, [], ◌∷◌, ◌++◌, map, bytes_eq, Option, None}
+use Rattle.std.specs.List.{AllByRecursion}
 use Rattle.std.specs.Map.{keys_of}
 use Rattle.gql_plain.specs.Order.{AreInOrder}
 use Rattle.gql_plain.specs.declared.plain.Plain.TheVariants.{Text as Words}
+use Rattle.store_record.specs.Equal.{field_eq}
 use Rattle.store_record.specs.Keys.{Text}
 use Rattle.store_record.specs.declared.field.Field.{Field}
 use Rattle.store_record.specs.declared.field.Field.TheVariants.{Leaf}
@@ -11,8 +13,14 @@ use Rattle.store_model.specs.FactRows.{fact_at, IsFactRow}
 use Rattle.store_model.specs.Records.{typename}
 use Rattle.store_model.specs.Said.{Said}
 use Rattle.store_model.specs.Says.{Report, both, no_report}
+use Rattle.store_model.specs.Verdicts.{Verdict, content, fault_cmp, least, refusal}
 use Rattle.store_model.specs.declared.facts.Fact.{Fact}
 use Rattle.store_model.specs.declared.facts.FactRow.{FactRow}
+use Rattle.store_model.specs.declared.facts.HandleFact.{HandleFact}
+use Rattle.store_model.specs.declared.payload_fault.PayloadFault.{PayloadFault}
+use Rattle.store_report.specs.Gathering.{IsTypeName, lesser_some}
+use Rattle.store_report.specs.declared.untaken.Untaken.{Untaken}
+use Rattle.store_report.specs.declared.untaken.Untaken.TheVariants.{Fault, Clash, NoMemory}
 
 -- lists with the same members
 abbrev pub HoldSame : {A : Type 0} → List A → List A → Type 0
@@ -21,31 +29,63 @@ HoldSame {A} xs ys = (x : A) → (Among x xs → Among x ys) × (Among x ys → 
 abbrev pub facts_said : Report → List Fact
 facts_said r = map (λ p. p.fact) r.puts
 
--- what is held before, and what a report without a fault says, are held after it
-pub record Adds (before after : Said) (r : Report) : Type 0 where
-  pub whole : r.faults ≡ []
+-- facts, pages, and the least fault so far
+pub record Held : Type 0 where
+  pub facts : List Fact
+  pub handles : List HandleFact
+  pub fault : Option PayloadFault
+
+-- what is held before, and what a report says, are held after it
+pub record Adds (before after : Held) (r : Report) : Type 0 where
+  pub fault : after.fault ≡ lesser_some fault_cmp before.fault (least fault_cmp r.faults)
   pub pages : after.handles ≡ before.handles ++ r.pages
   pub facts : HoldSame after.facts (before.facts ++ facts_said r)
 
-abbrev pub nothing_held : Said
-nothing_held = record { facts = []; handles = [] }
+abbrev pub nothing_held : Held
+nothing_held = record { facts = []; handles = []; fault = None }
 
 -- what is held, with the fields of an object whose row is not whole yet
-abbrev pub with_open : Text → List (Text × Field) → Said → Said
-with_open id fields s = record { facts = s.facts ++ map (fact_at id) fields; handles = s.handles }
+abbrev pub with_open : Text → List (Text × Field) → Held → Held
+with_open id fields s = record { facts = s.facts ++ map (fact_at id) fields; handles = s.handles; fault = s.fault }
 
 -- the facts of an object: the name of its type, and its fields
 abbrev pub object_facts : Text → Text → List (Text × Field) → List Fact
 object_facts id name fields = map (fact_at id) ((typename, Leaf (Words name)) ∷ fields)
+
+-- what stands under `__typename` is a Name
+abbrev pub HaveTypeNames : List Fact → Type 0
+HaveTypeNames facts = AllByRecursion (λ f. bytes_eq f.key typename ≡ true → IsTypeName f.value) facts
 
 -- a row whose fields are in byte order of their keys
 pub record IsWhole (r : FactRow) : Type 0 where
   pub row : IsFactRow r
   pub order : AreInOrder (keys_of r.fields)
 
+-- one field of one record has two values
+pub record HaveClash (facts : List Fact) : Type 0 where
+  pub one : Fact
+  pub other : Fact
+  pub here : Among one facts
+  pub there : Among other facts
+  pub id : one.id ≡ other.id
+  pub key : one.key ≡ other.key
+  pub differ : field_eq one.value other.value ≡ false
+
+-- where facts are not joined to rows, two of them clash
+abbrev pub IsUnjoined : List Fact → Untaken → Type 0
+IsUnjoined facts (Fault f) = ⊥
+IsUnjoined facts Clash = HaveClash facts
+IsUnjoined facts NoMemory = Unit {0}
+
+-- the verdict refuses for the fault, or is of no content; that memory is lacking says nothing of a verdict
+abbrev pub IsUntaken : Verdict → Untaken → Type 0
+IsUntaken v (Fault f) = v ≡ refusal f
+IsUntaken v Clash = (s : Said) → v ≡ content s → ⊥
+IsUntaken v NoMemory = Unit {0}
+
 -- ---- laws
 
 -- what reports add one after another, they add together
 pub record AddingIsRight : Type 0 where
-  pub none : (s : Said) → Adds s s no_report
-  pub joins : (s t u : Said) (a b : Report) → Adds s t a → Adds t u b → Adds s u (both a b)
+  pub none : (s : Held) → Adds s s no_report
+  pub joins : (s t u : Held) (a b : Report) → Adds s t a → Adds t u b → Adds s u (both a b)

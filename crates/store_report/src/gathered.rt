@@ -146,7 +146,7 @@ fn said<'r>(
 }
 
 /// The fault that comes first, the first one of two that tie.
-fn lesser<'r>(first: Option<SaidFault<'r>>, fault: SaidFault<'r>) -> SaidFault<'r>
+pub(crate) fn lesser<'r>(first: Option<SaidFault<'r>>, fault: SaidFault<'r>) -> SaidFault<'r>
     ensures { Some (fault_of result) ≡ lesser_some fault_cmp (option_map fault_of first.entry) (Some (fault_of fault.entry)) }
 {
     match first {

@@ -1,17 +1,17 @@
 //! Rows of objects, joined to one for each id.
-ghost use Rattle.std.specs.Prelude.{◌≡◌, true, ◌++◌, Some, IfOk, OnOk};
+ghost use Rattle.std.specs.Prelude.{◌≡◌, true, ◌++◌, ◌∷◌, [], map, Some, IfErr, IfOk, OnOk};
 ghost use Rattle.std.specs.List.{AllByRecursion};
-ghost use Rattle.std.specs.List.Sorted.{IsPermutation, IsStrictlySortedBy};
-ghost use Rattle.gql_plain.specs.Names.{is_name};
+ghost use Rattle.std.specs.List.Sorted.{IsPermutation, IsSorted, IsStrictlySortedBy};
 ghost use Rattle.store_model.specs.FactOrder.{text_cmp};
 ghost use Rattle.store_model.specs.FactRows.{AreFactRows, HaveFieldsInOrder, facts_of, facts_of_row};
-ghost use Rattle.store_report.specs.Joining.{IsBegunNamed, begun_facts, row_eq};
-ghost use Rattle.store_report.specs.ObjectRows.{HoldSame, IsWhole};
+ghost use Rattle.store_report.specs.Joining.{IsApart, IsBegunApart, IsBegunAt, IsBegunBelow, begun_facts, row_eq, row_id};
+ghost use Rattle.store_report.specs.ObjectRows.{HoldSame, IsUnjoined, IsWhole};
 
 use crate::heads::{common_to, head_of};
-use crate::row_fields::by_key;
+use crate::object_row::BegunRow;
+use crate::row_fields::{Ordered, by_key};
 use crate::untaken::Untaken;
-use gql_plain::{Id, Name, NoMemory};
+use gql_plain::NoMemory;
 use std::alloc::Global;
 use std::mem;
 use store_model::FactRow;
@@ -23,14 +23,6 @@ const FEW: usize = 20;
 /// One more than the number of rows of which it is seen what their ids begin with.
 const SAMPLES: usize = 9;
 
-/// A row of an id, to which the fields of other rows of the id are put.
-#[derive(Drop)]
-pub(crate) struct BegunRow {
-    pub(crate) id: Id,
-    pub(crate) type_name: Name,
-    pub(crate) fields: Vec<SharedField>,
-}
-
 /// The rows in order of their ids, one for each id. Err: an id has two types, or a field of it two values.
 /// Rows that are in order are left as they stand, and take no memory.
 pub(crate) fn joined(alloc: Global, rows: Vec<FactRow>) -> Result<Vec<FactRow>, Untaken>
@@ -38,6 +30,7 @@ pub(crate) fn joined(alloc: Global, rows: Vec<FactRow>) -> Result<Vec<FactRow>, 
     ensures rows { IfOk result (λ whole. AreFactRows whole.items) }
     ensures fields { IfOk result (λ whole. HaveFieldsInOrder whole.items) }
     ensures same { IfOk result (λ whole. HoldSame (facts_of whole.items) (facts_of rows.items)) }
+    ensures clash { IfErr result (IsUnjoined (facts_of rows.items)) }
 {
     if do_rise(&rows) {
         return Ok(rows);
@@ -46,11 +39,7 @@ pub(crate) fn joined(alloc: Global, rows: Vec<FactRow>) -> Result<Vec<FactRow>, 
     if do_rise(&sorted) {
         return Ok(sorted);
     }
-    let whole = merged(alloc, sorted)?;
-    if do_rise(&whole) {
-        return Ok(whole);
-    }
-    Err(Untaken::Faulty)
+    merged(alloc, sorted)
 }
 
 /// Whether the id of each row stands after that of the one before it; takes no memory.
@@ -70,7 +59,8 @@ fn is_same(one: &FactRow, other: &FactRow) -> bool
 /// The rows in order of their ids, equal ones once. Those that stand side by side become one before any is
 /// put in order, and again then.
 fn once_in_order(rows: Vec<FactRow>) -> Result<Vec<FactRow>, NoMemory>
-    ensures { IfOk result (λ moved. HoldSame moved.items rows.items) }
+    ensures same { IfOk result (λ moved. HoldSame moved.items rows.items) }
+    ensures order { IfOk result (λ moved. IsSorted (λ a b. text_cmp a.id b.id) moved.items) }
 {
     let few = once(rows);
     let moved = in_order(few)?;
@@ -79,7 +69,8 @@ fn once_in_order(rows: Vec<FactRow>) -> Result<Vec<FactRow>, NoMemory>
 
 /// The rows, of equal ones that stand side by side the first; takes no memory.
 fn once(mut rows: Vec<FactRow>) -> Vec<FactRow>
-    ensures { HoldSame result.items rows.items }
+    ensures same { HoldSame result.items rows.items }
+    ensures order { IsSorted (λ a b. text_cmp a.id b.id) rows.items → IsSorted (λ a b. text_cmp a.id b.id) result.items }
 {
     rows.dedup_by(|next, kept| is_same(next, kept));
     rows
@@ -88,7 +79,8 @@ fn once(mut rows: Vec<FactRow>) -> Vec<FactRow>
 /// The rows in order of their ids. The last sort puts right what the order of heads leaves, which is mostly
 /// nothing.
 fn in_order(rows: Vec<FactRow>) -> Result<Vec<FactRow>, NoMemory>
-    ensures { IfOk result (λ moved. IsPermutation rows.items moved.items) }
+    ensures same { IfOk result (λ moved. IsPermutation rows.items moved.items) }
+    ensures order { IfOk result (λ moved. IsSorted (λ a b. text_cmp a.id b.id) moved.items) }
 {
     let mut rows = by_heads(rows)?;
     rows.sort_by(|one, other| one.id.cmp(&other.id))?;
@@ -125,11 +117,15 @@ fn common_start(rows: &[FactRow]) -> usize {
     common
 }
 
-/// The rows, with those of one id that stand side by side as one.
+/// The rows, which are in order of their ids, with those of one id as one. Err: an id has two types, or a
+/// field of it two values.
 fn merged(alloc: Global, rows: Vec<FactRow>) -> Result<Vec<FactRow>, Untaken>
-    requires { AllByRecursion IsWhole rows.items }
-    ensures whole { IfOk result (λ whole. AllByRecursion IsWhole whole.items) }
+    requires whole { AllByRecursion IsWhole rows.items }
+    requires order { IsSorted (λ a b. text_cmp a.id b.id) rows.items }
+    ensures rows { IfOk result (λ whole. AreFactRows whole.items) }
+    ensures fields { IfOk result (λ whole. HaveFieldsInOrder whole.items) }
     ensures same { IfOk result (λ whole. HoldSame (facts_of whole.items) (facts_of rows.items)) }
+    ensures clash { IfErr result (IsUnjoined (facts_of rows.items)) }
 {
     let mut whole = Vec::new(alloc);
     let mut begun: Option<BegunRow> = None;
@@ -145,7 +141,8 @@ fn merged(alloc: Global, rows: Vec<FactRow>) -> Result<Vec<FactRow>, Untaken>
     }
 }
 
-/// Puts a row to the one that is begun, or begins one with it, where it is of another id.
+/// Puts a row to the one that is begun, or begins one with it, where it is of another id. Err: the row that
+/// is begun is of another type, or a field of it has two values.
 fn take(
     alloc: Global,
     whole: &mut Vec<FactRow>,
@@ -154,10 +151,13 @@ fn take(
 ) -> Result<(), Untaken>
     requires rows { AllByRecursion IsWhole whole.old.items }
     requires row { IsWhole row }
-    requires named { IsBegunNamed begun.old }
+    requires apart { IsBegunApart begun.old }
+    requires order { IsBegunBelow whole.old.items begun.old row.id }
     ensures rows { OnOk result (AllByRecursion IsWhole whole.new.items) }
-    ensures named { OnOk result (IsBegunNamed begun.new) }
+    ensures apart { OnOk result (IsBegunApart begun.new) }
+    ensures order { OnOk result (IsBegunAt whole.new.items begun.new row.id) }
     ensures facts { OnOk result (HoldSame (facts_of whole.new.items ++ begun_facts begun.new) ((facts_of whole.old.items ++ begun_facts begun.old) ++ facts_of_row row)) }
+    ensures clash { IfErr result (IsUnjoined ((facts_of whole.old.items ++ begun_facts begun.old) ++ facts_of_row row)) }
 {
     match begun {
         Some(before) => {
@@ -181,7 +181,8 @@ fn take(
 /// Begins a row with another one.
 fn begin(alloc: Global, row: FactRow) -> Result<BegunRow, NoMemory>
     requires { IsWhole row }
-    ensures named { IfOk result (λ begun. is_name begun.type_name ≡ true) }
+    ensures id { IfOk result (λ begun. begun.id ≡ row.id) }
+    ensures apart { IfOk result IsApart }
     ensures facts { IfOk result (λ begun. HoldSame (begun_facts (Some begun)) (facts_of_row row)) }
 {
     let FactRow {
@@ -201,11 +202,14 @@ fn begin(alloc: Global, row: FactRow) -> Result<BegunRow, NoMemory>
 fn put(before: &mut BegunRow, row: FactRow) -> Result<(), Untaken>
     requires id { before.old.id ≡ row.id }
     requires row { IsWhole row }
-    ensures named { OnOk result (before.new.type_name ≡ before.old.type_name) }
+    requires apart { IsApart before.old }
+    ensures id { OnOk result (before.new.id ≡ before.old.id) }
+    ensures apart { OnOk result (IsApart before.new) }
     ensures facts { OnOk result (HoldSame (begun_facts (Some before.new)) (begun_facts (Some before.old) ++ facts_of_row row)) }
+    ensures clash { IfErr result (IsUnjoined (begun_facts (Some before.old) ++ facts_of_row row)) }
 {
     if before.type_name != row.type_name {
-        return Err(Untaken::Faulty);
+        return Err(Untaken::Clash);
     }
     put_copies(&mut before.fields, row.fields.as_slice())?;
     Ok(())
@@ -224,22 +228,28 @@ fn put_copies(fields: &mut Vec<SharedField>, more: &[SharedField]) -> Result<(),
 /// Puts a row that is done behind others. Err: a field of it has two values.
 fn close(whole: &mut Vec<FactRow>, row: BegunRow) -> Result<(), Untaken>
     requires rows { AllByRecursion IsWhole whole.old.items }
-    requires named { is_name row.type_name ≡ true }
+    requires apart { IsApart row }
     ensures rows { OnOk result (AllByRecursion IsWhole whole.new.items) }
+    ensures ids { OnOk result (map row_id whole.new.items ≡ map row_id whole.old.items ++ row.id ∷ []) }
     ensures facts { OnOk result (HoldSame (facts_of whole.new.items) (facts_of whole.old.items ++ begun_facts (Some row))) }
+    ensures clash { IfErr result (IsUnjoined (begun_facts (Some row))) }
 {
     let BegunRow {
         id,
         type_name,
         fields,
     } = row;
-    let fields = by_key(fields)?;
-    whole.push(FactRow {
-        id,
-        type_name,
-        fields,
-    })?;
-    Ok(())
+    match by_key(fields)? {
+        Ordered::Whole(fields) => {
+            whole.push(FactRow {
+                id,
+                type_name,
+                fields,
+            })?;
+            Ok(())
+        }
+        Ordered::Torn(_) => Err(Untaken::Clash),
+    }
 }
 
 /// The fields, each with one more owner.

@@ -5,46 +5,41 @@ ghost use Rattle.gql_plain.specs.Order.{AreInOrder, member_at};
 ghost use Rattle.store_model.specs.Records.{typename};
 ghost use Rattle.store_record.specs.Equal.{entry_eq};
 ghost use Rattle.store_report.specs.ObjectRows.{HoldSame};
+ghost use Rattle.store_report.specs.RowFields.{AreOthers, DoFall, HasTypeKey, IsOrdered, entries_of, says_name};
 
-use crate::untaken::Untaken;
-use store_record::{Fields, SharedField};
+use gql_plain::{NoMemory, Plain};
+use store_record::{Field, Fields, SharedField};
 
-/// The fields in order of their keys, each once. Err: a key has two values, or is that of the name of a
-/// type. Fields that are in order are left as they stand, and take no memory.
-pub(crate) fn by_key(mut fields: Vec<SharedField>) -> Result<Fields, Untaken>
-    ensures same { IfOk result (λ whole. HoldSame whole fields.items) }
-    ensures apart { IfOk result (λ whole. member_at whole typename ≡ None) }
-    ensures order { IfOk result (λ whole. AreInOrder (keys_of whole)) }
+/// The fields of a row, in order of their keys where no key has two values.
+#[derive(Drop)]
+pub(crate) enum Ordered {
+    /// In order, each once.
+    Whole(Fields),
+    /// One of the keys has two values.
+    Torn(Vec<SharedField>),
+}
+
+/// The fields in order of their keys, each once. Those that are in order are left as they stand, and
+/// take no memory.
+pub(crate) fn by_key(mut fields: Vec<SharedField>) -> Result<Ordered, NoMemory>
+    ensures same { IfOk result (λ ordered. HoldSame (entries_of ordered) fields.items) }
+    ensures order { IfOk result IsOrdered }
 {
-    if has_type_key(&fields) {
-        return Err(Untaken::Faulty);
-    }
     if do_rise(&fields) {
-        return Ok(Fields::from_entries(fields));
+        return Ok(Ordered::Whole(Fields::from_entries(fields)));
     }
     fields.sort_by(|one, other| one.key().cmp(other.key()))?;
     fields.dedup_by(|next, kept| is_same(next, kept));
     if do_rise(&fields) {
-        return Ok(Fields::from_entries(fields));
+        return Ok(Ordered::Whole(Fields::from_entries(fields)));
     }
-    Err(Untaken::Faulty)
-}
-
-/// Whether one of the fields has the key of the name of a type; takes no memory.
-fn has_type_key(fields: &[SharedField]) -> bool
-    ensures { result ≡ false → member_at fields.now typename ≡ None }
-{
-    'fields: for field in fields {
-        if field.key() == "__typename" {
-            return true;
-        }
-    }
-    false
+    Ok(Ordered::Torn(fields))
 }
 
 /// Whether each key stands after the one before it; takes no memory.
 fn do_rise(fields: &[SharedField]) -> bool
-    ensures { result ≡ true → AreInOrder (keys_of fields.now) }
+    ensures rise { result ≡ true → AreInOrder (keys_of fields.now) }
+    ensures fall { result ≡ false → DoFall fields.now }
 {
     fields.is_sorted_by(|one, other| one.key().cmp(other.key()).is_lt())
 }
@@ -54,4 +49,38 @@ fn is_same(one: &SharedField, other: &SharedField) -> bool
     ensures { result ≡ entry_eq one.now other.now }
 {
     one.key() == other.key() && one.field() == other.field()
+}
+
+/// Whether one of the fields has the key of the name of a type; takes no memory.
+pub(crate) fn has_type_key(fields: &[SharedField]) -> bool
+    ensures none { result ≡ false → member_at fields.now typename ≡ None }
+    ensures some { result ≡ true → HasTypeKey fields.now }
+{
+    'fields: for field in fields {
+        if field.key() == "__typename" {
+            return true;
+        }
+    }
+    false
+}
+
+/// The fields, without those that say the name of the type; takes no memory.
+pub(crate) fn without_name(mut fields: Vec<SharedField>, name: &str) -> Vec<SharedField>
+    ensures { AreOthers name.now result.items fields.items }
+{
+    fields.retain(|field| !does_say(field, name));
+    fields
+}
+
+/// Whether a field says the name of the type; takes no memory.
+fn does_say(field: &SharedField, name: &str) -> bool
+    ensures { result ≡ says_name name.now field.now }
+{
+    if field.key() != "__typename" {
+        return false;
+    }
+    match field.field() {
+        Field::Leaf(Plain::Text(text)) => text.as_str() == name,
+        _ => false,
+    }
 }

@@ -1,4 +1,4 @@
-use Rattle.store_report.proofs.AddSteps.{adds_none, adds_both, field_added, object_added, page_put}
+use Rattle.store_report.proofs.AddSteps.{adds_none, adds_both}
 use Rattle.store_report.proofs.laws.adding_is_right.Goals as goal
 
 pub returns : goal.returns

@@ -1,0 +1,112 @@
+-- A report whose facts clash is taken for no content, and rows that are torn hold such facts.
+use Rattle.std.proofs.Common.{◌≡◌, true, true≢false, ◌&&◌, List, [], ◌∷◌, ◌++◌, Option, Some, None, bytes_eq, refl, sym, ap, ◌∙◌, subst, inl, inr}
+use Rattle.std.proofs.lemmas.Slice.Eq.{bytes_eq-Decides}
+use Rattle.std.specs.List.{AllByRecursion}
+use Rattle.gql_plain.specs.Names.{is_name}
+use Rattle.gql_plain.specs.declared.plain.Plain.TheVariants.{Text as Words}
+use Rattle.store_record.specs.Equal.{field_eq, field_eq-Decides}
+use Rattle.store_record.specs.declared.field.Field.TheVariants.{Leaf}
+use Rattle.store_model.proofs.Seated.{among_left, among_right, of_among}
+use Rattle.store_model.proofs.Seats.{each_has_a_seat, seats_are}
+use Rattle.store_model.specs.Alike.{Among}
+use Rattle.store_model.specs.FactRows.{fact_at}
+use Rattle.store_model.specs.Records.{name_given, typename}
+use Rattle.store_model.specs.Said.{Said}
+use Rattle.store_model.specs.Says.{Put, Report}
+use Rattle.store_model.specs.Verdicts.{HaveOneValue, IsSeat, Seat, SecondIs, Verdict, content, fault_cmp, first_conflict, least, refusal, same_place, seats, unless_conflict, unless_fault, verdict}
+use Rattle.store_model.specs.declared.facts.Fact.{Fact}
+use Rattle.store_model.specs.declared.facts.HandleFact.{HandleFact}
+use Rattle.store_model.specs.declared.payload_fault.PayloadFault.{PayloadFault}
+use Rattle.store_report.proofs.ClashSteps.{clash_more}
+use Rattle.store_report.proofs.Clashes.{place_as, place_itself}
+use Rattle.store_report.proofs.RowMembers.{among_from}
+use Rattle.store_report.proofs.Takings.{any_some}
+use Rattle.store_report.specs.Gathering.{IsTypeName}
+use Rattle.store_report.specs.Joining.{IsTorn, begun_facts, torn_facts}
+use Rattle.store_report.specs.ObjectRows.{Adds, HaveClash, HaveTypeNames, Held, IsUnjoined, IsUntaken, facts_said, nothing_held}
+use Rattle.store_report.specs.declared.object_row.BegunRow.{BegunRow}
+use Rattle.store_report.specs.declared.untaken.Untaken.{Untaken}
+use Rattle.store_report.specs.declared.untaken.Untaken.TheVariants.{Fault, Clash, NoMemory}
+
+-- ---- where no seat has a second value
+
+no_second : (ss : List Seat) → first_conflict ss ≡ None → (s : Seat) → Among s ss → s.second ≡ None
+no_second [] e s h = absurd h
+no_second (t ∷ ss) e s h = at t.second refl e h (λ rest. no_second ss rest s)
+  where
+    IsThere : Option PayloadFault → Type 0
+    IsThere None = ⊥
+    IsThere (Some f) = Unit {0}
+
+    at : (o : Option Put) → t.second ≡ o → first_conflict (record { first = t.first; second = o } ∷ ss) ≡ None → Among s (t ∷ ss)
+        → (first_conflict ss ≡ None → Among s ss → s.second ≡ None) → s.second ≡ None
+    at None f g (inl same) rest = subst (λ u. u.second ≡ None) same f
+    at None f g (inr there) rest = rest g there
+    at (Some q) f g there rest = absurd (subst IsThere g tt)
+
+-- puts of one place have one value
+one_value : (puts : List Put) → first_conflict (seats puts) ≡ None → (p q : Put) → Among p puts → Among q puts → same_place p q ≡ true → p.fact.value ≡ q.fact.value
+one_value puts none p q here there place =
+    let found = any_some (λ (s : Seat). same_place s.first p) (seats puts) (each_has_a_seat puts p here) in
+    let first = found.0.first in
+    let is : IsSeat puts found.0 = of_among (IsSeat puts) found.0 (seats puts) (seats_are puts) found.1 in
+    let values : HaveOneValue puts first = subst (SecondIs puts first) (no_second (seats puts) none found.0 found.1) is.second in
+    let own : (r : Put) → Among r puts → same_place first r ≡ true → r.fact.value ≡ first.fact.value
+    = λ r h e. (field_eq-Decides r.fact.value first.fact.value).0 (of_among (λ r. same_place first r ≡ true → field_eq r.fact.value first.fact.value ≡ true) r puts values h e) in
+    own p here found.2 ∙ sym (own q there (place_as first p q found.2 ∙ place))
+
+-- ---- what a verdict of content tells
+
+abbrev IsRefusal : Verdict → Type 0
+IsRefusal (refusal f) = Unit {0}
+IsRefusal (content s) = ⊥
+
+no_conflict : (o : Option PayloadFault) (ss : List Seat) (pages : List HandleFact) (s : Said) → unless_conflict o ss pages ≡ content s → o ≡ None
+no_conflict None ss pages s e = refl
+no_conflict (Some f) ss pages s e = absurd (subst IsRefusal e tt)
+
+settled : (o : Option PayloadFault) (r : Report) (s : Said) → unless_fault o r ≡ content s → first_conflict (seats r.puts) ≡ None
+settled None r s e = no_conflict (first_conflict (seats r.puts)) (seats r.puts) r.pages s e
+settled (Some f) r s e = absurd (subst IsRefusal e tt)
+
+no_content : (r : Report) → HaveClash (facts_said r) → (s : Said) → verdict r ≡ content s → ⊥
+no_content r clash s e =
+    among_from (λ (p : Put). p.fact) clash.one r.puts ⊥
+    (λ p here f. among_from (λ (q : Put). q.fact) clash.other r.puts ⊥ (λ q there g. tell p q here there f g) clash.there)
+    clash.here
+  where
+    tell : (p q : Put) → Among p r.puts → Among q r.puts → p.fact ≡ clash.one → q.fact ≡ clash.other → ⊥
+    tell p q here there f g =
+        let ids : q.fact.id ≡ p.fact.id = ap (λ (h : Fact). h.id) g ∙ sym clash.id ∙ sym (ap (λ (h : Fact). h.id) f) in
+        let keys : q.fact.key ≡ p.fact.key = ap (λ (h : Fact). h.key) g ∙ sym clash.key ∙ sym (ap (λ (h : Fact). h.key) f) in
+        let place : same_place p q ≡ true = (λ i. bytes_eq p.fact.id (ids i) && bytes_eq p.fact.key (keys i)) ∙ place_itself p in
+        let values : clash.one.value ≡ clash.other.value
+        = sym (ap (λ (h : Fact). h.value) f) ∙ one_value r.puts (settled (least fault_cmp r.faults) r s e) p q here there place ∙ ap (λ (h : Fact). h.value) g in
+        true≢false (sym ((field_eq-Decides clash.one.value clash.other.value).1 values) ∙ clash.differ)
+
+-- ---- what is held
+
+pub clash_untaken : (s : Held) (r : Report) → Adds nothing_held s r → HaveClash s.facts → (t : Said) → verdict r ≡ content t → ⊥
+clash_untaken s r adds clash = no_content r (clash_more s.facts (facts_said r) (λ f. (adds.facts f).0) clash)
+
+pub unjoined_untaken : (s : Held) (facts : List Fact) (refused : Untaken) → ((f : Fact) → Among f facts → Among f s.facts) → IsUnjoined facts refused
+    → (r : Report) → Adds nothing_held s r → IsUntaken (verdict r) refused
+unjoined_untaken s facts (Fault f) more h r adds = absurd h
+unjoined_untaken s facts Clash more h r adds = clash_untaken s r adds (clash_more facts s.facts more h)
+unjoined_untaken s facts NoMemory more h r adds = tt
+
+-- ---- rows that are torn
+
+pub torn_clash : (rows : List Fact) (torn : List BegunRow) → AllByRecursion IsTorn torn → HaveTypeNames (rows ++ torn_facts torn) → (torn ≡ [] → ⊥) → HaveClash (rows ++ torn_facts torn)
+torn_clash rows [] all named some = absurd (some refl)
+torn_clash rows (b ∷ bs) all named some = at all.0
+  where
+    there : (f : Fact) → Among f (begun_facts (Some b)) → Among f (rows ++ torn_facts (b ∷ bs))
+    there f h = among_right f rows (torn_facts (b ∷ bs)) (among_left f (begun_facts (Some b)) (torn_facts bs) h)
+
+    at : IsTorn b → HaveClash (rows ++ torn_facts (b ∷ bs))
+    at (inl misnamed) =
+        let name = fact_at b.id (typename, Leaf (Words b.type_name)) in
+        let is = of_among (λ (f : Fact). bytes_eq f.key typename ≡ true → IsTypeName f.value) name (rows ++ torn_facts (b ∷ bs)) named (there name (inl refl)) ((bytes_eq-Decides typename typename).1 refl) in
+        absurd (true≢false (sym (ap is_name (ap name_given is.1) ∙ is.2) ∙ misnamed))
+    at (inr clash) = clash_more (begun_facts (Some b)) (rows ++ torn_facts (b ∷ bs)) there clash
