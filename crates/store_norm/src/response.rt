@@ -23,8 +23,8 @@ use store_model::{Cause, Facts};
 use store_report::{Gathered, NormFault, Path, Untaken};
 
 /// The facts of a response to an operation, by its plan and environment. Err: the least fault of the
-/// response, by path and cause; where there is none, the first conflict by id and key. A response in which
-/// nothing is wrong is walked once; else a second walk tells what comes first. The groups of a list's
+/// response, by path and cause; where there is none, the first conflict by id and key. The response is
+/// walked once; where two values meet, a second walk tells where they are said. The groups of a list's
 /// elements are made once a walk for each of their types.
 pub fn facts(
     alloc: Global,
@@ -38,7 +38,8 @@ pub fn facts(
 {
     match taken(alloc, plan, env, response) {
         Ok(facts) => Ok(facts),
-        Err(Untaken::Faulty) => said(alloc, plan, env, response),
+        Err(Untaken::Fault(fault)) => Err(NormFault::Payload(fault)),
+        Err(Untaken::Clash) => said(alloc, plan, env, response),
         Err(Untaken::NoMemory) => Err(NormFault::NoMemory),
     }
 }

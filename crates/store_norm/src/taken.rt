@@ -1,34 +1,36 @@
-//! The facts of a response in which nothing is wrong.
-ghost use Rattle.std.specs.Prelude.{◌≡◌, ◌∷◌, [], option_map, Some, IfOk, OnOk};
+//! The facts of a response by rows.
+ghost use Rattle.std.specs.Prelude.{◌≡◌, ◌∷◌, [], option_map, true, Some, IfErr, IfOk, OnOk};
 ghost use Rattle.plan_groups.specs.FieldView.{plan_at};
-ghost use Rattle.plan_ir.specs.NormalMeaning.{collect_plan, plan_says};
+ghost use Rattle.plan_ir.specs.NormalMeaning.{collect_plan, is_formed, plan_says};
 ghost use Rattle.serde_json.specs.Data as J;
 ghost use Rattle.serde_json.specs.View.{members_view, view};
 ghost use Rattle.store_model.specs.Says as says;
 ghost use Rattle.store_model.specs.Verdicts.{content};
-ghost use Rattle.store_report.specs.ObjectRows.{Adds};
+ghost use Rattle.store_report.specs.ObjectRows.{Adds, IsUntaken};
 
 use crate::caching::{LEVELS, caches_below};
 use crate::members::member;
 use crate::taking::take_groups;
-use gql_plain::{SharedText, Words};
+use gql_plain::{NoMemory, SharedText, Words};
 use plan_groups::{Groups, PlanAt};
 use plan_ir::NormalPlan;
 use schema_values::Env;
 use serde_json::{Map, Value};
 use std::alloc::Global;
-use store_model::Facts;
-use store_report::{ObjectRows, Untaken};
+use store_model::{Cause, Facts};
+use store_report::{ObjectRows, Trail, Untaken};
 
-/// The facts of a response to an operation, by its plan and environment, where nothing is wrong in it.
-/// Paths are not made: where something is wrong, another walk is to tell what comes first.
+/// The facts of a response to an operation, by its plan and environment. Err: its least fault, by path
+/// and cause; where there is none, that there are two values for one field, wherever they are said.
 pub(crate) fn taken(
     alloc: Global,
     plan: &NormalPlan,
     env: &Env,
     response: &Value,
 ) -> Result<Facts, Untaken>
-    ensures { IfOk result (λ facts. plan_says env.now.root env.now.values plan.now.steps (view response.now) ≡ content facts) }
+    requires formed { is_formed plan.now.steps ≡ true }
+    ensures facts { IfOk result (λ facts. plan_says env.now.root env.now.values plan.now.steps (view response.now) ≡ content facts) }
+    ensures untaken { IfErr result (IsUntaken (plan_says env.now.root env.now.values plan.now.steps (view response.now))) }
 {
     let mut rows = ObjectRows::new(alloc);
     let part = PlanAt::new(env, plan);
@@ -42,16 +44,16 @@ fn take_response<'r>(
     root: &str,
     part: PlanAt<'r>,
     response: &'r Value,
-    rows: &mut ObjectRows,
-) -> Result<(), Untaken>
+    rows: &mut ObjectRows<'r>,
+) -> Result<(), NoMemory>
     ensures { OnOk result (Adds rows.old rows.new (says.response_says collect_plan root.now (plan_at part.entry ∷ []) (view response.now))) }
 {
     match response {
-        Value::Null => Err(Untaken::Faulty),
-        Value::Bool(_) => Err(Untaken::Faulty),
-        Value::Number(_) => Err(Untaken::Faulty),
-        Value::String(_) => Err(Untaken::Faulty),
-        Value::Array(_) => Err(Untaken::Faulty),
+        Value::Null => rows.fault(alloc, &Trail::new(), Cause::NoData),
+        Value::Bool(_) => rows.fault(alloc, &Trail::new(), Cause::NoData),
+        Value::Number(_) => rows.fault(alloc, &Trail::new(), Cause::NoData),
+        Value::String(_) => rows.fault(alloc, &Trail::new(), Cause::NoData),
+        Value::Array(_) => rows.fault(alloc, &Trail::new(), Cause::NoData),
         Value::Object(members) => take_data(alloc, root, part, member(members, "data"), rows),
     }
 }
@@ -62,18 +64,18 @@ fn take_data<'r>(
     root: &str,
     part: PlanAt<'r>,
     given: Option<&'r Value>,
-    rows: &mut ObjectRows,
-) -> Result<(), Untaken>
+    rows: &mut ObjectRows<'r>,
+) -> Result<(), NoMemory>
     ensures { OnOk result (Adds rows.old rows.new (says.root_says collect_plan root.now (plan_at part.entry ∷ []) (option_map (λ v. view v.now) given.entry))) }
 {
     match given {
-        None => Err(Untaken::Faulty),
+        None => rows.fault(alloc, &Trail::new(), Cause::NoData),
         Some(value) => match value {
-            Value::Null => Err(Untaken::Faulty),
-            Value::Bool(_) => Err(Untaken::Faulty),
-            Value::Number(_) => Err(Untaken::Faulty),
-            Value::String(_) => Err(Untaken::Faulty),
-            Value::Array(_) => Err(Untaken::Faulty),
+            Value::Null => rows.fault(alloc, &Trail::new(), Cause::NoData),
+            Value::Bool(_) => rows.fault(alloc, &Trail::new(), Cause::Shape),
+            Value::Number(_) => rows.fault(alloc, &Trail::new(), Cause::Shape),
+            Value::String(_) => rows.fault(alloc, &Trail::new(), Cause::Shape),
+            Value::Array(_) => rows.fault(alloc, &Trail::new(), Cause::Shape),
             Value::Object(members) => take_root(alloc, root, part, members, rows),
         },
     }
@@ -85,14 +87,15 @@ fn take_root<'r>(
     root: &str,
     part: PlanAt<'r>,
     members: &'r Map<String, Value>,
-    rows: &mut ObjectRows,
-) -> Result<(), Untaken>
+    rows: &mut ObjectRows<'r>,
+) -> Result<(), NoMemory>
     ensures { OnOk result (Adds rows.old rows.new (says.root_says collect_plan root.now (plan_at part.entry ∷ []) (Some (J.object (members_view members.now.entries))))) }
 {
     let parts = [part];
     let groups = Groups::of(alloc, root, &parts)?;
     let mut below = caches_below(alloc, groups.as_slice(), LEVELS)?;
     let id = SharedText::new(alloc, Words::new(alloc, "client:root")?)?;
+    let trail = Trail::new();
     let mut fields = Vec::with_capacity(alloc, groups.as_slice().len())?;
     take_groups(
         alloc,
@@ -100,9 +103,11 @@ fn take_root<'r>(
         &mut below,
         &id,
         members,
+        &trail,
         &mut fields,
         rows,
     )?;
-    rows.push(id.into_words()?, Words::new(alloc, "__Root")?, fields)?;
+    let name = Words::new(alloc, "__Root")?;
+    rows.push(id.into_words()?, name, fields)?;
     Ok(())
 }

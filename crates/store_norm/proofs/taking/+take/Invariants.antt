@@ -4,7 +4,7 @@ use Rattle.plan_groups.specs.FieldView.{below_at}
 use Rattle.plan_ir.specs.NormalMeaning.{collect_plan}
 use Rattle.serde_json.specs.Data as J
 use Rattle.serde_json.specs.View.{items_view, members_view, view}
-use Rattle.store_model.specs.Says.{Path, elements_of, elements_under, groups_say, walks_of}
+use Rattle.store_model.specs.Says.{elements_of, elements_under, groups_say, walks_of}
 use Rattle.store_norm.proofs.TakeSteps.{Ends}
 use Rattle.store_norm.proofs.taking.+take.Given as goal
 use Rattle.store_norm.specs.MadeView.{made_at}
@@ -43,16 +43,16 @@ decreases-take_group l = 10 * J.depth (J.object (members_view l.members.now.entr
 -- what was taken and what is left are the whole
 abbrev pub invariant-take_groups-groups : goal.invariant-take_groups-groups
 invariant-take_groups-groups l =
-    ((path : Path) → Ends (with_open l.id l.initial.fields.items l.initial.rows) (with_open l.id l.fields.items l.rows)
-    (groups_say collect_plan l.id path (walks_of collect_plan (members_view l.members.entries)) (drop l.at l.groups))
-    (groups_say collect_plan l.id path (walks_of collect_plan (members_view l.members.entries)) l.groups))
+    (Ends (with_open l.id l.initial.fields.items l.initial.rows) (with_open l.id l.fields.items l.rows)
+    (groups_say collect_plan l.id l.trail (walks_of collect_plan (members_view l.members.entries)) (drop l.at l.groups))
+    (groups_say collect_plan l.id l.trail (walks_of collect_plan (members_view l.members.entries)) l.groups))
     × (l.below ≡ l.initial.below)
 
 abbrev pub invariant-take_elements-items : goal.invariant-take_elements-items
 invariant-take_elements-items l =
-    ((path : Path) → Ends l.initial.rows l.rows
-    (elements_under (elements_of collect_plan (items_view (drop l.at l.items.items))) (below_at l.type_below) l.below.parts (made_at l.fn.place) l.at path).1
-    (elements_under (elements_of collect_plan (items_view l.items.items)) (below_at l.type_below) l.initial.below.parts (made_at l.fn.place) 0 path).1)
-    × ((path : Path) → l.ids ++ (elements_under (elements_of collect_plan (items_view (drop l.at l.items.items))) (below_at l.type_below) l.below.parts (made_at l.fn.place) l.at path).0
-    ≡ (elements_under (elements_of collect_plan (items_view l.items.items)) (below_at l.type_below) l.initial.below.parts (made_at l.fn.place) 0 path).0)
+    (Ends l.initial.rows l.rows
+    (elements_under (elements_of collect_plan (items_view (drop l.at l.items.items))) (below_at l.type_below) l.below.parts (made_at l.fn.place) l.at l.trail).1
+    (elements_under (elements_of collect_plan (items_view l.items.items)) (below_at l.type_below) l.initial.below.parts (made_at l.fn.place) 0 l.trail).1)
+    × (l.ids ++ (elements_under (elements_of collect_plan (items_view (drop l.at l.items.items))) (below_at l.type_below) l.below.parts (made_at l.fn.place) l.at l.trail).0
+    ≡ (elements_under (elements_of collect_plan (items_view l.items.items)) (below_at l.type_below) l.initial.below.parts (made_at l.fn.place) 0 l.trail).0)
     × (l.below ≡ l.initial.below)

@@ -1,9 +1,16 @@
 -- The plain value of the response.
-use Rattle.std.proofs.Common.{ap}
+use Rattle.std.proofs.Common.{ap, subst}
 use Rattle.serde_json.specs.View.{view}
-use Rattle.store_model.specs.Says.{leaf_of}
 use Rattle.store_model.proofs.Plains.{plain_known}
+use Rattle.store_model.specs.Says.{Report, leaf_of}
 use Rattle.store_norm.proofs.taking.leaf_of.Goals as goal
+use Rattle.store_report.proofs.AddSteps.{adds_none}
+use Rattle.store_report.specs.ObjectRows.{Adds}
 
 pub returns-in-Ok-clause-field : goal.returns-in-Ok-clause-field
-returns-in-Ok-clause-field c = λ path. ap (λ o. (leaf_of o path).0) (plain_known c.in-Ok.plain (view c.args.value.now) c.in-Ok.ensures.same c.in-Ok.ensures.whole)
+returns-in-Ok-clause-field c = ap (λ o. (leaf_of o c.args.trail.now).0) (plain_known c.in-Ok.plain (view c.args.value.now) c.in-Ok.ensures.same c.in-Ok.ensures.whole)
+
+pub returns-in-Ok-clause-said : goal.returns-in-Ok-clause-said
+returns-in-Ok-clause-said c =
+    subst (λ (r : Report). Adds c.args.rows.now c.args.rows.now r)
+    (ap (λ o. (leaf_of o c.args.trail.now).1) (plain_known c.in-Ok.plain (view c.args.value.now) c.in-Ok.ensures.same c.in-Ok.ensures.whole)) (adds_none c.args.rows.now)
