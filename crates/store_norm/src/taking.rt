@@ -7,11 +7,11 @@ ghost use Rattle.store_model.specs.Events.{plain_of_data};
 ghost use Rattle.store_model.specs.Items.{many, parts};
 ghost use Rattle.store_model.specs.Records.{typename};
 ghost use Rattle.store_model.specs.Says as says;
+ghost use Rattle.store_model.specs.declared.payload_fault.Cause.TheVariants.{Shape, Typename};
 ghost use Rattle.store_model.specs.declared.payload_fault.PathStep.TheVariants.{Key};
 ghost use Rattle.store_norm.specs.CacheView.{IsSame};
 ghost use Rattle.store_norm.specs.Caching.{plans_of, parts_of};
 ghost use Rattle.store_norm.specs.MadeView.{id_of, made_at};
-ghost use Rattle.store_model.specs.declared.payload_fault.Cause.TheVariants.{Shape, Typename};
 ghost use Rattle.store_norm.specs.Walk as walk;
 ghost use Rattle.store_report.specs.ObjectRows.{Adds, with_open};
 

@@ -12,7 +12,7 @@ use Rattle.store_model.specs.declared.facts.Fact.{Fact}
 use Rattle.store_model.specs.declared.facts.HandleFact.{HandleFact}
 use Rattle.store_model.specs.declared.payload_fault.PayloadFault.{PayloadFault}
 use Rattle.store_report.proofs.Orders.{faults_total, least_append, some_assoc}
-use Rattle.store_report.proofs.SameMembers.{same_append, same_refl, same_swap, same_sym, same_trans}
+use Rattle.store_report.proofs.SameMembers.{same_append, same_refl, same_swap, same_sym, same_trans, swap_last}
 use Rattle.store_report.specs.Gathering.{lesser_some}
 use Rattle.store_report.specs.ObjectRows.{Adds, Held, HoldSame, facts_said, object_facts, with_open}
 
@@ -48,11 +48,6 @@ adds_both s t u a b first second = record {
 }
 
 -- the fields of an object whose row is not whole yet stand beside
-swap_last : (xs ys zs : List Fact) → HoldSame ((xs ++ ys) ++ zs) ((xs ++ zs) ++ ys)
-swap_last xs ys zs =
-    subst (HoldSame ((xs ++ ys) ++ zs)) (sym (append_assoc xs zs ys))
-    (subst (λ (fs : List Fact). HoldSame fs (xs ++ (zs ++ ys))) (sym (append_assoc xs ys zs)) (same_append xs xs (ys ++ zs) (zs ++ ys) (same_refl xs) (same_swap ys zs)))
-
 pub adds_open : (s t : Held) (r : Report) (id : Text) (fields : List (Text × Field)) → Adds s t r → Adds (with_open id fields s) (with_open id fields t) r
 adds_open s t r id fields added =
     let begun = map (fact_at id) fields in

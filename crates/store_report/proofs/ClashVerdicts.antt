@@ -1,7 +1,8 @@
--- A report whose facts clash is taken for no content, and rows that are torn hold such facts.
+-- A report without a fault whose facts clash is refused for a conflict, and rows that are torn hold such facts.
 use Rattle.std.proofs.Common.{◌≡◌, true, true≢false, ◌&&◌, List, [], ◌∷◌, ◌++◌, Option, Some, None, bytes_eq, refl, sym, ap, ◌∙◌, subst, inl, inr}
 use Rattle.std.proofs.lemmas.Slice.Eq.{bytes_eq-Decides}
 use Rattle.std.specs.List.{AllByRecursion}
+use Rattle.std.specs.Prelude.{◌⊎◌}
 use Rattle.gql_plain.specs.Names.{is_name}
 use Rattle.gql_plain.specs.declared.plain.Plain.TheVariants.{Text as Words}
 use Rattle.store_record.specs.Equal.{field_eq, field_eq-Decides}
@@ -11,9 +12,8 @@ use Rattle.store_model.proofs.Seats.{each_has_a_seat, seats_are}
 use Rattle.store_model.specs.Alike.{Among}
 use Rattle.store_model.specs.FactRows.{fact_at}
 use Rattle.store_model.specs.Records.{name_given, typename}
-use Rattle.store_model.specs.Said.{Said}
 use Rattle.store_model.specs.Says.{Put, Report}
-use Rattle.store_model.specs.Verdicts.{HaveOneValue, IsSeat, Seat, SecondIs, Verdict, content, fault_cmp, first_conflict, least, refusal, same_place, seats, unless_conflict, unless_fault, verdict}
+use Rattle.store_model.specs.Verdicts.{HaveOneValue, IsSeat, Seat, SecondIs, fault_cmp, first_conflict, least, same_place, seats, unless_conflict, unless_fault, verdict}
 use Rattle.store_model.specs.declared.facts.Fact.{Fact}
 use Rattle.store_model.specs.declared.facts.HandleFact.{HandleFact}
 use Rattle.store_model.specs.declared.payload_fault.PayloadFault.{PayloadFault}
@@ -23,7 +23,7 @@ use Rattle.store_report.proofs.RowMembers.{among_from}
 use Rattle.store_report.proofs.Takings.{any_some}
 use Rattle.store_report.specs.Gathering.{IsTypeName}
 use Rattle.store_report.specs.Joining.{IsTorn, begun_facts, torn_facts}
-use Rattle.store_report.specs.ObjectRows.{Adds, HaveClash, HaveTypeNames, Held, IsUnjoined, IsUntaken, facts_said, nothing_held}
+use Rattle.store_report.specs.ObjectRows.{Adds, HaveClash, HaveTypeNames, Held, IsConflict, IsUnjoined, IsUntaken, facts_said, nothing_held}
 use Rattle.store_report.specs.declared.object_row.BegunRow.{BegunRow}
 use Rattle.store_report.specs.declared.untaken.Untaken.{Untaken}
 use Rattle.store_report.specs.declared.untaken.Untaken.TheVariants.{Fault, Clash, NoMemory}
@@ -55,22 +55,22 @@ one_value puts none p q here there place =
     = λ r h e. (field_eq-Decides r.fact.value first.fact.value).0 (of_among (λ r. same_place first r ≡ true → field_eq r.fact.value first.fact.value ≡ true) r puts values h e) in
     own p here found.2 ∙ sym (own q there (place_as first p q found.2 ∙ place))
 
--- ---- what a verdict of content tells
+-- ---- what a report is refused for
 
-abbrev IsRefusal : Verdict → Type 0
-IsRefusal (refusal f) = Unit {0}
-IsRefusal (content s) = ⊥
+-- no seat has a second value, or the first that has one is refused
+none_or_conflict : (ss here : List Seat) (pages : List HandleFact) → (first_conflict ss ≡ None) ⊎ IsConflict (unless_conflict (first_conflict ss) here pages)
+none_or_conflict [] here pages = inl refl
+none_or_conflict (s ∷ ss) here pages = at s.second (none_or_conflict ss here pages)
+  where
+    NoneOr : List Seat → Type 0
+    NoneOr seats = (first_conflict seats ≡ None) ⊎ IsConflict (unless_conflict (first_conflict seats) here pages)
 
-no_conflict : (o : Option PayloadFault) (ss : List Seat) (pages : List HandleFact) (s : Said) → unless_conflict o ss pages ≡ content s → o ≡ None
-no_conflict None ss pages s e = refl
-no_conflict (Some f) ss pages s e = absurd (subst IsRefusal e tt)
+    at : (o : Option Put) → NoneOr ss → NoneOr (record { first = s.first; second = o } ∷ ss)
+    at None rest = rest
+    at (Some q) rest = inr (record { path = q.path; id = s.first.fact.id; key = s.first.fact.key; first = s.first.fact.value; second = q.fact.value; refused = refl })
 
-settled : (o : Option PayloadFault) (r : Report) (s : Said) → unless_fault o r ≡ content s → first_conflict (seats r.puts) ≡ None
-settled None r s e = no_conflict (first_conflict (seats r.puts)) (seats r.puts) r.pages s e
-settled (Some f) r s e = absurd (subst IsRefusal e tt)
-
-no_content : (r : Report) → HaveClash (facts_said r) → (s : Said) → verdict r ≡ content s → ⊥
-no_content r clash s e =
+two_values : (r : Report) → HaveClash (facts_said r) → first_conflict (seats r.puts) ≡ None → ⊥
+two_values r clash none =
     among_from (λ (p : Put). p.fact) clash.one r.puts ⊥
     (λ p here f. among_from (λ (q : Put). q.fact) clash.other r.puts ⊥ (λ q there g. tell p q here there f g) clash.there)
     clash.here
@@ -81,25 +81,32 @@ no_content r clash s e =
         let keys : q.fact.key ≡ p.fact.key = ap (λ (h : Fact). h.key) g ∙ sym clash.key ∙ sym (ap (λ (h : Fact). h.key) f) in
         let place : same_place p q ≡ true = (λ i. bytes_eq p.fact.id (ids i) && bytes_eq p.fact.key (keys i)) ∙ place_itself p in
         let values : clash.one.value ≡ clash.other.value
-        = sym (ap (λ (h : Fact). h.value) f) ∙ one_value r.puts (settled (least fault_cmp r.faults) r s e) p q here there place ∙ ap (λ (h : Fact). h.value) g in
+        = sym (ap (λ (h : Fact). h.value) f) ∙ one_value r.puts none p q here there place ∙ ap (λ (h : Fact). h.value) g in
         true≢false (sym ((field_eq-Decides clash.one.value clash.other.value).1 values) ∙ clash.differ)
+
+clash_refused : (r : Report) → least fault_cmp r.faults ≡ None → HaveClash (facts_said r) → IsConflict (verdict r)
+clash_refused r faultless clash = subst (λ o. IsConflict (unless_fault o r)) (sym faultless) (at (none_or_conflict (seats r.puts) (seats r.puts) r.pages))
+  where
+    at : (first_conflict (seats r.puts) ≡ None) ⊎ IsConflict (unless_fault None r) → IsConflict (unless_fault None r)
+    at (inl none) = absurd (two_values r clash none)
+    at (inr conflict) = conflict
 
 -- ---- what is held
 
-pub clash_untaken : (s : Held) (r : Report) → Adds nothing_held s r → HaveClash s.facts → (t : Said) → verdict r ≡ content t → ⊥
-clash_untaken s r adds clash = no_content r (clash_more s.facts (facts_said r) (λ f. (adds.facts f).0) clash)
+pub clash_untaken : (s : Held) (r : Report) → s.fault ≡ None → Adds nothing_held s r → HaveClash s.facts → IsConflict (verdict r)
+clash_untaken s r faultless adds clash = clash_refused r (sym adds.fault ∙ faultless) (clash_more s.facts (facts_said r) (λ f. (adds.facts f).0) clash)
 
-pub unjoined_untaken : (s : Held) (facts : List Fact) (refused : Untaken) → ((f : Fact) → Among f facts → Among f s.facts) → IsUnjoined facts refused
+pub unjoined_untaken : (s : Held) (facts : List Fact) (refused : Untaken) → s.fault ≡ None → ((f : Fact) → Among f facts → Among f s.facts) → IsUnjoined facts refused
     → (r : Report) → Adds nothing_held s r → IsUntaken (verdict r) refused
-unjoined_untaken s facts (Fault f) more h r adds = absurd h
-unjoined_untaken s facts Clash more h r adds = clash_untaken s r adds (clash_more facts s.facts more h)
-unjoined_untaken s facts NoMemory more h r adds = tt
+unjoined_untaken s facts (Fault f) faultless more h r adds = absurd h
+unjoined_untaken s facts Clash faultless more h r adds = clash_untaken s r faultless adds (clash_more facts s.facts more h)
+unjoined_untaken s facts NoMemory faultless more h r adds = tt
 
 -- ---- rows that are torn
 
-pub torn_clash : (rows : List Fact) (torn : List BegunRow) → AllByRecursion IsTorn torn → HaveTypeNames (rows ++ torn_facts torn) → (torn ≡ [] → ⊥) → HaveClash (rows ++ torn_facts torn)
-torn_clash rows [] all named some = absurd (some refl)
-torn_clash rows (b ∷ bs) all named some = at all.0
+pub torn_rows_clash : (rows : List Fact) (torn : List BegunRow) → AllByRecursion IsTorn torn → HaveTypeNames (rows ++ torn_facts torn) → (torn ≡ [] → ⊥) → HaveClash (rows ++ torn_facts torn)
+torn_rows_clash rows [] all named some = absurd (some refl)
+torn_rows_clash rows (b ∷ bs) all named some = at all.0
   where
     there : (f : Fact) → Among f (begun_facts (Some b)) → Among f (rows ++ torn_facts (b ∷ bs))
     there f h = among_right f rows (torn_facts (b ∷ bs)) (among_left f (begun_facts (Some b)) (torn_facts bs) h)

@@ -1,5 +1,5 @@
 -- Rows of one id are joined to one: what is held at each step.
-use Rattle.std.proofs.Common.{◌≡◌, false, List, [], ◌∷◌, ◌++◌, Option, Some, None, bytes_eq, append_assoc, refl, sym, subst, inl, inr}
+use Rattle.std.proofs.Common.{◌≡◌, false, List, [], ◌∷◌, ◌++◌, Option, Some, None, bytes_eq, append_assoc, refl, sym, subst, inl}
 use Rattle.std.proofs.lemmas.List.{append-nil}
 use Rattle.std.specs.List.{dedup}
 use Rattle.std.specs.List.Sorted.{IsPermutation, IsSorted, IsStrictlySortedBy}
@@ -10,18 +10,19 @@ use Rattle.store_record.specs.Keys.{Text}
 use Rattle.store_record.specs.declared.field.Field.{Field}
 use Rattle.store_record.specs.declared.field.Field.TheVariants.{Leaf}
 use Rattle.store_model.proofs.Least.{Each}
-use Rattle.store_model.proofs.Seated.{among_left, among_map, among_right}
+use Rattle.store_model.proofs.Seated.{among_left, among_right}
 use Rattle.store_model.specs.Alike.{Among}
 use Rattle.store_model.specs.FactOrder.{text_cmp}
 use Rattle.store_model.specs.FactRows.{AreFactRows, HaveFieldsInOrder, IsFactRow, fact_at, facts_of, facts_of_row}
 use Rattle.store_model.specs.Records.{typename}
 use Rattle.store_model.specs.declared.facts.FactRow.{FactRow}
-use Rattle.store_report.proofs.ClashSteps.{unjoined_more}
+use Rattle.store_report.proofs.ClashSteps.{clash_more, unjoined_more}
 use Rattle.store_report.proofs.JoinOrder.{DoNotFall, IsPlaced, not_falling, placed_at}
-use Rattle.store_report.proofs.RowMembers.{apart_same, each_weaker, row_eq-Decides, same_dedup, same_moved, same_row}
+use Rattle.store_report.proofs.RowMembers.{apart_same, each_weaker, row_eq-Decides, same_dedup, same_moved, same_object, same_row}
 use Rattle.store_report.proofs.SameMembers.{same_append, same_refl, same_trans}
+use Rattle.store_report.proofs.TornRows.{torn_clash}
 use Rattle.store_report.specs.Joining.{IsApart, IsBegunApart, IsBegunAt, begun_facts, row_eq}
-use Rattle.store_report.specs.ObjectRows.{HaveClash, HoldSame, IsUnjoined, IsWhole}
+use Rattle.store_report.specs.ObjectRows.{HaveClash, HoldSame, IsUnjoined, IsWhole, object_facts}
 use Rattle.store_report.specs.RowFields.{AreTorn}
 use Rattle.store_report.specs.declared.object_row.BegunRow.{BegunRow}
 use Rattle.store_report.specs.declared.untaken.Untaken.{Untaken}
@@ -59,16 +60,10 @@ two_types before row same is differ =
     }
 
 -- two values of one key of a row
-pub torn_clash : (row : BegunRow) (torn : List (Text × Field)) → HoldSame torn row.fields.items → AreTorn torn → HaveClash (begun_facts (Some row))
-torn_clash row torn same t = record {
-  one = fact_at row.id (t.key, t.one);
-  other = fact_at row.id (t.key, t.other);
-  here = inr (among_map (fact_at row.id) (t.key, t.one) row.fields.items ((same (t.key, t.one)).0 t.here));
-  there = inr (among_map (fact_at row.id) (t.key, t.other) row.fields.items ((same (t.key, t.other)).0 t.there));
-  id = refl;
-  key = refl;
-  differ = t.differ;
-}
+pub apart_clash : (row : BegunRow) (torn : List (Text × Field)) → HoldSame torn row.fields.items → AreTorn torn → HaveClash (begun_facts (Some row))
+apart_clash row torn same t =
+    clash_more (object_facts row.id row.type_name torn) (begun_facts (Some row)) (λ f. (same_object row.id row.type_name torn row.fields.items same f).0)
+    (torn_clash row.id row.type_name torn t)
 
 -- the fields of a row do not clash
 pub row_done : (row : BegunRow) (fields : List (Text × Field)) → IsApart row → HoldSame fields row.fields.items → AreInOrder (keys_of fields)

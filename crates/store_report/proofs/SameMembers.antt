@@ -1,5 +1,5 @@
 -- Lists with the same members.
-use Rattle.std.proofs.Common.{List, [], ◌∷◌, ◌++◌, inl, inr}
+use Rattle.std.proofs.Common.{List, [], ◌∷◌, ◌++◌, append_assoc, inl, inr, subst, sym}
 use Rattle.std.specs.Prelude.{◌⊎◌}
 use Rattle.store_model.proofs.Seated.{among_left, among_right}
 use Rattle.store_model.specs.Alike.{Among}
@@ -42,3 +42,9 @@ among_swap {A} x xs ys h = at (among_either x xs ys h)
 
 pub same_swap : {A : Type 0} (xs ys : List A) → HoldSame (xs ++ ys) (ys ++ xs)
 same_swap xs ys x = (among_swap x xs ys, among_swap x ys xs)
+
+-- the last two of three lists change places
+pub swap_last : {A : Type 0} (xs ys zs : List A) → HoldSame ((xs ++ ys) ++ zs) ((xs ++ zs) ++ ys)
+swap_last {A} xs ys zs =
+    subst (HoldSame ((xs ++ ys) ++ zs)) (sym (append_assoc xs zs ys))
+    (subst (λ (ws : List A). HoldSame ws (xs ++ (zs ++ ys))) (sym (append_assoc xs ys zs)) (same_append xs xs (ys ++ zs) (zs ++ ys) (same_refl xs) (same_swap ys zs)))

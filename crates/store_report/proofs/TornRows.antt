@@ -15,7 +15,7 @@ use Rattle.store_model.specs.Records.{typename}
 use Rattle.store_model.specs.declared.facts.Fact.{Fact}
 use Rattle.store_model.specs.declared.facts.FactRow.{FactRow}
 use Rattle.store_report.proofs.RowMembers.{apart_same, facts_push, same_map, same_object, same_row}
-use Rattle.store_report.proofs.SameMembers.{same_append, same_refl, same_swap, same_trans}
+use Rattle.store_report.proofs.SameMembers.{same_append, same_refl, same_trans, swap_last}
 use Rattle.store_report.proofs.TornFields.{values_differ}
 use Rattle.store_report.specs.Joining.{begun_facts, torn_facts}
 use Rattle.store_report.specs.ObjectRows.{HaveClash, HoldSame, IsWhole, object_facts}
@@ -83,11 +83,6 @@ others_same id name left all others = same_map (fact_at id) (first ∷ left) (fi
 pub torn_push : (rows : List BegunRow) (b : BegunRow) → torn_facts (rows ++ b ∷ []) ≡ torn_facts rows ++ begun_facts (Some b)
 torn_push [] b = append-nil (begun_facts (Some b))
 torn_push (r ∷ rows) b = ap (λ fs. begun_facts (Some r) ++ fs) (torn_push rows b) ∙ sym (append_assoc (begun_facts (Some r)) (torn_facts rows) (begun_facts (Some b)))
-
-swap_last : (xs ys zs : List Fact) → HoldSame ((xs ++ ys) ++ zs) ((xs ++ zs) ++ ys)
-swap_last xs ys zs =
-    subst (HoldSame ((xs ++ ys) ++ zs)) (sym (append_assoc xs zs ys))
-    (subst (λ (fs : List Fact). HoldSame fs (xs ++ (zs ++ ys))) (sym (append_assoc xs ys zs)) (same_append xs xs (ys ++ zs) (zs ++ ys) (same_refl xs) (same_swap ys zs)))
 
 pub whole_put : (rows : List FactRow) (torn : List BegunRow) (r : FactRow) (added : List Fact) → HoldSame (facts_of_row r) added
     → HoldSame (facts_of (rows ++ r ∷ []) ++ torn_facts torn) ((facts_of rows ++ torn_facts torn) ++ added)

@@ -1,7 +1,7 @@
 -- Rows of one id that are joined to one.
 use Rattle.std.specs.Prelude.{◌≡◌, ◌⊎◌, ◌&&◌, Bool, true, false, List, [], ◌∷◌, ◌++◌, map, Option, Some, None, bytes_eq}
-use Rattle.gql_plain.specs.Names.{is_name}
 use Rattle.std.specs.declared.cmp.Ordering.TheVariants.{Greater}
+use Rattle.gql_plain.specs.Names.{is_name}
 use Rattle.gql_plain.specs.Order.{AreInOrder, member_at}
 use Rattle.store_record.specs.Equal.{fields_eq}
 use Rattle.store_record.specs.Keys.{Text}

@@ -1,5 +1,5 @@
 -- Rows of objects as they are met, and whether they hold what a report says, in whatever order.
-use Rattle.std.specs.Prelude.{◌≡◌, true, false, List, [], ◌∷◌, ◌++◌, map, bytes_eq, Option, None}
+use Rattle.std.specs.Prelude.{◌≡◌, true, false, List, [], ◌∷◌, ◌++◌, map, bytes_eq, Option, Some, None}
 use Rattle.std.specs.List.{AllByRecursion}
 use Rattle.std.specs.Map.{keys_of}
 use Rattle.gql_plain.specs.Order.{AreInOrder}
@@ -11,12 +11,12 @@ use Rattle.store_record.specs.declared.field.Field.TheVariants.{Leaf}
 use Rattle.store_model.specs.Alike.{Among}
 use Rattle.store_model.specs.FactRows.{fact_at, IsFactRow}
 use Rattle.store_model.specs.Records.{typename}
-use Rattle.store_model.specs.Said.{Said}
-use Rattle.store_model.specs.Says.{Report, both, no_report}
-use Rattle.store_model.specs.Verdicts.{Verdict, content, fault_cmp, least, refusal}
+use Rattle.store_model.specs.Says.{Path, Report, both, no_report}
+use Rattle.store_model.specs.Verdicts.{Verdict, fault_cmp, least, refusal}
 use Rattle.store_model.specs.declared.facts.Fact.{Fact}
 use Rattle.store_model.specs.declared.facts.FactRow.{FactRow}
 use Rattle.store_model.specs.declared.facts.HandleFact.{HandleFact}
+use Rattle.store_model.specs.declared.payload_fault.Cause.TheVariants.{Conflict}
 use Rattle.store_model.specs.declared.payload_fault.PayloadFault.{PayloadFault}
 use Rattle.store_report.specs.Gathering.{IsTypeName, lesser_some}
 use Rattle.store_report.specs.declared.untaken.Untaken.{Untaken}
@@ -48,6 +48,14 @@ nothing_held = record { facts = []; handles = []; fault = None }
 abbrev pub with_open : Text → List (Text × Field) → Held → Held
 with_open id fields s = record { facts = s.facts ++ map (fact_at id) fields; handles = s.handles; fault = s.fault }
 
+-- what is held, with a page behind the others
+abbrev pub with_page : HandleFact → Held → Held
+with_page page s = record { facts = s.facts; handles = s.handles ++ page ∷ []; fault = s.fault }
+
+-- what is held, with the lesser of its fault and another one
+abbrev pub with_fault : PayloadFault → Held → Held
+with_fault f s = record { facts = s.facts; handles = s.handles; fault = lesser_some fault_cmp s.fault (Some f) }
+
 -- the facts of an object: the name of its type, and its fields
 abbrev pub object_facts : Text → Text → List (Text × Field) → List Fact
 object_facts id name fields = map (fact_at id) ((typename, Leaf (Words name)) ∷ fields)
@@ -77,10 +85,19 @@ IsUnjoined facts (Fault f) = ⊥
 IsUnjoined facts Clash = HaveClash facts
 IsUnjoined facts NoMemory = Unit {0}
 
--- the verdict refuses for the fault, or is of no content; that memory is lacking says nothing of a verdict
+-- the verdict refuses because one field of one record has two values
+pub record IsConflict (v : Verdict) : Type 0 where
+  pub path : Path
+  pub id : Text
+  pub key : Text
+  pub first : Field
+  pub second : Field
+  pub refused : v ≡ refusal (record { path = path; cause = Conflict id key first second })
+
+-- the verdict refuses for the fault, or for a conflict; that memory is lacking says nothing of a verdict
 abbrev pub IsUntaken : Verdict → Untaken → Type 0
 IsUntaken v (Fault f) = v ≡ refusal f
-IsUntaken v Clash = (s : Said) → v ≡ content s → ⊥
+IsUntaken v Clash = IsConflict v
 IsUntaken v NoMemory = Unit {0}
 
 -- ---- laws

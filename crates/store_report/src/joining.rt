@@ -7,7 +7,7 @@ ghost use Rattle.store_model.specs.FactRows.{AreFactRows, HaveFieldsInOrder, fac
 ghost use Rattle.store_report.specs.Joining.{IsApart, IsBegunApart, IsBegunAt, IsBegunBelow, begun_facts, row_eq, row_id};
 ghost use Rattle.store_report.specs.ObjectRows.{HoldSame, IsUnjoined, IsWhole};
 
-use crate::heads::{common_to, head_of};
+use crate::heads::{Keyed, by_heads};
 use crate::object_row::BegunRow;
 use crate::row_fields::{Ordered, by_key};
 use crate::untaken::Untaken;
@@ -17,11 +17,11 @@ use std::mem;
 use store_model::FactRow;
 use store_record::{Fields, SharedField};
 
-/// The most rows that are put in order by their ids alone.
-const FEW: usize = 20;
-
-/// One more than the number of rows of which it is seen what their ids begin with.
-const SAMPLES: usize = 9;
+impl Keyed for FactRow {
+    fn key_text(&self) -> &str {
+        self.id.as_str()
+    }
+}
 
 /// The rows in order of their ids, one for each id. Err: an id has two types, or a field of it two values.
 /// Rows that are in order are left as they stand, and take no memory.
@@ -85,36 +85,6 @@ fn in_order(rows: Vec<FactRow>) -> Result<Vec<FactRow>, NoMemory>
     let mut rows = by_heads(rows)?;
     rows.sort_by(|one, other| one.id.cmp(&other.id))?;
     Ok(rows)
-}
-
-/// The rows in the order of eight bytes of their ids, behind those that ids mostly begin with, where they
-/// are many: numbers are compared sooner than texts.
-fn by_heads(mut rows: Vec<FactRow>) -> Result<Vec<FactRow>, NoMemory>
-    ensures { IfOk result (λ moved. IsPermutation rows.items moved.items) }
-{
-    if rows.len() <= FEW {
-        return Ok(rows);
-    }
-    let common = common_start(&rows);
-    rows.sort_by_cached_key(|row| head_of(row.id.as_str(), common))?;
-    Ok(rows)
-}
-
-/// How many first bytes some ids have in common, of rows that stand evenly apart; takes no memory. The
-/// last row is mostly that of the root, whose id is another one, and is left out.
-fn common_start(rows: &[FactRow]) -> usize {
-    let step = rows.len() / SAMPLES;
-    let Some(first) = rows.get(step) else {
-        return 0;
-    };
-    let id = first.id.as_str();
-    let mut common = id.len();
-    'samples: for sample in 2..SAMPLES {
-        if let Some(row) = rows.get(step.wrapping_mul(sample)) {
-            common = common_to(id, row.id.as_str(), common);
-        }
-    }
-    common
 }
 
 /// The rows, which are in order of their ids, with those of one id as one. Err: an id has two types, or a

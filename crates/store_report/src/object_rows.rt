@@ -3,7 +3,7 @@ ghost use Rattle.std.specs.Prelude.{◌≡◌, [], ◌∷◌, ◌++◌, IfErr, I
 ghost use Rattle.store_model.specs.Said.{HaveHandleKeys};
 ghost use Rattle.store_model.specs.Says.{Report, fault_at, report_pages};
 ghost use Rattle.store_model.specs.Verdicts.{content, refusal, verdict};
-ghost use Rattle.store_report.specs.ObjectRows.{Adds, HaveTypeNames, HoldSame, IsUntaken, nothing_held, object_facts};
+ghost use Rattle.store_report.specs.ObjectRows.{Adds, HaveTypeNames, HoldSame, IsUntaken, nothing_held, object_facts, with_fault, with_page};
 ghost use Rattle.store_report.specs.SaidFacts.{fault_of};
 
 use crate::gathered::lesser;
@@ -90,7 +90,8 @@ impl<'r> ObjectRows<'r> {
 
     /// Puts a page of a connection.
     pub fn page(&mut self, page: HandleFact) -> Result<(), NoMemory>
-        ensures { OnOk result (Adds self.old self.new (report_pages (page ∷ []))) }
+        ensures held { OnOk result (self.new ≡ with_page page self.old) }
+        ensures said { OnOk result (Adds self.old self.new (report_pages (page ∷ []))) }
     {
         self.pages.push(page)?;
         Ok(())
@@ -103,7 +104,8 @@ impl<'r> ObjectRows<'r> {
         trail: &Trail<'_, 'r>,
         cause: Cause,
     ) -> Result<(), NoMemory>
-        ensures { OnOk result (Adds self.old self.new (fault_at trail.now cause)) }
+        ensures held { OnOk result (self.new ≡ with_fault (record { path = trail.now; cause = cause }) self.old) }
+        ensures said { OnOk result (Adds self.old self.new (fault_at trail.now cause)) }
     {
         let path = trail.path(alloc)?;
         let first = self.fault.take();

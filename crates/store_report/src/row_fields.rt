@@ -1,12 +1,15 @@
 //! The fields of a row in order of their keys.
 ghost use Rattle.std.specs.Prelude.{◌≡◌, true, false, None, IfOk};
+ghost use Rattle.std.specs.List.Sorted.{IsPermutation, IsSorted};
 ghost use Rattle.std.specs.Map.{keys_of};
 ghost use Rattle.gql_plain.specs.Order.{AreInOrder, member_at};
+ghost use Rattle.store_model.specs.FactOrder.{text_cmp};
 ghost use Rattle.store_model.specs.Records.{typename};
 ghost use Rattle.store_record.specs.Equal.{entry_eq};
 ghost use Rattle.store_report.specs.ObjectRows.{HoldSame};
 ghost use Rattle.store_report.specs.RowFields.{AreOthers, DoFall, HasTypeKey, IsOrdered, entries_of, says_name};
 
+use crate::heads::{Keyed, by_heads};
 use gql_plain::{NoMemory, Plain};
 use store_record::{Field, Fields, SharedField};
 
@@ -19,21 +22,38 @@ pub(crate) enum Ordered {
     Torn(Vec<SharedField>),
 }
 
+impl Keyed for SharedField {
+    fn key_text(&self) -> &str {
+        self.key()
+    }
+}
+
 /// The fields in order of their keys, each once. Those that are in order are left as they stand, and
 /// take no memory.
-pub(crate) fn by_key(mut fields: Vec<SharedField>) -> Result<Ordered, NoMemory>
+pub(crate) fn by_key(fields: Vec<SharedField>) -> Result<Ordered, NoMemory>
     ensures same { IfOk result (λ ordered. HoldSame (entries_of ordered) fields.items) }
     ensures order { IfOk result IsOrdered }
 {
     if do_rise(&fields) {
         return Ok(Ordered::Whole(Fields::from_entries(fields)));
     }
-    fields.sort_by(|one, other| one.key().cmp(other.key()))?;
-    fields.dedup_by(|next, kept| is_same(next, kept));
-    if do_rise(&fields) {
-        return Ok(Ordered::Whole(Fields::from_entries(fields)));
+    let mut sorted = in_order(fields)?;
+    sorted.dedup_by(|next, kept| is_same(next, kept));
+    if do_rise(&sorted) {
+        return Ok(Ordered::Whole(Fields::from_entries(sorted)));
     }
-    Ok(Ordered::Torn(fields))
+    Ok(Ordered::Torn(sorted))
+}
+
+/// The fields in order of their keys. The last sort puts right what the order of heads leaves, which is
+/// mostly nothing.
+fn in_order(fields: Vec<SharedField>) -> Result<Vec<SharedField>, NoMemory>
+    ensures same { IfOk result (λ moved. IsPermutation fields.items moved.items) }
+    ensures order { IfOk result (λ moved. IsSorted (λ a b. text_cmp a.0 b.0) moved.items) }
+{
+    let mut fields = by_heads(fields)?;
+    fields.sort_by(|one, other| one.key().cmp(other.key()))?;
+    Ok(fields)
 }
 
 /// Whether each key stands after the one before it; takes no memory.

@@ -9,7 +9,7 @@ use Rattle.store_norm.proofs.taking.take_pages.Goals as goal
 pub pages-preserved : goal.pages-preserved
 pages-preserved c =
     pages_taken c.args.rows.now c.pages.rows c.page.new.self c.in-Some.page c.pages.page-iterator.rest.items c.next.new.self.rest.items c.pages.invariant c.in-Some.ensures.steps.0
-    c.in_ok-page.ensures
+    c.in_ok-page.ensures.said
 
 pub returns : goal.returns
 returns c =

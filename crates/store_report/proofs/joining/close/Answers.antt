@@ -5,7 +5,7 @@ use Rattle.gql_plain.specs.Order.{AreInOrder}
 use Rattle.store_model.proofs.Least.{Each, each_append}
 use Rattle.store_model.specs.FactRows.{facts_of}
 use Rattle.store_model.specs.declared.facts.FactRow.{FactRow}
-use Rattle.store_report.proofs.JoinSteps.{row_done, torn_clash}
+use Rattle.store_report.proofs.JoinSteps.{apart_clash, row_done}
 use Rattle.store_report.proofs.RowMembers.{row_pushed}
 use Rattle.store_report.proofs.joining.close.Goals as goal
 use Rattle.store_report.specs.ObjectRows.{HoldSame, IsWhole, object_facts}
@@ -42,4 +42,4 @@ returns-in-Torn-clause-clash c =
     let torn = c.in-Torn.field-0.items in
     let same : HoldSame torn given.fields.items = subst (λ o. HoldSame (entries_of o) given.fields.items) c.in-Torn.is c.in_ok-fields.ensures.same in
     let are : AreTorn torn = subst IsOrdered c.in-Torn.is c.in_ok-fields.ensures.order in
-    torn_clash given torn same are
+    apart_clash given torn same are

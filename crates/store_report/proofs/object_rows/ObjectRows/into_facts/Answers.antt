@@ -9,7 +9,7 @@ use Rattle.store_model.specs.FactRows.{facts_of}
 use Rattle.store_model.specs.Said.{HaveHandleKeys}
 use Rattle.store_model.specs.Verdicts.{content, fault_cmp, in_order, least}
 use Rattle.store_model.specs.declared.facts.HandleFact.{HandleFact}
-use Rattle.store_report.proofs.ClashVerdicts.{clash_untaken, torn_clash, unjoined_untaken}
+use Rattle.store_report.proofs.ClashVerdicts.{clash_untaken, torn_rows_clash, unjoined_untaken}
 use Rattle.store_report.proofs.RowVerdicts.{rows_verdict}
 use Rattle.store_report.proofs.SameMembers.{same_trans}
 use Rattle.store_report.proofs.Takings.{order_keeps}
@@ -24,8 +24,8 @@ returns-then-not-is_empty-clause-untaken c = λ r adds.
     let inside = c.self.inside in
     let facts : facts_of inside.rows.items ++ torn_facts inside.torn.items ≡ c.args.self.facts = ap (λ (s : Held). s.facts) c.self.view_is in
     let some : inside.torn.items ≡ [] → ⊥ = λ e. let none : length inside.torn.items ≡ 0 = ap length e in grind (arith, none, c.is_empty.ensures) in
-    clash_untaken c.args.self r adds
-    (subst HaveClash facts (torn_clash (facts_of inside.rows.items) inside.torn.items c.self.invariant.1 (subst HaveTypeNames (sym facts) c.requires.named) some))
+    clash_untaken c.args.self r (sym (ap (λ (s : Held). s.fault) c.self.view_is) ∙ ap (option_map fault_of) c.in_default.is) adds
+    (subst HaveClash facts (torn_rows_clash (facts_of inside.rows.items) inside.torn.items c.self.invariant.1 (subst HaveTypeNames (sym facts) c.requires.named) some))
 
 pub returns-in_err-rows-clause-untaken : goal.returns-in_err-rows-clause-untaken
 returns-in_err-rows-clause-untaken c =
@@ -34,6 +34,7 @@ returns-in_err-rows-clause-untaken c =
     let e = err_from_is_err_and c.from_residual.result c.from_residual.ensures.1 in
     rw (e.1, e.2)
     (unjoined_untaken c.args.self (facts_of inside.rows.items) c.in_err-rows.field-0.0
+    (sym (ap (λ (s : Held). s.fault) c.self.view_is) ∙ ap (option_map fault_of) c.in_default.is)
     (λ f h. subst (Among f) facts (among_left f (facts_of inside.rows.items) (torn_facts inside.torn.items) h)) c.in_err-rows.ensures.clash)
 
 pub returns-in_err-handles-clause-untaken : goal.returns-in_err-handles-clause-untaken
