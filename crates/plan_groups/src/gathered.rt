@@ -40,23 +40,34 @@ pub(crate) fn gather<'p>(
     ensures groups { IfOk result (λ groups. map group_of groups.items ≡ groups_at collect_plan object.now (map plan_at parts.now)) }
     ensures kept { IfOk result (λ groups. AreKept groups.items) }
 {
-    let mut gathered = Gathered::new(alloc);
+    let mut gathered = Gathered::with_room(alloc, steps_in(parts))?;
     'parts: for part in parts {
         gathered.put_part(alloc, object, part)?;
     }
     Ok(gathered.groups)
 }
 
-impl<'p> Gathered<'p> {
-    /// No field; takes no memory.
-    fn new(alloc: Global) -> Gathered<'p>
-        ensures none { groups_in result ≡ [] }
-        ensures placed { IsPlaced result }
-    {
-        Gathered {
-            groups: Vec::new(alloc),
-            places: HashMap::new(alloc),
+/// How many steps plans have, those behind guards not counted; takes no memory.
+fn steps_in(parts: &[PlanAt<'_>]) -> usize {
+    let mut count: usize = 0;
+    'parts: for part in parts {
+        if let Some(steps) = part.steps {
+            count = count.saturating_add(steps.as_slice().len());
         }
+    }
+    count
+}
+
+impl<'p> Gathered<'p> {
+    /// No field, and room for those of so many steps.
+    fn with_room(alloc: Global, steps: usize) -> Result<Gathered<'p>, NoMemory>
+        ensures none { IfOk result (λ gathered. groups_in gathered ≡ []) }
+        ensures placed { IfOk result IsPlaced }
+    {
+        Ok(Gathered {
+            groups: Vec::with_capacity(alloc, steps)?,
+            places: HashMap::with_capacity(alloc, steps)?,
+        })
     }
 
     /// Puts the fields of a plan.

@@ -48,26 +48,37 @@ pub(crate) fn gather<'p>(
     ensures spreads { IfOk result (λ gathered. spreads_in gathered ≡ pointers_on collect_reader object.now (map part_at parts.now)) }
     ensures kept { IfOk result (λ gathered. AreKept gathered.groups.items) }
 {
-    let mut gathered = Gathered::new(alloc);
+    let mut gathered = Gathered::with_room(alloc, steps_in(parts))?;
     'parts: for part in parts {
         gathered.put_part(alloc, object, part)?;
     }
     Ok(gathered)
 }
 
+/// How many steps plans have, those behind guards not counted; takes no memory.
+fn steps_in(parts: &[PartAt<'_>]) -> usize {
+    let mut count: usize = 0;
+    'parts: for part in parts {
+        if let Some(steps) = part.steps {
+            count = count.saturating_add(steps.as_slice().len());
+        }
+    }
+    count
+}
+
 impl<'p> Gathered<'p> {
-    /// Nothing; takes no memory.
-    fn new(alloc: Global) -> Gathered<'p>
-        ensures groups { groups_in result ≡ [] }
-        ensures spreads { spreads_in result ≡ [] }
-        ensures placed { IsPlaced result }
+    /// Nothing, and room for the fields of so many steps.
+    fn with_room(alloc: Global, steps: usize) -> Result<Gathered<'p>, NoMemory>
+        ensures groups { IfOk result (λ gathered. groups_in gathered ≡ []) }
+        ensures spreads { IfOk result (λ gathered. spreads_in gathered ≡ []) }
+        ensures placed { IfOk result IsPlaced }
     {
-        Gathered {
-            groups: Vec::new(alloc),
-            places: HashMap::new(alloc),
+        Ok(Gathered {
+            groups: Vec::with_capacity(alloc, steps)?,
+            places: HashMap::with_capacity(alloc, steps)?,
             spreads: Vec::new(alloc),
             fragments: BTreeMap::new(alloc),
-        }
+        })
     }
 
     /// Puts what a plan asks.
