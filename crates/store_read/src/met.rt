@@ -5,7 +5,8 @@ ghost use Rattle.store_model.specs.Walks.{missing_trace, trace_at};
 ghost use Rattle.store_read.specs.Meeting.{met_onto};
 
 use crate::snapshot::Snapshot;
-use gql_plain::{Id, Ids, NoMemory, Plain};
+use gql_order::sorted_ids;
+use gql_plain::{Id, NoMemory, Plain};
 use std::alloc::Global;
 use std::marker::Model;
 
@@ -59,7 +60,7 @@ impl Met {
         Ok(Snapshot {
             shown,
             missing: self.missing,
-            seen: Ids::sort(self.seen)?,
+            seen: sorted_ids(self.seen)?,
         })
     }
 }

@@ -1,6 +1,5 @@
 pub mod Codes
 pub mod Gathering
-pub mod Heads
 pub mod Joining
 pub mod ObjectRows
 pub mod PagePlaces

@@ -4,7 +4,6 @@
 mod conflict;
 pub mod fault;
 pub mod gathered;
-mod heads;
 mod joining;
 pub mod laws;
 mod object_row;

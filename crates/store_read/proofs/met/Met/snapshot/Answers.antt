@@ -8,6 +8,6 @@ use Rattle.store_read.specs.Meeting.{Meeting}
 pub returns : goal.returns
 returns c =
     let met = c.self.view_is in
-    let seen : c.in_ok-sort.field-0 ≡ sorted_texts c.args.self.seen =
-    AreSortedOf-is _ c.in_ok-sort.field-0 c.in_ok-sort.ensures ∙ ap (λ (m : Meeting). sorted_texts m.seen) met in
+    let seen : c.in_ok-sorted_ids.field-0 ≡ sorted_texts c.args.self.seen =
+    AreSortedOf-is _ c.in_ok-sorted_ids.field-0 c.in_ok-sorted_ids.ensures ∙ ap (λ (m : Meeting). sorted_texts m.seen) met in
     λ i. record { shown = c.args.shown; missing = (ap (λ (m : Meeting). m.missing) met) i; seen = seen i }

@@ -1,0 +1,14 @@
+-- What is sorted of moved texts is sorted of the texts.
+use Rattle.std.proofs.Common.{List, ℕ}
+use Rattle.std.proofs.lemmas.List.Sorted.{Contains-permutation, IsPermutation-sym}
+use Rattle.std.specs.List.Sorted.{IsPermutation}
+use Rattle.gql_plain.specs.Order.{AreSortedOf}
+
+pub sorted_of_moved : (given moved sorted : List (List ℕ)) → IsPermutation given moved → AreSortedOf moved sorted → AreSortedOf given sorted
+sorted_of_moved given moved sorted is are = (
+  are.0,
+  λ text. (
+    λ h. Contains-permutation moved given text (IsPermutation-sym given moved is) ((are.1 text).0 h),
+    λ h. (are.1 text).1 (Contains-permutation given moved text is h),
+  ),
+)
