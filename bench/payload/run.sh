@@ -2,10 +2,12 @@
 # Times the facts of payloads of 1, 2 and 4 MB beside serde_json, which reads the same text alone:
 # lists of many objects, with ids and without, an object of many aliases, objects 60 deep, many objects
 # that meet in one id with equal values, and one long text. It tells of each number of facts whether it
-# is the one that is due. Times are processor times, the least of nine rounds over all sizes. What the
-# program takes to start, to make the plan and to take in the file is measured by itself and taken off;
-# `facts / reading` is what `facts` takes beyond the reading, as a ratio to the reading. The program is
-# made in a folder of its own outside the repository, where the crates that it stands on are proved
+# is the one that is due. A program reads a text, or gathers its facts, as often as its words say, each
+# time from the beginning, and takes the time of each by the clock. Told is the least of eight times in
+# each of five runs, over all sizes, and the first time of a run, which has its memory from the system,
+# as the least of the five. `facts / reading` is the time for the facts, of a text that was read, as a
+# ratio to that for the reading; what either has made is let go within its time. Most memory is that of
+# a run that does it once. The program is made in a folder of its own outside the repository, where the crates that it stands on are proved
 # first. Instead, a program may be named that was made so: run.sh PROGRAM. With KEEP=PATH the program
 # is left there.
 set -eu
@@ -33,7 +35,7 @@ make_program() {
     mkdir crates/payload_bench/src
     echo "payload_bench: store_norm plan_ir schema_values gql_ast store_model store_record gql_plain serde_json" >> crates.txt
     cat > crates/payload_bench/src/main.rt
-    (cd crates/payload_bench && rt run -- many 1 file /dev/null)
+    (cd crates/payload_bench && rt run -- many 1 read /dev/null 0)
     program=$folder/repo/crates/payload_bench/out/payload_bench
     cd "$folder"
     if [ -n "${KEEP:-}" ]; then
@@ -52,6 +54,7 @@ use plan_ir::{NormalPlan, NormalStep, NormalSteps};
 use schema_values::Env;
 use serde_json::Value;
 use std::alloc::Global;
+use std::time::{Duration, Instant};
 use std::{env, fs, io};
 use store_model::Facts;
 use store_norm::{facts, is_formed};
@@ -172,20 +175,63 @@ fn said(alloc: Global, plan: &NormalPlan, response: &Value) -> Result<u64, NoMem
     }
 }
 
-/// What is done with a payload: nothing, 1 where it is read, or how many facts it says.
-fn done(alloc: Global, plan: &NormalPlan, mode: &str, bytes: &[u8]) -> Result<u64, NoMemory> {
-    if mode == "file" {
-        return Ok(0);
-    }
-    match Value::from_slice(alloc, bytes) {
-        Ok(response) => {
-            if mode == "facts" {
-                return said(alloc, plan, &response);
-            }
-            Ok(1)
+/// The first and the least of some times, in nanoseconds, and what was found.
+#[derive(Drop)]
+struct Times {
+    first: u64,
+    least: u64,
+    found: u64,
+}
+
+impl Times {
+    fn new() -> Times {
+        Times {
+            first: 0,
+            least: u64::MAX,
+            found: 0,
         }
-        Err(_) => Ok(0),
     }
+
+    fn put(&mut self, took: Duration, found: u64) {
+        let took = u64::try_from(took.as_nanos()).unwrap_or(u64::MAX);
+        if self.first == 0 {
+            self.first = took;
+        }
+        self.least = self.least.min(took);
+        self.found = found;
+    }
+}
+
+/// Reads a payload so often.
+fn read_times(rt: &HostRuntime, bytes: &[u8], rounds: u64) -> io::Result<Times> {
+    let mut times = Times::new();
+    for _ in 0..rounds {
+        let start = Instant::now(rt)?;
+        let response = Value::from_slice(rt.alloc(), bytes);
+        let found = u64::from(response.is_ok());
+        drop(response);
+        times.put(start.elapsed(rt)?, found);
+    }
+    Ok(times)
+}
+
+/// Gathers the facts of a payload so often.
+fn facts_times(
+    rt: &HostRuntime,
+    plan: &NormalPlan,
+    bytes: &[u8],
+    rounds: u64,
+) -> io::Result<Times> {
+    let mut times = Times::new();
+    let Ok(response) = Value::from_slice(rt.alloc(), bytes) else {
+        return Ok(times);
+    };
+    for _ in 0..rounds {
+        let start = Instant::now(rt)?;
+        let found = said(rt.alloc(), plan, &response).unwrap_or(0);
+        times.put(start.elapsed(rt)?, found);
+    }
+    Ok(times)
 }
 
 fn main(rt: HostRuntime) -> io::Result<()> {
@@ -203,12 +249,20 @@ fn main(rt: HostRuntime) -> io::Result<()> {
     let Some(path) = words.next() else {
         return Ok(());
     };
+    let Some(rounds) = words.next() else {
+        return Ok(());
+    };
     let count = count.as_str().parse::<i64>().unwrap_or(0);
+    let rounds = rounds.as_str().parse::<u64>().unwrap_or(0);
     let bytes = fs::read(&rt, path.as_str())?;
     match plan_of(alloc, name.as_str(), count) {
         Ok(plan) => {
-            let found = done(alloc, &plan, mode.as_str(), &bytes).unwrap_or(0);
-            println!(rt; "{found}")
+            let times = if mode.as_str() == "facts" {
+                facts_times(&rt, &plan, &bytes, rounds)?
+            } else {
+                read_times(&rt, &bytes, rounds)?
+            };
+            println!(rt; "{} {} {}", times.found, times.first, times.least)
         }
         Err(_) => println!(rt; "out of memory"),
     }
@@ -220,40 +274,49 @@ cat > measure.py <<'END'
 import os, subprocess, sys
 from payloads import PAYLOADS
 
-ROUNDS, MODES = 9, ("file", "read", "facts")
+RUNS, ROUNDS, MODES = 5, 8, ("read", "facts")
 
-def run(plan, count, mode):
-    """The processor time of a run, its most memory in MiB, and its answer."""
+def run(plan, count, mode, rounds):
+    """What a run found, its first and its least time in milliseconds, and its most memory in MiB."""
     with open("answer", "w+b") as answer:
-        words = [program, plan, str(count), mode, f"{count}.json"]
+        words = [program, plan, str(count), mode, f"{count}.json", str(rounds)]
         child = subprocess.Popen(words, stdin=subprocess.DEVNULL, stdout=answer)
         _, code, usage = os.wait4(child.pid, 0)
         answer.seek(0)
-        said = answer.read().decode().strip()
-    return usage.ru_utime + usage.ru_stime, usage.ru_maxrss / 1024, said if code == 0 else f"status {code}"
+        said = answer.read().decode().split()
+    if code or len(said) != 3:
+        sys.exit(f"{plan} {count} {mode}: status {code}, {said}")
+    return said[0], int(said[1]) / 1e6, int(said[2]) / 1e6, usage.ru_maxrss / 1024
 
 program, payloads, wrong = sys.argv[1], sys.argv[2], False
-print("payload                   count    MB  reading ms  facts ms  facts / reading  times the half  peak MiB  of reading  answer")
+print("payload                   count    MB  reading ms  facts ms  facts / reading  times the half  first: reading, facts, ratio, times the half  peak MiB  of reading  answer")
 for row, (name, plan, _, counts) in enumerate(PAYLOADS):
-    due, best = {}, {}
+    due, least, first, most = {}, {}, {}, {}
     for count in counts:
         # By a process of its own: a child's most memory begins at that of its parent
         due[count] = subprocess.check_output([sys.executable, payloads, str(row), str(count), f"{count}.json"], text=True).strip()
-    for _ in range(ROUNDS):
+    for _ in range(RUNS):
         for count in counts:
             for mode in MODES:
-                best[count, mode] = min(run(plan, count, mode), best.get((count, mode), (1e9,)))
+                at = count, mode
+                said, began, took, _ = run(plan, count, mode, ROUNDS)
+                least[at], first[at] = min(took, least.get(at, 1e9)), min(began, first.get(at, 1e9))
+                if mode == "facts" and said != due[count]:
+                    due[count] = f"WRONG: {said}, due {due[count]}"
+    for count in counts:
+        for mode in MODES:
+            most[count, mode] = run(plan, count, mode, 1)[3]
     half = None
     for count in counts:
-        start, reading, whole = (best[count, mode][0] for mode in MODES)
-        took, reading = whole - reading, reading - start
-        said = best[count, "facts"][2]
-        wrong = wrong or said != due[count]
-        answer = "as due" if said == due[count] else f"WRONG: {said}, due {due[count]}"
-        grown = f"{took / half:.2f}" if half else ""
+        now = [(of[count, "read"], of[count, "facts"]) for of in (least, first)]
+        grown = [f"{new[1] / old[1]:.2f}" for new, old in zip(now, half)] if half else ["", ""]
         size = os.path.getsize(f"{count}.json") / 1e6
-        print(f"{name:22} {count:8} {size:5.1f} {reading*1000:11.1f} {took*1000:9.1f}  {took/reading:15.2f}  {grown:>14}  {best[count, 'facts'][1]:8.0f}  {best[count, 'read'][1]:10.0f}  {answer}", flush=True)
-        half = took
+        wrong = wrong or due[count].startswith("WRONG")
+        answer = due[count] if due[count].startswith("WRONG") else "as due"
+        (read, took), (read_first, took_first) = now
+        cells = f"{read_first:8.1f} {took_first:8.1f} {took_first / read_first:6.2f} {grown[1]:>6}"
+        print(f"{name:22} {count:8} {size:5.1f} {read:11.1f} {took:9.1f}  {took / read:15.2f}  {grown[0]:>14}  {cells:>45}  {most[count, 'facts']:8.0f}  {most[count, 'read']:10.0f}  {answer}", flush=True)
+        half = now
         os.remove(f"{count}.json")
 sys.exit(wrong)
 END

@@ -1,14 +1,34 @@
 //! The first bytes of texts, as numbers.
-ghost use Rattle.std.specs.Prelude.{◌≡◌, get_or};
+ghost use Rattle.std.specs.List.Sorted.{IsPermutation};
+ghost use Rattle.std.specs.Prelude.{◌≡◌, IfOk, get_or};
 ghost use Rattle.gql_order.specs.Heads.{head_from};
+
+use gql_plain::NoMemory;
+
+/// The most items that are left as they stand.
+const FEW: usize = 20;
 
 /// One more than the number of those of which it is seen what their texts begin with.
 const SAMPLES: usize = 9;
 
+/// The items in the order of eight bytes of their texts, behind those that texts mostly begin with, where
+/// they are many: numbers are compared sooner than texts. A sort that follows finds nearly all in order. n
+/// items take about n * log n steps, and memory for n numbers.
+pub fn by_heads<T: Drop, F: Fn(&T) -> &str>(mut items: Vec<T>, text: F) -> Result<Vec<T>, NoMemory>
+    requires { F.IsAlwaysCallable text }
+    ensures { IfOk result (λ moved. IsPermutation items.items moved.items) }
+{
+    if items.len() <= FEW {
+        return Ok(items);
+    }
+    let common = common_start(&items, &text);
+    items.sort_by_cached_key(|item| head_of(text(item), common))?;
+    Ok(items)
+}
+
 /// The eight bytes of a text from a place on as one number, of which the first counts most, with zeros
-/// behind its end; takes no memory. Texts that are equal up to that place, of which one has the lesser
-/// number, stand in this order.
-pub fn head_of(text: &str, from: usize) -> u64
+/// behind its end; takes no memory.
+fn head_of(text: &str, from: usize) -> u64
     ensures { result ≡ head_from text.now from }
 {
     let bytes = text.as_bytes();
@@ -35,9 +55,9 @@ fn byte_at(bytes: &[u8], at: usize) -> u8
 }
 
 /// How many first bytes the texts of some items have in common, of those that stand evenly apart; takes no
-/// memory. The last item may be of another kind, as the record of the root is, and is left out.
-pub fn common_start<T, F: Fn(&T) -> &str>(items: &[T], text: F) -> usize
-    requires { F.IsAlwaysCallable text }
+/// memory. The last item may be of another kind, and is left out.
+fn common_start<T, F: Fn(&T) -> &str>(items: &[T], text: &F) -> usize
+    requires { F.IsAlwaysCallable text.now }
 {
     let step = items.len() / SAMPLES;
     let Some(first) = items.get(step) else {

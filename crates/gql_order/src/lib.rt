@@ -4,5 +4,5 @@
 pub mod heads;
 pub mod ids;
 
-pub use heads::{common_start, head_of};
+pub use heads::by_heads;
 pub use ids::sorted_ids;

@@ -30,7 +30,7 @@ pub(crate) fn taken(
 ) -> Result<Facts, Untaken>
     requires formed { is_formed plan.now.steps ≡ true }
     ensures facts { IfOk result (λ facts. plan_says env.now.root env.now.values plan.now.steps (view response.now) ≡ content facts) }
-    ensures untaken { IfErr result (IsUntaken (plan_says env.now.root env.now.values plan.now.steps (view response.now))) }
+    ensures untaken { IfErr result (IsUntaken (says.response_says collect_plan env.now.root (record { environment = env.now.values; steps = plan.now.steps } ∷ []) (view response.now))) }
 {
     let mut rows = ObjectRows::new(alloc);
     let part = PlanAt::new(env, plan);

@@ -23,7 +23,7 @@ use Rattle.store_report.proofs.RowMembers.{among_from}
 use Rattle.store_report.proofs.Takings.{any_some}
 use Rattle.store_report.specs.Gathering.{IsTypeName}
 use Rattle.store_report.specs.Joining.{IsTorn, begun_facts, torn_facts}
-use Rattle.store_report.specs.ObjectRows.{Adds, HaveClash, HaveTypeNames, Held, IsConflict, IsUnjoined, IsUntaken, facts_said, nothing_held}
+use Rattle.store_report.specs.ObjectRows.{Adds, HaveClash, HaveTypeNames, Held, IsClash, IsConflict, IsUnjoined, IsUntaken, facts_said, nothing_held}
 use Rattle.store_report.specs.declared.object_row.BegunRow.{BegunRow}
 use Rattle.store_report.specs.declared.untaken.Untaken.{Untaken}
 use Rattle.store_report.specs.declared.untaken.Untaken.TheVariants.{Fault, Clash, NoMemory}
@@ -93,11 +93,13 @@ clash_refused r faultless clash = subst (λ o. IsConflict (unless_fault o r)) (s
 
 -- ---- what is held
 
-pub clash_untaken : (s : Held) (r : Report) → s.fault ≡ None → Adds nothing_held s r → HaveClash s.facts → IsConflict (verdict r)
-clash_untaken s r faultless adds clash = clash_refused r (sym adds.fault ∙ faultless) (clash_more s.facts (facts_said r) (λ f. (adds.facts f).0) clash)
+pub clash_untaken : (s : Held) (r : Report) → s.fault ≡ None → Adds nothing_held s r → HaveClash s.facts → IsClash r
+clash_untaken s r faultless adds clash =
+    let none : least fault_cmp r.faults ≡ None = sym adds.fault ∙ faultless in
+    record { faultless = none; conflict = clash_refused r none (clash_more s.facts (facts_said r) (λ f. (adds.facts f).0) clash) }
 
 pub unjoined_untaken : (s : Held) (facts : List Fact) (refused : Untaken) → s.fault ≡ None → ((f : Fact) → Among f facts → Among f s.facts) → IsUnjoined facts refused
-    → (r : Report) → Adds nothing_held s r → IsUntaken (verdict r) refused
+    → (r : Report) → Adds nothing_held s r → IsUntaken r refused
 unjoined_untaken s facts (Fault f) faultless more h r adds = absurd h
 unjoined_untaken s facts Clash faultless more h r adds = clash_untaken s r faultless adds (clash_more facts s.facts more h)
 unjoined_untaken s facts NoMemory faultless more h r adds = tt

@@ -12,7 +12,7 @@ use Rattle.store_model.specs.Alike.{Among}
 use Rattle.store_model.specs.FactRows.{fact_at, IsFactRow}
 use Rattle.store_model.specs.Records.{typename}
 use Rattle.store_model.specs.Says.{Path, Report, both, no_report}
-use Rattle.store_model.specs.Verdicts.{Verdict, fault_cmp, least, refusal}
+use Rattle.store_model.specs.Verdicts.{Verdict, fault_cmp, least, refusal, verdict}
 use Rattle.store_model.specs.declared.facts.Fact.{Fact}
 use Rattle.store_model.specs.declared.facts.FactRow.{FactRow}
 use Rattle.store_model.specs.declared.facts.HandleFact.{HandleFact}
@@ -94,11 +94,16 @@ pub record IsConflict (v : Verdict) : Type 0 where
   pub second : Field
   pub refused : v ≡ refusal (record { path = path; cause = Conflict id key first second })
 
--- the verdict refuses for the fault, or for a conflict; that memory is lacking says nothing of a verdict
-abbrev pub IsUntaken : Verdict → Untaken → Type 0
-IsUntaken v (Fault f) = v ≡ refusal f
-IsUntaken v Clash = IsConflict v
-IsUntaken v NoMemory = Unit {0}
+-- no fault is reported, so that the verdict refuses for a conflict
+pub record IsClash (r : Report) : Type 0 where
+  pub faultless : least fault_cmp r.faults ≡ None
+  pub conflict : IsConflict (verdict r)
+
+-- what is told of a report: the fault that the verdict refuses for, or a clash; that memory is lacking says nothing of it
+abbrev pub IsUntaken : Report → Untaken → Type 0
+IsUntaken r (Fault f) = verdict r ≡ refusal f
+IsUntaken r Clash = IsClash r
+IsUntaken r NoMemory = Unit {0}
 
 -- ---- laws
 

@@ -10,15 +10,12 @@ ghost use Rattle.store_report.specs.ObjectRows.{HoldSame, IsUnjoined, IsWhole};
 use crate::object_row::BegunRow;
 use crate::row_fields::{Ordered, by_key};
 use crate::untaken::Untaken;
-use gql_order::{common_start, head_of};
+use gql_order::by_heads;
 use gql_plain::NoMemory;
 use std::alloc::Global;
 use std::mem;
 use store_model::FactRow;
 use store_record::{Fields, SharedField};
-
-/// The most rows that are put in order by their ids alone.
-const FEW: usize = 20;
 
 /// The rows in order of their ids, one for each id. Err: an id has two types, or a field of it two values.
 /// Rows that are in order are left as they stand, and take no memory.
@@ -79,21 +76,8 @@ fn in_order(rows: Vec<FactRow>) -> Result<Vec<FactRow>, NoMemory>
     ensures same { IfOk result (λ moved. IsPermutation rows.items moved.items) }
     ensures order { IfOk result (λ moved. IsSorted (λ a b. text_cmp a.id b.id) moved.items) }
 {
-    let mut rows = by_heads(rows)?;
+    let mut rows = by_heads(rows, |row| row.id.as_str())?;
     rows.sort_by(|one, other| one.id.cmp(&other.id))?;
-    Ok(rows)
-}
-
-/// The rows in the order of eight bytes of their ids, behind those that ids mostly begin with, where they
-/// are many: numbers are compared sooner than texts.
-fn by_heads(mut rows: Vec<FactRow>) -> Result<Vec<FactRow>, NoMemory>
-    ensures { IfOk result (λ moved. IsPermutation rows.items moved.items) }
-{
-    if rows.len() <= FEW {
-        return Ok(rows);
-    }
-    let common = common_start(&rows, |row| row.id.as_str());
-    rows.sort_by_cached_key(|row| head_of(row.id.as_str(), common))?;
     Ok(rows)
 }
 

@@ -2,9 +2,8 @@
 ghost use Rattle.std.specs.Prelude.{◌≡◌, [], ◌∷◌, ◌++◌, IfErr, IfOk, OnOk};
 ghost use Rattle.store_model.specs.Said.{HaveHandleKeys};
 ghost use Rattle.store_model.specs.Says.{Report, fault_at, report_pages};
-ghost use Rattle.store_model.specs.Verdicts.{content, refusal, verdict};
+ghost use Rattle.store_model.specs.Verdicts.{content, verdict};
 ghost use Rattle.store_report.specs.ObjectRows.{Adds, HaveTypeNames, HoldSame, IsUntaken, nothing_held, object_facts, with_fault, with_page};
-ghost use Rattle.store_report.specs.SaidFacts.{fault_of};
 
 use crate::gathered::lesser;
 use crate::joining::joined;
@@ -119,7 +118,7 @@ impl<'r> ObjectRows<'r> {
         requires keys { HaveHandleKeys self.handles }
         requires named { HaveTypeNames self.facts }
         ensures facts { IfOk result (λ facts. (r : Report) → Adds nothing_held self.entry r → verdict r ≡ content facts) }
-        ensures untaken { IfErr result (λ refused. (r : Report) → Adds nothing_held self.entry r → IsUntaken (verdict r) refused) }
+        ensures untaken { IfErr result (λ refused. (r : Report) → Adds nothing_held self.entry r → IsUntaken r refused) }
     {
         let ObjectRows {
             rows,
@@ -128,7 +127,10 @@ impl<'r> ObjectRows<'r> {
             fault,
         } = self;
         if let Some(fault) = fault {
-            return Err(untaken(alloc, fault));
+            return match fault.into_owned(alloc) {
+                Ok(fault) => Err(Untaken::Fault(fault)),
+                Err(_) => Err(Untaken::NoMemory),
+            };
         }
         if !torn.is_empty() {
             return Err(Untaken::Clash);
@@ -139,15 +141,5 @@ impl<'r> ObjectRows<'r> {
             facts: FactList { rows },
             handles,
         })
-    }
-}
-
-/// Why a response with a fault is not taken.
-fn untaken(alloc: Global, fault: SaidFault<'_>) -> Untaken
-    ensures { IsUntaken (refusal (fault_of fault.entry)) result }
-{
-    match fault.into_owned(alloc) {
-        Ok(fault) => Untaken::Fault(fault),
-        Err(_) => Untaken::NoMemory,
     }
 }

@@ -9,12 +9,9 @@ ghost use Rattle.store_record.specs.Equal.{entry_eq};
 ghost use Rattle.store_report.specs.ObjectRows.{HoldSame};
 ghost use Rattle.store_report.specs.RowFields.{AreOthers, DoFall, HasTypeKey, IsOrdered, entries_of, says_name};
 
-use gql_order::{common_start, head_of};
+use gql_order::by_heads;
 use gql_plain::{NoMemory, Plain};
 use store_record::{Field, Fields, SharedField};
-
-/// The most fields that are put in order by their keys alone.
-const FEW: usize = 20;
 
 /// The fields of a row, in order of their keys where no key has two values.
 #[derive(Drop)]
@@ -48,21 +45,8 @@ fn in_order(fields: Vec<SharedField>) -> Result<Vec<SharedField>, NoMemory>
     ensures same { IfOk result (λ moved. IsPermutation fields.items moved.items) }
     ensures order { IfOk result (λ moved. IsSorted (λ a b. text_cmp a.0 b.0) moved.items) }
 {
-    let mut fields = by_heads(fields)?;
+    let mut fields = by_heads(fields, |field| field.key())?;
     fields.sort_by(|one, other| one.key().cmp(other.key()))?;
-    Ok(fields)
-}
-
-/// The fields in the order of eight bytes of their keys, behind those that keys mostly begin with, where
-/// they are many.
-fn by_heads(mut fields: Vec<SharedField>) -> Result<Vec<SharedField>, NoMemory>
-    ensures { IfOk result (λ moved. IsPermutation fields.items moved.items) }
-{
-    if fields.len() <= FEW {
-        return Ok(fields);
-    }
-    let common = common_start(&fields, |field| field.key());
-    fields.sort_by_cached_key(|field| head_of(field.key(), common))?;
     Ok(fields)
 }
 
