@@ -34,6 +34,14 @@ impl<'p> PlanAt<'p> {
             steps: Some(&plan.steps),
         }
     }
+
+    /// The number of steps, those inside them not counted; takes no memory.
+    pub(crate) fn len(&self) -> usize {
+        match self.steps {
+            Some(steps) => steps.len(),
+            None => 0,
+        }
+    }
 }
 
 /// What a field of objects leads to.

@@ -10,6 +10,7 @@ ghost use Rattle.plan_groups.specs.Putting.{put_at};
 
 use crate::field::{Call, FieldAt, PlanAt, connection_in, form_of_objects};
 use crate::guards::guard_passes;
+use crate::room::total;
 use gql_plain::{NoMemory, SharedText};
 use plan_ir::{NormalStep, NormalSteps};
 use schema_values::Env;
@@ -40,22 +41,11 @@ pub(crate) fn gather<'p>(
     ensures groups { IfOk result (λ groups. map group_of groups.items ≡ groups_at collect_plan object.now (map plan_at parts.now)) }
     ensures kept { IfOk result (λ groups. AreKept groups.items) }
 {
-    let mut gathered = Gathered::with_room(alloc, steps_in(parts))?;
+    let mut gathered = Gathered::with_room(alloc, total(parts, |part| part.len()))?;
     'parts: for part in parts {
         gathered.put_part(alloc, object, part)?;
     }
     Ok(gathered.groups)
-}
-
-/// How many steps plans have, those behind guards not counted; takes no memory.
-fn steps_in(parts: &[PlanAt<'_>]) -> usize {
-    let mut count: usize = 0;
-    'parts: for part in parts {
-        if let Some(steps) = part.steps {
-            count = count.saturating_add(steps.as_slice().len());
-        }
-    }
-    count
 }
 
 impl<'p> Gathered<'p> {

@@ -11,9 +11,11 @@ pub mod group;
 pub mod groups;
 pub mod guards;
 pub mod pages;
+pub mod room;
 
 pub use field::{BelowAt, Call, FormAt, PlanAt, connection_in, form_of_objects};
 pub use group::GroupAt;
 pub use groups::Groups;
 pub use guards::guard_passes;
 pub use pages::put_pages;
+pub use room::total;

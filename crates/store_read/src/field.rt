@@ -35,6 +35,14 @@ impl<'p> PartAt<'p> {
             steps: Some(&plan.steps),
         }
     }
+
+    /// The number of steps, those inside them not counted; takes no memory.
+    pub(crate) fn len(&self) -> usize {
+        match self.steps {
+            Some(steps) => steps.len(),
+            None => 0,
+        }
+    }
 }
 
 /// A field.

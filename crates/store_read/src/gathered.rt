@@ -12,7 +12,7 @@ ghost use Rattle.store_read.specs.Spreads.{pointers_onto, with_pointer};
 use crate::field::{FieldAt, PartAt};
 use crate::spread::SpreadAt;
 use gql_plain::{NoMemory, SharedText};
-use plan_groups::{Call, connection_in, form_of_objects, guard_passes};
+use plan_groups::{Call, connection_in, form_of_objects, guard_passes, total};
 use plan_ir::{ReaderStep, ReaderSteps};
 use schema_values::Env;
 use std::alloc::Global;
@@ -48,22 +48,11 @@ pub(crate) fn gather<'p>(
     ensures spreads { IfOk result (λ gathered. spreads_in gathered ≡ pointers_on collect_reader object.now (map part_at parts.now)) }
     ensures kept { IfOk result (λ gathered. AreKept gathered.groups.items) }
 {
-    let mut gathered = Gathered::with_room(alloc, steps_in(parts))?;
+    let mut gathered = Gathered::with_room(alloc, total(parts, |part| part.len()))?;
     'parts: for part in parts {
         gathered.put_part(alloc, object, part)?;
     }
     Ok(gathered)
-}
-
-/// How many steps plans have, those behind guards not counted; takes no memory.
-fn steps_in(parts: &[PartAt<'_>]) -> usize {
-    let mut count: usize = 0;
-    'parts: for part in parts {
-        if let Some(steps) = part.steps {
-            count = count.saturating_add(steps.as_slice().len());
-        }
-    }
-    count
 }
 
 impl<'p> Gathered<'p> {
