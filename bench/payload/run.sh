@@ -4,8 +4,8 @@
 # that meet in one id with equal values, and one long text. It tells of each number of facts whether it
 # is the one that is due. A program reads a text, or gathers its facts, as often as its words say, each
 # time from the beginning, and takes the time of each by the clock. Told is the least of eight times in
-# each of five runs, over all sizes, and the first time of a run, which has its memory from the system,
-# as the least of the five. `facts / reading` is the time for the facts, of a text that was read, as a
+# each of three runs, over all sizes, and the first time of a run, which has its memory from the system,
+# as the least of the three. `facts / reading` is the time for the facts, of a text that was read, as a
 # ratio to that for the reading; what either has made is let go within its time. Most memory is that of
 # a run that does it once. The program is made in a folder of its own outside the repository, where the crates that it stands on are proved
 # first. Instead, a program may be named that was made so: run.sh PROGRAM. With KEEP=PATH the program
@@ -274,7 +274,7 @@ cat > measure.py <<'END'
 import os, subprocess, sys
 from payloads import PAYLOADS
 
-RUNS, ROUNDS, MODES = 5, 8, ("read", "facts")
+RUNS, ROUNDS, MODES = 3, 8, ("read", "facts")
 
 def run(plan, count, mode, rounds):
     """What a run found, its first and its least time in milliseconds, and its most memory in MiB."""

@@ -1,0 +1,11 @@
+//! Plans whose fields stand in byte order of their response keys, so that what they show can be
+//! written while it is met, without a tree.
+#![tactic(auto)]
+
+mod keys;
+pub mod laws;
+pub mod ordering;
+mod single;
+
+pub use laws::ordered_walks_read_alike;
+pub use ordering::ordered;

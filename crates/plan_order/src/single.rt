@@ -1,0 +1,80 @@
+//! Single steps, of which plans are put together anew.
+ghost use Rattle.std.specs.Prelude.{◌≡◌, map, IfOk};
+ghost use Rattle.plan_ir.specs.Reader as reader;
+ghost use Rattle.plan_ir.specs.ReaderView.{step_of};
+ghost use Rattle.plan_order.specs.Singles.{guard_each, step_in, steps_in};
+
+use gql_plain::{Conn, NoMemory};
+use plan_ir::{Guard, ReaderPlan, ReaderStep, ReaderSteps};
+use std::alloc::Global;
+
+/// A step by itself, and what it is put in order by: the response key of its field, or its fragment.
+#[derive(Debug, Drop)]
+pub(crate) struct Single<'p> {
+    pub(crate) key: &'p str,
+    pub(crate) step: ReaderStep,
+}
+
+/// One step as a list.
+pub(crate) fn one_of<'p>(
+    alloc: Global,
+    key: &'p str,
+    step: ReaderStep,
+) -> Result<Vec<Single<'p>>, NoMemory>
+    ensures { IfOk result (λ one. steps_in one.items ≡ step_of step) }
+{
+    let mut one = Vec::with_capacity(alloc, 1)?;
+    one.push(Single { key, step })?;
+    Ok(one)
+}
+
+/// The steps as one plan.
+pub(crate) fn plan_of(alloc: Global, singles: Vec<Single<'_>>) -> Result<ReaderPlan, NoMemory>
+    ensures { IfOk result (λ plan. plan.steps ≡ steps_in singles.entry.items) }
+{
+    let mut steps = ReaderSteps::new(alloc);
+    'singles: for single in singles {
+        let Single { key: _, step } = single;
+        steps.push(step)?;
+    }
+    Ok(ReaderPlan { steps })
+}
+
+/// A step alone behind a guard.
+fn guarded(alloc: Global, guard: &Guard, step: ReaderStep) -> Result<ReaderStep, NoMemory>
+    ensures { IfOk result (λ one. step_of one ≡ reader.guarded guard.now (step_of step) reader.done) }
+{
+    let mut steps = ReaderSteps::new(alloc);
+    steps.push(step)?;
+    Ok(ReaderStep::Guarded {
+        guard: guard.copy()?,
+        child: ReaderPlan { steps },
+    })
+}
+
+/// The steps, each behind a guard of its own.
+pub(crate) fn each_guarded<'p>(
+    alloc: Global,
+    guard: &Guard,
+    singles: Vec<Single<'p>>,
+) -> Result<Vec<Single<'p>>, NoMemory>
+    ensures { IfOk result (λ behind. steps_in behind.items ≡ guard_each guard.now (map step_in singles.entry.items)) }
+{
+    let mut behind = Vec::with_capacity(alloc, singles.len())?;
+    'singles: for single in singles {
+        let Single { key, step } = single;
+        let step = guarded(alloc, guard, step)?;
+        behind.push(Single { key, step })?;
+    }
+    Ok(behind)
+}
+
+/// The same connection, or none where there is none.
+pub(crate) fn copy_of_conn(conn: &Option<Conn>) -> Result<Option<Conn>, NoMemory>
+    ensures { IfOk result (λ copy. copy ≡ conn.now) }
+{
+    match conn {
+        Some(conn) => Ok(Some(conn.copy()?)),
+        None => Ok(None),
+    }
+}
