@@ -7,9 +7,9 @@
 # each of three runs, over all sizes, and the first time of a run, which has its memory from the system,
 # as the least of the three. `facts / reading` is the time for the facts, of a text that was read, as a
 # ratio to that for the reading; what either has made is let go within its time. Most memory is that of
-# a run that does it once. The program is made in a folder of its own outside the repository, where the crates that it stands on are proved
-# first. Instead, a program may be named that was made so: run.sh PROGRAM. With KEEP=PATH the program
-# is left there.
+# a run that does it once. The program is made in a folder of its own outside the repository, where the
+# crates that it stands on are proved first. Instead, a program may be named that was made so: run.sh
+# PROGRAM. With KEEP=PATH the program is left there.
 set -eu
 here=$(cd "$(dirname "$0")" && pwd)
 repository=$(cd "$here/../.." && pwd)
@@ -291,7 +291,7 @@ def run(plan, count, mode, rounds):
 program, payloads, wrong = sys.argv[1], sys.argv[2], False
 print("payload                   count    MB  reading ms  facts ms  facts / reading  times the half  first: reading, facts, ratio, times the half  peak MiB  of reading  answer")
 for row, (name, plan, _, counts) in enumerate(PAYLOADS):
-    due, least, first, most = {}, {}, {}, {}
+    due, other, least, first, most = {}, {}, {}, {}, {}
     for count in counts:
         # By a process of its own: a child's most memory begins at that of its parent
         due[count] = subprocess.check_output([sys.executable, payloads, str(row), str(count), f"{count}.json"], text=True).strip()
@@ -302,7 +302,7 @@ for row, (name, plan, _, counts) in enumerate(PAYLOADS):
                 said, began, took, _ = run(plan, count, mode, ROUNDS)
                 least[at], first[at] = min(took, least.get(at, 1e9)), min(began, first.get(at, 1e9))
                 if mode == "facts" and said != due[count]:
-                    due[count] = f"WRONG: {said}, due {due[count]}"
+                    other[count] = f"WRONG: {said}, due {due[count]}"
     for count in counts:
         for mode in MODES:
             most[count, mode] = run(plan, count, mode, 1)[3]
@@ -311,8 +311,8 @@ for row, (name, plan, _, counts) in enumerate(PAYLOADS):
         now = [(of[count, "read"], of[count, "facts"]) for of in (least, first)]
         grown = [f"{new[1] / old[1]:.2f}" for new, old in zip(now, half)] if half else ["", ""]
         size = os.path.getsize(f"{count}.json") / 1e6
-        wrong = wrong or due[count].startswith("WRONG")
-        answer = due[count] if due[count].startswith("WRONG") else "as due"
+        wrong = wrong or count in other
+        answer = other.get(count, "as due")
         (read, took), (read_first, took_first) = now
         cells = f"{read_first:8.1f} {took_first:8.1f} {took_first / read_first:6.2f} {grown[1]:>6}"
         print(f"{name:22} {count:8} {size:5.1f} {read:11.1f} {took:9.1f}  {took / read:15.2f}  {grown[0]:>14}  {cells:>45}  {most[count, 'facts']:8.0f}  {most[count, 'read']:10.0f}  {answer}", flush=True)
