@@ -3,6 +3,8 @@
 
 pub mod heads;
 pub mod ids;
+pub mod texts;
 
 pub use heads::by_heads;
 pub use ids::sorted_ids;
+pub use texts::sorted_texts;

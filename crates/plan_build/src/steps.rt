@@ -16,7 +16,7 @@ use crate::conditions::conditions_of;
 use crate::kept::Kept;
 use gql_ast::{Arguments, Directives};
 use gql_plain::{Conn, Ids, Name, NoMemory};
-use plan_ir::{Conditions, Guard, Node, Nodes, NormalPlan, NormalStep, NormalSteps};
+use plan_ir::{Conditions, Guard, Node, Nodes, NormalPlan, NormalStep, NormalSteps, copy_of_conn};
 use schema_types::Schema;
 use std::alloc::Global;
 
@@ -28,16 +28,6 @@ pub(crate) struct Field<'a> {
     pub(crate) arguments: &'a Arguments,
     pub(crate) connection: &'a Option<Conn>,
     pub(crate) selections: &'a Nodes,
-}
-
-/// The same connection, or none where there is none.
-pub fn copy_of_conn(conn: &Option<Conn>) -> Result<Option<Conn>, NoMemory>
-    ensures { IfOk result (λ copy. copy ≡ conn.now) }
-{
-    match conn {
-        Some(conn) => Ok(Some(conn.copy()?)),
-        None => Ok(None),
-    }
 }
 
 /// Steps behind a guard.

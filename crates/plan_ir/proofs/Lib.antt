@@ -7,3 +7,4 @@ pub mod TextRows
 pub mod KeptKeys
 pub mod NormalKeys
 pub mod ReaderKeys
+pub mod StepDepths

@@ -14,7 +14,7 @@ pub(crate) fn copy_of_name(name: &Option<Name>) -> Result<Option<Name>, NoMemory
 }
 
 /// The same connection, or none where there is none.
-pub(crate) fn copy_of_conn(conn: &Option<Conn>) -> Result<Option<Conn>, NoMemory>
+pub fn copy_of_conn(conn: &Option<Conn>) -> Result<Option<Conn>, NoMemory>
     ensures { IfOk result (λ copy. copy ≡ conn.now) }
 {
     match conn {

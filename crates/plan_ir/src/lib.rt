@@ -6,7 +6,7 @@
 //! `Reader`. Lists of ids have several owners: a copy of a step is one more owner of its lists.
 #![tactic(auto)]
 
-mod copies;
+pub mod copies;
 pub mod expanded;
 pub mod form;
 pub mod guard;
@@ -15,6 +15,7 @@ pub mod node;
 pub mod normal;
 pub mod reader;
 
+pub use copies::copy_of_conn;
 pub use expanded::Expanded;
 pub use form::Form;
 pub use guard::{Condition, Conditions, Guard};

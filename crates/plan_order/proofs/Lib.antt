@@ -18,5 +18,4 @@ pub mod ShuffledReads
 pub mod Shuffles
 pub mod SingleSteps
 pub mod SinglesSteps
-pub mod StepDepths
 pub mod TakenSteps

@@ -17,10 +17,10 @@ use Rattle.plan_order.proofs.Shuffles.{differ-rising}
 use Rattle.plan_order.specs.Alike.{part_of}
 use Rattle.plan_order.specs.Ordered.{IsApart, IsInOrder}
 use Rattle.plan_order.specs.Responses.{fragments, responses}
-use Rattle.plan_order.specs.Walk.{whole, before, behind, fields_alone, fields_around, fields_met, is_none, mark_members, object_in_order, pointers_met, pointers_shown}
+use Rattle.plan_order.specs.Walk.{whole, before, behind, fields_alone, fields_around, fields_met, is_none, object_in_order, pointers_met, pointers_shown}
 use Rattle.schema_types.specs.Environments.{Values}
 use Rattle.store_model.specs.Items.{Item, asked, pointed, Pointer, asked_of}
-use Rattle.store_model.specs.Walks.{Fields, Next, Shown, Trace, fields_at, join_traces, mark_pointers, marks, object_at, pointers_at, still}
+use Rattle.store_model.specs.Walks.{Fields, Next, Shown, Trace, fields_at, join_traces, mark_members, mark_pointers, marks, object_at, pointers_at, still}
 use Rattle.store_record.specs.Keys.{Text}
 
 none_pointed : (ps : List (Pointer ReaderPart)) → map fragment_of ps ≡ [] → ps ≡ []

@@ -7,9 +7,9 @@ use Rattle.plan_ir.specs.ReaderMeaning.{ReaderPart}
 use Rattle.plan_order.proofs.Grouping.{fragments_in, pointed_of}
 use Rattle.plan_order.proofs.Putting.{IsAboveAll, IsBelowAll, put_front}
 use Rattle.plan_order.proofs.Rising.{IsBelow, below-trans, rising-first, rising-rest}
-use Rattle.plan_order.specs.Walk.{mark_members, pointers_met, pointers_shown}
+use Rattle.plan_order.specs.Walk.{pointers_met, pointers_shown}
 use Rattle.store_model.specs.Items.{Item, asked, pointed}
-use Rattle.store_model.specs.Walks.{Next, Shown, join_traces, mark_pointers, pointer_at, pointers_at, with_value}
+use Rattle.store_model.specs.Walks.{Next, Shown, join_traces, mark_members, mark_pointers, pointer_at, pointers_at, with_value}
 use Rattle.store_record.specs.Keys.{Text}
 
 -- ---- marks

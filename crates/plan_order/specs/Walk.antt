@@ -3,13 +3,13 @@ use Rattle.std.specs.Prelude.{ℕ, zero, suc, Bool, true, false, not, cond, code
 use Rattle.std.specs.Cmp.Lexicographic.{slice_cmp}
 use Rattle.std.specs.Ordering.{is_lt, nat_cmp}
 use Rattle.gql_plain.specs.Order.{has_text}
-use Rattle.gql_plain.specs.Tree.{Tree, null, text}
+use Rattle.gql_plain.specs.Tree.{Tree, null}
 use Rattle.plan_ir.specs.Reader.{Reader}
 use Rattle.plan_ir.specs.ReaderMeaning.{ReaderPart, collect_reading}
 use Rattle.plan_order.specs.Responses.{fragments}
 use Rattle.schema_types.specs.Environments.{Values}
 use Rattle.store_model.specs.Items.{Asked, Group, Item, asked, pointed}
-use Rattle.store_model.specs.Walks.{Fields, Found, Next, Shown, Slots, Standing, Trace, absent, gone, lives, field_of, group_at, join_traces, pointer_at, shown_object, standing_of, still, stood_lost, trace_at, where_possible}
+use Rattle.store_model.specs.Walks.{Fields, Found, Next, Shown, Slots, Standing, Trace, absent, gone, lives, field_of, group_at, join_traces, mark_members, pointer_at, standing_of, still, stood_lost, trace_at, where_possible}
 use Rattle.store_record.specs.Keys.{Text}
 
 -- a field alone
@@ -68,11 +68,6 @@ abbrev pub pointers_met : Next ReaderPart → Text → Text → List (Item Reade
 pointers_met next T id [] = still
 pointers_met next T id (asked a ∷ items) = pointers_met next T id items
 pointers_met next T id (pointed p ∷ items) = join_traces (pointer_at next T id p p.inline).1 (pointers_met next T id items)
-
--- what an object with pointers tells beside its fields
-abbrev pub mark_members : (owner id : Text) → List (Text × Tree) → List (Text × Tree)
-mark_members owner id [] = []
-mark_members owner id (m ∷ ms) = (codes "__fragments", shown_object (m ∷ ms)) ∷ (codes "__id", text id) ∷ (codes "__owner", text owner) ∷ []
 
 -- ---- records
 

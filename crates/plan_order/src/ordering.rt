@@ -6,10 +6,10 @@ ghost use Rattle.plan_ir.specs.ReaderView.{step_of};
 ghost use Rattle.plan_order.specs.Singles.{AreSingles, IsOrderedCopy};
 
 use crate::keys::is_in_order;
-use crate::single::{Single, copy_of_conn, each_guarded, one_of, plan_of};
+use crate::single::{Single, each_guarded, one_of, plan_of};
 use gql_ast::Arguments;
 use gql_plain::{Name, NoMemory};
-use plan_ir::{ReaderPlan, ReaderStep, ReaderSteps};
+use plan_ir::{ReaderPlan, ReaderStep, ReaderSteps, copy_of_conn};
 use std::alloc::Global;
 
 /// A plan that reads what this one reads, with its steps in order of their response keys, or None where

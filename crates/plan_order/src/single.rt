@@ -4,7 +4,7 @@ ghost use Rattle.plan_ir.specs.Reader as reader;
 ghost use Rattle.plan_ir.specs.ReaderView.{step_of};
 ghost use Rattle.plan_order.specs.Singles.{guard_each, step_in, steps_in};
 
-use gql_plain::{Conn, NoMemory};
+use gql_plain::NoMemory;
 use plan_ir::{Guard, ReaderPlan, ReaderStep, ReaderSteps};
 use std::alloc::Global;
 
@@ -67,14 +67,4 @@ pub(crate) fn each_guarded<'p>(
         behind.push(Single { key, step })?;
     }
     Ok(behind)
-}
-
-/// The same connection, or none where there is none.
-pub(crate) fn copy_of_conn(conn: &Option<Conn>) -> Result<Option<Conn>, NoMemory>
-    ensures { IfOk result (λ copy. copy ≡ conn.now) }
-{
-    match conn {
-        Some(conn) => Ok(Some(conn.copy()?)),
-        None => Ok(None),
-    }
 }

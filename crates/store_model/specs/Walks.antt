@@ -226,6 +226,11 @@ mark_pointers owner id [] = []
 mark_pointers owner id (m ∷ ms) =
     with_value (codes "__fragments") (shown_object (m ∷ ms)) (with_value (codes "__id") (text id) (with_value (codes "__owner") (text owner) []))
 
+-- the same, one after another
+abbrev pub mark_members : Text → Text → Shown → List (Text × Tree)
+mark_members owner id [] = []
+mark_members owner id (m ∷ ms) = (codes "__fragments", shown_object (m ∷ ms)) ∷ (codes "__id", text id) ∷ (codes "__owner", text owner) ∷ []
+
 abbrev pub marks : Text → Text → Shown × Trace → Shown × Trace
 marks owner id r = (mark_pointers owner id r.0, r.1)
 

@@ -1,5 +1,5 @@
 -- Steps of gathering what plans and their steps ask.
-use Rattle.std.proofs.Common.{◌≡◌, ℕ, zero, suc, ◌+◌, ◌<◌, ◌≤◌, cond, List, [], ◌∷◌, ◌++◌, map, drop, length, get_or, set, Option, Some, None, bytes_eq, add-one, Vec, Global, refl, ap, sym, ◌∙◌, arith}
+use Rattle.std.proofs.Common.{◌≡◌, ℕ, zero, suc, ◌+◌, ◌<◌, cond, List, [], ◌∷◌, ◌++◌, map, drop, length, get_or, set, Option, Some, None, bytes_eq, add-one, Vec, Global, refl, ap, sym, ◌∙◌, arith}
 use Rattle.std.proofs.Math.Seq.{drop-cons}
 use Rattle.std.proofs.lemmas.List.{append-nil, length-map, map-append}
 use Rattle.gql_ast.specs.Value.{Val}
@@ -25,35 +25,6 @@ use Rattle.store_read.specs.declared.field.PartAt.{PartAt}
 use Rattle.store_read.specs.declared.gathered.Fields.{Fields}
 
 -- ---- depths
-
-before_deep : (x : ReaderStep) (t : Reader) → depth (step_of x) ≤ depth (step_before x t)
-before_deep (N.Typename r) t = omega arith
-before_deep (N.Leaf r n xs) t = omega arith
-before_deep (N.Object r n xs m ts is o c child) t = omega arith
-before_deep (N.Guarded g child) t = omega arith
-before_deep (N.Pointer f xs None) t = omega arith
-before_deep (N.Pointer f xs (Some child)) t = omega arith
-
-rest_deep : (x : ReaderStep) (t : Reader) → depth t ≤ depth (step_before x t)
-rest_deep (N.Typename r) t = omega arith
-rest_deep (N.Leaf r n xs) t = omega arith
-rest_deep (N.Object r n xs m ts is o c child) t = omega arith
-rest_deep (N.Guarded g child) t = omega arith
-rest_deep (N.Pointer f xs None) t = omega arith
-rest_deep (N.Pointer f xs (Some child)) t = omega arith
-
-step_deep : (xs : List ReaderStep) (i : ℕ) (d : ReaderStep) → i < length xs → depth (step_of (get_or xs i d)) ≤ depth (steps_of xs)
-step_deep [] i d h = absurd (omega arith)
-step_deep (x ∷ xs) zero d h = before_deep x (steps_of xs)
-step_deep (x ∷ xs) (suc i) d h =
-    let e : depth (step_of (get_or xs i d)) ≤ depth (steps_of xs) = step_deep xs i d (omega arith) in
-    omega (arith, e, rest_deep x (steps_of xs))
-
--- a step is at most as deep as the plan that it stands in
-pub step_below : (xs : List ReaderStep) (whole : Reader) (i : ℕ) (x : ReaderStep) → i < length xs → x ≡ get_or xs i x → steps_of xs ≡ whole → depth (step_of x) ≤ depth whole
-step_below xs whole i x h is e =
-    let held : depth (step_of (get_or xs i x)) ≤ depth (steps_of xs) = step_deep xs i x h in
-    omega (arith, held, ap (λ (y : ReaderStep). depth (step_of y)) is, ap depth e)
 
 pub guarded_deep : (x : ReaderStep) (g : Guard) (child : ReaderPlan) → x ≡ N.Guarded g child → depth child.steps < depth (step_of x)
 guarded_deep x g child e = let deep : depth (step_of x) ≡ depth child.steps + 1 = ap (λ (y : ReaderStep). depth (step_of y)) e ∙ omega arith in omega (arith, deep)
@@ -83,7 +54,7 @@ guarded_items env T x g child e =
 
 module _ (env : Values) (T : Text) (xs : List ReaderStep) (i : ℕ) (x : ReaderStep) (h : i < length xs) (is : x ≡ get_or xs i x) where
   -- the items of this step, and of those after it
-  steps_left : collect_reading env T (step_of x) ++ collect_reading env T (steps_of (drop (i + 1) xs)) ≡ collect_reading env T (steps_of (drop i xs))
+  pub steps_left : collect_reading env T (step_of x) ++ collect_reading env T (steps_of (drop (i + 1) xs)) ≡ collect_reading env T (steps_of (drop i xs))
   steps_left =
       let same : drop i xs ≡ get_or xs i x ∷ drop (i + 1) xs = rw add-one (drop-cons xs i x h) in
       sym (collect_before env T x (steps_of (drop (i + 1) xs)))

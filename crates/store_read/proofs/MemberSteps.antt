@@ -17,8 +17,8 @@ use Rattle.gql_plain.specs.Tree.{Tree, text}
 use Rattle.gql_plain.specs.declared.plain.Plain.{Plain}
 use Rattle.gql_plain.specs.declared.plain.Plain.TheVariants as P
 use Rattle.store_model.specs.Verdicts.{in_order, with_one}
-use Rattle.store_model.specs.Walks.{Shown, shown_object, with_value}
-use Rattle.store_read.specs.Members.{mark_members, put_all}
+use Rattle.store_model.specs.Walks.{Shown, mark_members, shown_object, with_value}
+use Rattle.store_read.specs.Members.{put_all}
 use Rattle.store_record.specs.Keys.{Text}
 use Rattle.store_model.proofs.InOrder.{order_map}
 

@@ -8,11 +8,10 @@ use Rattle.gql_plain.specs.Tree.{Tree, null}
 use Rattle.plan_ir.specs.Reader.{Reader}
 use Rattle.plan_ir.specs.ReaderMeaning.{ReaderPart, collect_reader, plan_reads, records_below}
 use Rattle.schema_types.specs.Environments.{Values}
-use Rattle.store_model.specs.Walks.{Found, Shown, Trace, field_of, join_traces, object_at, or_null, reading, stand_at, standing_of, stood_lost, trace_at, type_of_record, where_possible}
+use Rattle.store_model.specs.Walks.{Found, Shown, Trace, field_of, join_traces, mark_members, object_at, or_null, reading, stand_at, standing_of, stood_lost, trace_at, type_of_record, where_possible}
 use Rattle.store_read.proofs.MetSteps.{met_twice}
 use Rattle.store_read.specs.Caching.{Caching}
 use Rattle.store_read.specs.Meeting.{Meeting, met_onto}
-use Rattle.store_read.specs.Members.{mark_members}
 use Rattle.store_read.specs.Reading.{reading_of, slots}
 use Rattle.store_read.specs.Walked.{if_possible, live_read, reads}
 use Rattle.store_read.specs.declared.snapshot.Snapshot.{Snapshot}
@@ -26,7 +25,7 @@ use Rattle.store_source.specs.Records.{Records}
 abbrev pub stood_and : Text → Found → Found
 stood_and id r = (r.0, join_traces (trace_at id) r.1)
 
-possible_stood : (b : Bool) (id : Text) (r : Shown × Trace) → where_possible b id r ≡ stood_and id (if_possible b r)
+pub possible_stood : (b : Bool) (id : Text) (r : Shown × Trace) → where_possible b id r ≡ stood_and id (if_possible b r)
 possible_stood true id r = refl
 possible_stood false id r = refl
 

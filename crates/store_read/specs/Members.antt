@@ -1,7 +1,7 @@
 -- The members of objects, as they are put.
-use Rattle.std.specs.Prelude.{codes, List, [], ◌∷◌, Option, Some, None}
-use Rattle.gql_plain.specs.Tree.{Tree, text}
-use Rattle.store_model.specs.Walks.{Shown, shown_object, with_value}
+use Rattle.std.specs.Prelude.{List, [], ◌∷◌, Option, Some, None}
+use Rattle.gql_plain.specs.Tree.{Tree}
+use Rattle.store_model.specs.Walks.{Shown, with_value}
 use Rattle.store_record.specs.Keys.{Text}
 
 -- pairs put onto members, of those of one key the first one counts
@@ -13,8 +13,3 @@ put_all (p ∷ ps) end = with_value p.0 p.1 (put_all ps end)
 abbrev pub found_before : Text → Option Tree → List (Text × Tree) → List (Text × Tree)
 found_before key None ps = ps
 found_before key (Some t) ps = (key, t) ∷ ps
-
--- what an object with pointers tells beside its fields
-abbrev pub mark_members : (owner id : Text) → Shown → List (Text × Tree)
-mark_members owner id [] = []
-mark_members owner id (m ∷ ms) = (codes "__fragments", shown_object (m ∷ ms)) ∷ (codes "__id", text id) ∷ (codes "__owner", text owner) ∷ []

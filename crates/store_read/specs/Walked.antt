@@ -3,9 +3,9 @@ use Rattle.std.specs.Prelude.{ℕ, Bool, true, false, ◌-◌, List, [], ◌∷�
 use Rattle.gql_plain.specs.Order.{has_text}
 use Rattle.gql_plain.specs.Tree.{Tree}
 use Rattle.plan_ir.specs.ReaderMeaning.{ReaderPart, collect_reader}
-use Rattle.store_model.specs.Walks.{Fields, Found, Next, Shown, Trace, field_of, join_traces, missing_trace, object_at, or_null, read_at, shown_object, still, type_of_record, value_at}
+use Rattle.store_model.specs.Walks.{Fields, Found, Next, Shown, Trace, field_of, join_traces, mark_members, missing_trace, object_at, or_null, read_at, shown_object, still, type_of_record, value_at}
 use Rattle.store_read.specs.Caching.{Caching, ReadGroup, ReadPointer}
-use Rattle.store_read.specs.Members.{found_before, mark_members, put_all}
+use Rattle.store_read.specs.Members.{found_before, put_all}
 use Rattle.store_read.specs.Reading.{slots}
 use Rattle.store_record.specs.Keys.{Text, Arguments}
 use Rattle.store_record.specs.declared.record.Record.{Record}

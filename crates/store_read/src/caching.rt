@@ -1,5 +1,5 @@
 //! Making what plans ask of records, once for each type.
-ghost use Rattle.std.specs.Prelude.{◌≡◌, ◌++◌, ◌∷◌, [], map, IfOk, OnOk};
+ghost use Rattle.std.specs.Prelude.{◌≡◌, ◌++◌, map, IfOk, OnOk};
 ghost use Rattle.store_read.specs.CacheView.{AreRight, IsPlaceOf, IsRight, IsTypeAt, group_view, pointer_view};
 ghost use Rattle.store_read.specs.Caching.{read_group, read_pointer};
 ghost use Rattle.store_read.specs.FieldView.{part_at, spread_at, IsKept};
@@ -10,7 +10,8 @@ use crate::cache::{Cache, FieldGroup, PointerAt, TypeItems};
 use crate::field::{FieldAt, PartAt};
 use crate::gathered::{Fields, gather};
 use crate::spread::SpreadAt;
-use gql_plain::{Ids, NoMemory, Pairs, Words};
+use crate::store::one_name;
+use gql_plain::{NoMemory, Pairs};
 use std::alloc::Global;
 use std::collections::BTreeMap;
 
@@ -88,15 +89,6 @@ fn items_of_type<'p>(
         groups,
         pointers,
     })
-}
-
-/// The name alone.
-fn one_name(alloc: Global, name: &str) -> Result<Ids, NoMemory>
-    ensures { IfOk result (λ names. names ≡ name.now ∷ []) }
-{
-    let mut names = Vec::with_capacity(alloc, 1)?;
-    names.push(Words::new(alloc, name)?)?;
-    Ids::in_order(names)
 }
 
 /// What is read of groups of fields.

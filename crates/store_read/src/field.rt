@@ -19,15 +19,15 @@ use store_record::{field_key, handle_key};
 
 /// Steps in the environment of their operation.
 #[derive(Clone, Copy)]
-pub(crate) struct PartAt<'p> {
-    pub(crate) env: &'p Env,
+pub struct PartAt<'p> {
+    pub env: &'p Env,
     /// None where there is no step.
-    pub(crate) steps: Option<&'p ReaderSteps>,
+    pub steps: Option<&'p ReaderSteps>,
 }
 
 impl<'p> PartAt<'p> {
     /// The steps of a plan; takes no memory.
-    pub(crate) fn new(env: &'p Env, plan: &'p ReaderPlan) -> PartAt<'p>
+    pub fn new(env: &'p Env, plan: &'p ReaderPlan) -> PartAt<'p>
         ensures { part_at result ≡ record { environment = env.now.values; steps = plan.now.steps } }
     {
         PartAt {
@@ -47,21 +47,21 @@ impl<'p> PartAt<'p> {
 
 /// A field.
 #[derive(Clone, Copy)]
-pub(crate) struct FieldAt<'p> {
-    pub(crate) response: &'p Name,
+pub struct FieldAt<'p> {
+    pub response: &'p Name,
     /// None for the name of the type of the record.
-    pub(crate) call: Option<Call<'p>>,
-    pub(crate) connection: Option<&'p Conn>,
-    pub(crate) form: FormAt<'p>,
+    pub call: Option<Call<'p>>,
+    pub connection: Option<&'p Conn>,
+    pub form: FormAt<'p>,
     /// What stands below, and the environment.
-    pub(crate) part: PartAt<'p>,
+    pub part: PartAt<'p>,
     /// The key that the field is stored under, where the plan keeps it.
-    pub(crate) key: Option<&'p SharedText>,
+    pub key: Option<&'p SharedText>,
 }
 
 impl<'p> FieldAt<'p> {
     /// The name of the type of the record; takes no memory.
-    pub(crate) fn type_name(env: &'p Env, response: &'p Name) -> FieldAt<'p>
+    pub fn type_name(env: &'p Env, response: &'p Name) -> FieldAt<'p>
         ensures field { asked (asked_at result) ≡ field_item (typename_ask response.now) env.now.values done }
         ensures kept { IsKept result }
     {
@@ -76,7 +76,7 @@ impl<'p> FieldAt<'p> {
     }
 
     /// A field of a scalar or an enum, or of a list of these; takes no memory.
-    pub(crate) fn leaf(
+    pub fn leaf(
         env: &'p Env,
         response: &'p Name,
         name: &'p Name,
@@ -99,7 +99,7 @@ impl<'p> FieldAt<'p> {
 
     /// The key that the field is read under: that of its connection, or its own where it has none, which
     /// the plan may keep.
-    pub(crate) fn read_key(&self, alloc: Global) -> Result<SharedText, NoMemory>
+    pub fn read_key(&self, alloc: Global) -> Result<SharedText, NoMemory>
         requires { IsKept self.now }
         ensures { IfOk result (λ key. key ≡ walks.read_key (ask_at self.now)) }
     {

@@ -8,7 +8,7 @@ use plan_ir::{ReaderStep, ReaderSteps};
 
 /// How many records a read by these steps stands at one below another, the first one not counted.
 #[cycle(levels)]
-pub(crate) fn records_below(steps: &ReaderSteps) -> Result<usize, NoMemory>
+pub fn records_below(steps: &ReaderSteps) -> Result<usize, NoMemory>
     ensures { IfOk result (λ levels. levels ≡ meaning.records_below steps.now) }
 {
     let mut most: usize = 0;
@@ -42,7 +42,7 @@ fn records_below_step(step: &ReaderStep) -> Result<usize, NoMemory>
 }
 
 /// One more.
-pub(crate) fn one_more(count: usize) -> Result<usize, NoMemory>
+pub fn one_more(count: usize) -> Result<usize, NoMemory>
     ensures { IfOk result (λ more. more ≡ count + 1) }
 {
     match count.checked_add(1) {

@@ -7,15 +7,16 @@
 
 mod cache;
 mod caching;
-mod field;
+pub mod field;
 mod gathered;
 pub mod laws;
-mod levels;
+pub mod levels;
 mod members;
 mod met;
 pub mod reading;
 pub mod snapshot;
-mod spread;
+pub mod spread;
+pub mod store;
 mod walk;
 
 pub use laws::reads_depend_on_their_footprint;

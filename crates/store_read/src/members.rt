@@ -4,7 +4,8 @@ ghost use Rattle.std.specs.Cmp.Lexicographic.{slice_cmp};
 ghost use Rattle.std.specs.Ordering.{is_eq, nat_cmp};
 ghost use Rattle.gql_plain.specs.Shown.{shown_members, tree_of};
 ghost use Rattle.store_model.specs.Walks as walks;
-ghost use Rattle.store_read.specs.Members.{found_before, mark_members, put_all};
+ghost use Rattle.store_model.specs.Walks.{mark_members};
+ghost use Rattle.store_read.specs.Members.{found_before, put_all};
 
 use gql_plain::{Id, NoMemory, Pairs, Plain, Words};
 use std::alloc::Global;

@@ -14,18 +14,18 @@ use std::alloc::Global;
 
 /// A spread that is not followed.
 #[derive(Clone, Copy)]
-pub(crate) struct SpreadAt<'p> {
-    pub(crate) fragment: &'p Name,
-    pub(crate) arguments: &'p Arguments,
+pub struct SpreadAt<'p> {
+    pub fragment: &'p Name,
+    pub arguments: &'p Arguments,
     /// Whether the fragment is read where the spread stands.
-    pub(crate) inline: bool,
+    pub inline: bool,
     /// The fragment's steps, none where it is not read, and the environment.
-    pub(crate) body: PartAt<'p>,
+    pub body: PartAt<'p>,
 }
 
 impl<'p> SpreadAt<'p> {
     /// The spread of a step; takes no memory.
-    pub(crate) fn new(
+    pub fn new(
         env: &'p Env,
         fragment: &'p Name,
         arguments: &'p Arguments,
@@ -50,7 +50,7 @@ impl<'p> SpreadAt<'p> {
     }
 
     /// The values of the fragment's local variables, in byte order of their names.
-    pub(crate) fn scope(&self, alloc: Global) -> Result<Pairs, NoMemory>
+    pub fn scope(&self, alloc: Global) -> Result<Pairs, NoMemory>
         ensures { IfOk result (λ scope. scope ≡ scope_in self.now.body.env.now.values self.now.arguments.now) }
     {
         first_of_each(values_of(alloc, self.body.env, self.arguments)?)

@@ -4,7 +4,7 @@ ghost use Rattle.gql_plain.specs.Order.{has_text};
 ghost use Rattle.gql_plain.specs.Shown.{plain_trees, shown_members, tree_of};
 ghost use Rattle.plan_groups.specs.FieldView.{form_at};
 ghost use Rattle.store_model.specs.Walks as walks;
-ghost use Rattle.store_model.specs.Walks.{field_of, type_of_record};
+ghost use Rattle.store_model.specs.Walks.{field_of};
 ghost use Rattle.store_record.specs.declared.record.Slot.TheVariants.{Alive};
 ghost use Rattle.store_read.specs.CacheView.{IsSame, group_view, pointer_view};
 ghost use Rattle.store_read.specs.Meeting.{met_onto};
@@ -15,20 +15,12 @@ use crate::cache::{Cache, FieldGroup, PointerAt, TypeItems};
 use crate::caching::place_of;
 use crate::members::{first_of_each, or_null, put_found, put_marks};
 use crate::met::Met;
+use crate::store::{Store, type_of};
 use gql_plain::{Id, Ids, NoMemory, OptIds, Pairs, Plain, Plains, Words};
 use plan_groups::FormAt;
 use std::alloc::Global;
 use store_record::{Field, Record, Slot};
 use store_source::RecordSource;
-
-/// Where records are read, the root type of the operation, and the name that pointers tell of their
-/// owner.
-#[derive(Drop)]
-pub(crate) struct Store<'p, S: RecordSource> {
-    pub(crate) source: &'p S,
-    pub(crate) root: &'p str,
-    pub(crate) owner: &'p Words,
-}
 
 /// Reads the record at an id, which may be of these types; None where it is missing.
 #[cycle(read)]
@@ -72,17 +64,6 @@ fn lost(met: &mut Met) -> Result<Option<Plain>, NoMemory>
 {
     met.lose();
     Ok(None)
-}
-
-/// The type of a record, by the name of its type: the root record has the root type of the operation.
-fn type_of<'p>(root: &'p str, row: &'p Record) -> &'p str
-    ensures { result.now ≡ type_of_record root.now row.now.type_name }
-{
-    let name = row.type_name.as_str();
-    if name == "__Root" {
-        return root;
-    }
-    name
 }
 
 /// Reads a live record, which is missing where it is of another type.

@@ -1,9 +1,9 @@
 -- What one more step says is put behind.
 use Rattle.std.proofs.Common.{◌≤◌, arith}
+use Rattle.plan_ir.proofs.StepDepths.{step_within}
 use Rattle.plan_ir.specs.Reader.{depth}
 use Rattle.plan_ir.specs.ReaderView.{step_of}
 use Rattle.plan_order.proofs.NotedSteps.{fragments_next, responses_next}
-use Rattle.plan_order.proofs.StepDepths.{step_within}
 use Rattle.plan_order.proofs.keys.+note.Goals as goal
 
 pub note_steps-steps-preserved : goal.note_steps-steps-preserved

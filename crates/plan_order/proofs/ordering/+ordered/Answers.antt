@@ -1,10 +1,10 @@
 -- Steps are taken apart one by one, and put in order.
 use Rattle.std.proofs.Common.{◌≤◌, map, IfSome, arith, sym, subst}
+use Rattle.plan_ir.proofs.StepDepths.{step_within}
 use Rattle.plan_ir.specs.Reader as reader
 use Rattle.plan_ir.specs.Reader.{depth}
 use Rattle.plan_ir.specs.ReaderView.{step_of}
 use Rattle.plan_order.proofs.SinglesSteps.{singles_next, singles_ordered}
-use Rattle.plan_order.proofs.StepDepths.{step_within}
 use Rattle.plan_order.proofs.TakenSteps.{taken-guarded}
 use Rattle.plan_order.proofs.ordering.+ordered.Goals as goal
 use Rattle.plan_order.specs.Singles.{AreSingles, AreTaken, step_in, steps_in}

@@ -1,5 +1,6 @@
 -- One more step; what stands behind a guard is less deep than the step.
 use Rattle.std.proofs.Common.{◌≡◌, ◌<◌, ◌≤◌, length, ap, sym, ◌∙◌, rules, arith}
+use Rattle.plan_ir.proofs.StepDepths.{step_within}
 use Rattle.plan_ir.specs.Reader.{depth}
 use Rattle.plan_ir.proofs.KeptKeys.{kept_key}
 use Rattle.plan_ir.proofs.ReaderKeys.{key_at, keys_counted}
@@ -8,13 +9,13 @@ use Rattle.plan_ir.specs.ReaderKeys.{keys_of}
 use Rattle.plan_groups.proofs.GroupSteps.{only_key}
 use Rattle.plan_ir.specs.ReaderView.{step_of}
 use Rattle.plan_ir.specs.declared.reader.ReaderStep.{ReaderStep}
-use Rattle.store_read.proofs.GatherSteps.{guarded_deep, step_below, steps_next, spreads_next}
+use Rattle.store_read.proofs.GatherSteps.{guarded_deep, steps_next, spreads_next}
 use Rattle.store_read.proofs.gathered.Gathered.+gather.Goals as goal
 
 pub put_steps-put_step-requires : goal.put_steps-put_step-requires
 put_steps-put_step-requires t c =
     let inside : c.steps.at < length c.as_slice-items.result.now = search rules in
-    let less : depth (step_of c.index-items-at.result) ≤ depth c.args.steps.now = step_below _ _ c.steps.at c.index-items-at.result inside c.index-items-at.is c.steps.invariant.within in
+    let less : depth (step_of c.index-items-at.result) ≤ depth c.args.steps.now = step_within _ c.steps.at c.index-items-at.result _ inside c.index-items-at.is c.steps.invariant.within in
     let kept = key_at c.as_slice-items.result.now c.keys-keys.result.now c.steps.at c.index-items-at.result c.index-keys-at.result inside c.index-items-at.is (c.keys-keys.ensures ∙ ap keys_of (sym c.as_slice-items.ensures)) c.index-keys-at.is in
     (omega arith, (c.steps.invariant.placed, kept))
 
