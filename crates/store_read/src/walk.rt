@@ -1,6 +1,5 @@
 //! The walk along records.
 ghost use Rattle.std.specs.Prelude.{◌≡◌, ◌+◌, ◌-◌, ◌≤◌, ◌++◌, None, Some, length, map, option_map, option_copied, IfOk, OnOk};
-ghost use Rattle.gql_plain.specs.Order.{has_text};
 ghost use Rattle.gql_plain.specs.Shown.{plain_trees, shown_members, tree_of};
 ghost use Rattle.plan_groups.specs.FieldView.{form_at};
 ghost use Rattle.store_model.specs.Walks as walks;
