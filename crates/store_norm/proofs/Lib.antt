@@ -5,6 +5,7 @@ pub mod FormedSteps
 pub mod HandleKeys
 pub mod NamedReports
 pub mod Reports
+pub mod TableSteps
 pub mod TakeSteps
 pub mod TypeNameKeys
 pub mod WalkSteps

@@ -12,13 +12,14 @@ ghost use Rattle.store_model.specs.declared.payload_fault.PathStep.TheVariants.{
 ghost use Rattle.store_norm.specs.CacheView.{IsSame};
 ghost use Rattle.store_norm.specs.Caching.{plans_of, parts_of};
 ghost use Rattle.store_norm.specs.MadeView.{id_of, made_at};
+ghost use Rattle.store_norm.specs.Tables.{IsTabled};
 ghost use Rattle.store_norm.specs.Walk as walk;
 ghost use Rattle.store_report.specs.ObjectRows.{Adds, with_open};
 
 use crate::cache::{GroupCache, TypeGroups};
 use crate::caching::place_of;
 use crate::made::{Place, made_id};
-use crate::members::member;
+use crate::members::{Members, member};
 use crate::types::type_under;
 use crate::walk::{is_other_type, is_typename, link_or_null};
 use gql_plain::{Id, NoMemory, OptIds, Plain, PlainFault, SharedText, Words, plain_of};
@@ -46,13 +47,14 @@ pub(crate) fn take_groups<'r>(
     ensures said { OnOk result (Adds (with_open id.now fields.old.items rows.old) (with_open id.now fields.new.items rows.new) (says.groups_say collect_plan id.now trail.now (says.walks_of collect_plan (members_view members.now.entries)) groups.now)) }
     ensures below { below.new ≡ below.old }
 {
+    let among = Members::new(alloc, members, groups.len())?;
     'groups: for (at, group) in groups.iter().enumerate() {
         take_group(
             alloc,
             group,
             &mut below[at],
             id,
-            members,
+            &among,
             trail,
             fields,
             rows,
@@ -69,19 +71,20 @@ fn take_group<'r>(
     group: &GroupAt<'r>,
     below: &mut GroupCache<'r>,
     id: &SharedText,
-    members: &'r Map<String, Value>,
+    members: &Members<'r>,
     trail: &Trail<'_, 'r>,
     fields: &mut Vec<SharedField>,
     rows: &mut ObjectRows<'r>,
 ) -> Result<(), NoMemory>
-    requires { below.old.parts ≡ parts group.now }
-    ensures said { OnOk result (Adds (with_open id.now fields.old.items rows.old) (with_open id.now fields.new.items rows.new) (walk.group_told id.now trail.now (members_view members.now.entries) group.now)) }
+    requires below { below.old.parts ≡ parts group.now }
+    requires tabled { IsTabled members.now }
+    ensures said { OnOk result (Adds (with_open id.now fields.old.items rows.old) (with_open id.now fields.new.items rows.new) (walk.group_told id.now trail.now (members_view members.now.map.now.entries) group.now)) }
     ensures below { below.new ≡ below.old }
 {
     if is_typename(&group.form()) {
         return Ok(());
     }
-    match member(members, group.response()) {
+    match members.get(group.response()) {
         Some(value) => take_field(alloc, group, below, id, value, trail, fields, rows),
         None => Ok(()),
     }

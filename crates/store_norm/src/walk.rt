@@ -13,13 +13,14 @@ ghost use Rattle.store_report.specs.Gathering.{gathered_onto};
 ghost use Rattle.store_norm.specs.CacheView.{IsSame};
 ghost use Rattle.store_norm.specs.Caching.{plans_of, parts_of};
 ghost use Rattle.store_norm.specs.MadeView.{id_of, made_at};
+ghost use Rattle.store_norm.specs.Tables.{IsTabled};
 ghost use Rattle.store_norm.specs.Walk as walk;
 
 use crate::cache::{GroupCache, TypeGroups};
 use crate::caching::place_of;
 use crate::leaves::leaf;
 use crate::made::{Place, object_id};
-use crate::members::member;
+use crate::members::{Members, member};
 use crate::pages::say_pages;
 use crate::types::{is_misnamed, type_under};
 use gql_plain::{Id, NoMemory, OptIds, Plain, SharedText, Words};
@@ -45,8 +46,9 @@ pub(crate) fn say_groups<'r>(
     ensures said { OnOk result (gathered.new ≡ gathered_onto gathered.old (says.groups_say collect_plan id.now path.now (says.walks_of collect_plan (members_view members.now.entries)) groups.now)) }
     ensures below { below.new ≡ below.old }
 {
+    let among = Members::new(alloc, members, groups.len())?;
     'groups: for (at, group) in groups.iter().enumerate() {
-        say_group(alloc, group, &mut below[at], id, members, path, gathered)?;
+        say_group(alloc, group, &mut below[at], id, &among, path, gathered)?;
     }
     Ok(())
 }
@@ -60,18 +62,19 @@ fn say_group<'r>(
     group: &GroupAt<'r>,
     below: &mut GroupCache<'r>,
     id: &SharedText,
-    members: &'r Map<String, Value>,
+    members: &Members<'r>,
     path: &Path<'r>,
     gathered: &mut Gathered<'r>,
 ) -> Result<(), NoMemory>
-    requires { below.old.parts ≡ parts group.now }
-    ensures said { OnOk result (gathered.new ≡ gathered_onto gathered.old (walk.group_told id.now path.now (members_view members.now.entries) group.now)) }
+    requires below { below.old.parts ≡ parts group.now }
+    requires tabled { IsTabled members.now }
+    ensures said { OnOk result (gathered.new ≡ gathered_onto gathered.old (walk.group_told id.now path.now (members_view members.now.map.now.entries) group.now)) }
     ensures below { below.new ≡ below.old }
 {
     if is_typename(&group.form()) {
         return Ok(());
     }
-    match member(members, group.response()) {
+    match members.get(group.response()) {
         Some(value) => say_field(alloc, group, below, id, value, path, gathered),
         None => Ok(()),
     }

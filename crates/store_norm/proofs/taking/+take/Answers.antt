@@ -23,7 +23,7 @@ use Rattle.store_norm.proofs.WalkSteps.{element_below, element_deep, elements_id
 use Rattle.store_norm.proofs.taking.+take.Goals as goal
 use Rattle.store_norm.specs.Caching.{Caching, parts_of, plans_of}
 use Rattle.store_norm.specs.MadeView.{id_of, made_at}
-use Rattle.store_norm.specs.Walk.{is_typename}
+use Rattle.store_norm.specs.Walk.{group_told, is_typename}
 use Rattle.store_record.specs.Keys.{Text, client_id}
 use Rattle.store_record.specs.declared.field.Field.{Field}
 use Rattle.store_report.proofs.AddSteps.{adds_none, field_added}
@@ -81,15 +81,15 @@ take_field-returns-clause-said t c =
 
 pub take_group-take_field-requires : goal.take_group-take_field-requires
 take_group-take_field-requires t c =
-    let ms = members_view c.args.members.now.entries in
+    let ms = members_view c.args.members.now.map.now.entries in
     let there : get_member c.args.group.now.first.ask.response ms ≡ Some (view c.in-Some.value.now) =
     sym (c.in-Some.ensures ∙ ap (λ k. get_member k ms) c.response.ensures) in
     let less = member_below (J.depth (view c.in-Some.value.now)) (J.depth (J.object ms)) (found_smaller.0 c.args.group.now.first.ask.response ms (view c.in-Some.value.now) there) in
-    (omega (arith, less, c.decreases), c.requires)
+    (omega (arith, less, c.decreases), c.requires.below)
 
 pub take_group-returns-in-Some-clause-said : goal.take_group-returns-in-Some-clause-said
 take_group-returns-in-Some-clause-said t c =
-    let ms = members_view c.args.members.now.entries in
+    let ms = members_view c.args.members.now.map.now.entries in
     let group = c.args.group.now in
     let there : get_member group.first.ask.response ms ≡ Some (view c.in-Some.value.now) = sym (c.in-Some.ensures ∙ ap (λ k. get_member k ms) c.response.ensures) in
     let other : c.is_typename.result ≡ false = search rules in
@@ -100,7 +100,7 @@ take_group-returns-in-Some-clause-said t c =
 
 pub take_group-returns-in-None-clause-said : goal.take_group-returns-in-None-clause-said
 take_group-returns-in-None-clause-said t c =
-    let ms = members_view c.args.members.now.entries in
+    let ms = members_view c.args.members.now.map.now.entries in
     let group = c.args.group.now in
     let now = with_open c.args.id.now c.args.fields.now.items c.args.rows.now in
     let absent : get_member group.first.ask.response ms ≡ None = sym (c.in-None.ensures ∙ ap (λ k. get_member k ms) c.response.ensures) in
@@ -108,7 +108,7 @@ take_group-returns-in-None-clause-said t c =
 
 pub take_group-returns-then-is_typename-clause-said : goal.take_group-returns-then-is_typename-clause-said
 take_group-returns-then-is_typename-clause-said t c =
-    let ms = members_view c.args.members.now.entries in
+    let ms = members_view c.args.members.now.map.now.entries in
     let group = c.args.group.now in
     let now = with_open c.args.id.now c.args.fields.now.items c.args.rows.now in
     let is : is_typename group.first.ask.form ≡ true = ap is_typename (sym c.form.ensures) ∙ sym c.is_typename.ensures ∙ c.if-is_typename.true in
@@ -118,15 +118,19 @@ pub take_groups-take_group-requires : goal.take_groups-take_group-requires
 take_groups-take_group-requires t c =
     let same : plans_of c.groups.below ≡ parts_of c.args.groups.now = ap plans_of c.groups.invariant.1 ∙ c.requires in
     let inside : c.groups.at < length c.args.groups.now = search rules in
-    (omega (arith, c.decreases), plans_at c.groups.below c.args.groups.now c.groups.at c.index-below-at.result c.index-groups-at.result same inside c.index-groups-at.is)
+    let held : members_view c.in_ok-among.among.map.now.entries ≡ members_view c.args.members.now.entries = λ i. members_view (c.in_ok-among.ensures.map i).entries in
+    (omega (arith, c.decreases, ap (λ ms. J.depth (J.object ms)) held), (plans_at c.groups.below c.args.groups.now c.groups.at c.index-below-at.result c.index-groups-at.result same inside c.index-groups-at.is, c.in_ok-among.ensures.tabled))
 
 pub take_groups-groups-preserved : goal.take_groups-groups-preserved
 take_groups-groups-preserved t c =
     let inside : c.groups.at < length c.args.groups.now = search rules in
-    let id = c.args.id.now in (
+    let id = c.args.id.now in
+    let held : members_view c.in_ok-among.among.map.now.entries ≡ members_view c.args.members.now.entries = λ i. members_view (c.in_ok-among.ensures.map i).entries in
+    let told = subst (λ ms. Adds (with_open id c.groups.fields.items c.groups.rows) (with_open id c.take_group.new.fields.items c.take_group.new.rows) (group_told id c.args.trail.now ms c.index-groups-at.result))
+    held c.in_ok-take_group.ensures.said in (
       groups_taken id c.args.trail.now (members_view c.args.members.now.entries) c.args.groups.now c.groups.at c.index-groups-at.result inside c.index-groups-at.is
           (with_open id c.args.fields.now.items c.args.rows.now) (with_open id c.groups.fields.items c.groups.rows) (with_open id c.take_group.new.fields.items c.take_group.new.rows) _
-          c.groups.invariant.0 c.in_ok-take_group.ensures.said,
+          c.groups.invariant.0 told,
       ap (set c.groups.below c.groups.at) c.in_ok-take_group.ensures.below ∙ set-get_or c.groups.below c.groups.at c.index-below-at.result ∙ c.groups.invariant.1,
     )
 

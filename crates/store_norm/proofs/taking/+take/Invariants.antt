@@ -38,7 +38,7 @@ abbrev pub decreases-take_groups : goal.decreases-take_groups
 decreases-take_groups l = 10 * J.depth (J.object (members_view l.members.now.entries)) + 1
 
 abbrev pub decreases-take_group : goal.decreases-take_group
-decreases-take_group l = 10 * J.depth (J.object (members_view l.members.now.entries))
+decreases-take_group l = 10 * J.depth (J.object (members_view l.members.now.map.now.entries))
 
 -- what was taken and what is left are the whole
 abbrev pub invariant-take_groups-groups : goal.invariant-take_groups-groups

@@ -20,7 +20,7 @@ use Rattle.store_norm.proofs.WalkSteps.{element_below, element_deep, elements_id
 use Rattle.store_norm.proofs.walk.+walk.Goals as goal
 use Rattle.store_norm.specs.Caching.{Caching, parts_of, plans_of}
 use Rattle.store_norm.specs.MadeView.{id_of, made_at}
-use Rattle.store_norm.specs.Walk.{is_typename}
+use Rattle.store_norm.specs.Walk.{group_told, is_typename}
 use Rattle.store_record.specs.Keys.{client_id}
 use Rattle.store_record.specs.declared.field.Field.TheVariants.{Leaf}
 use Rattle.store_report.specs.Gathering.{gathered_onto, with_value}
@@ -75,15 +75,15 @@ say_field-returns-clause-said t c =
 
 pub say_group-say_field-requires : goal.say_group-say_field-requires
 say_group-say_field-requires t c =
-    let ms = members_view c.args.members.now.entries in
+    let ms = members_view c.args.members.now.map.now.entries in
     let there : get_member c.args.group.now.first.ask.response ms ≡ Some (view c.in-Some.value.now) =
     sym (c.in-Some.ensures ∙ ap (λ k. get_member k ms) c.response.ensures) in
     let less = member_below (J.depth (view c.in-Some.value.now)) (J.depth (J.object ms)) (found_smaller.0 c.args.group.now.first.ask.response ms (view c.in-Some.value.now) there) in
-    (omega (arith, less, c.decreases), c.requires)
+    (omega (arith, less, c.decreases), c.requires.below)
 
 pub say_group-returns-in-Some-clause-said : goal.say_group-returns-in-Some-clause-said
 say_group-returns-in-Some-clause-said t c =
-    let ms = members_view c.args.members.now.entries in
+    let ms = members_view c.args.members.now.map.now.entries in
     let group = c.args.group.now in
     let there : get_member group.first.ask.response ms ≡ Some (view c.in-Some.value.now) = sym (c.in-Some.ensures ∙ ap (λ k. get_member k ms) c.response.ensures) in
     let other : c.is_typename.result ≡ false = search rules in
@@ -93,7 +93,7 @@ say_group-returns-in-Some-clause-said t c =
 
 pub say_group-returns-in-None-clause-said : goal.say_group-returns-in-None-clause-said
 say_group-returns-in-None-clause-said t c =
-    let ms = members_view c.args.members.now.entries in
+    let ms = members_view c.args.members.now.map.now.entries in
     let group = c.args.group.now in
     let absent : get_member group.first.ask.response ms ≡ None = sym (c.in-None.ensures ∙ ap (λ k. get_member k ms) c.response.ensures) in
     sym (gathered_none c.args.gathered.now) ∙ ap (gathered_onto c.args.gathered.now) (sym (told_absent c.args.id.now c.args.path.now ms group absent))
@@ -102,13 +102,16 @@ pub say_groups-say_group-requires : goal.say_groups-say_group-requires
 say_groups-say_group-requires t c =
     let same : plans_of c.groups.below ≡ parts_of c.args.groups.now = ap plans_of c.groups.invariant.1 ∙ c.requires in
     let inside : c.groups.at < length c.args.groups.now = search rules in
-    (omega (arith, c.decreases), plans_at c.groups.below c.args.groups.now c.groups.at c.index-below-at.result c.index-groups-at.result same inside c.index-groups-at.is)
+    let held : members_view c.in_ok-among.among.map.now.entries ≡ members_view c.args.members.now.entries = λ i. members_view (c.in_ok-among.ensures.map i).entries in
+    (omega (arith, c.decreases, ap (λ ms. J.depth (J.object ms)) held), (plans_at c.groups.below c.args.groups.now c.groups.at c.index-below-at.result c.index-groups-at.result same inside c.index-groups-at.is, c.in_ok-among.ensures.tabled))
 
 pub say_groups-groups-preserved : goal.say_groups-groups-preserved
 say_groups-groups-preserved t c =
-    let inside : c.groups.at < length c.args.groups.now = search rules in (
+    let inside : c.groups.at < length c.args.groups.now = search rules in
+    let held : members_view c.in_ok-among.among.map.now.entries ≡ members_view c.args.members.now.entries = λ i. members_view (c.in_ok-among.ensures.map i).entries in
+    let told = c.in_ok-say_group.ensures.said ∙ ap (λ ms. gathered_onto c.groups.gathered (group_told c.args.id.now c.args.path.now ms c.index-groups-at.result)) held in (
       groups_said c.args.id.now c.args.path.now (members_view c.args.members.now.entries) c.args.groups.now c.groups.at c.index-groups-at.result inside c.index-groups-at.is
-          _ c.groups.gathered c.say_group.new.gathered c.groups.invariant.0 c.in_ok-say_group.ensures.said,
+          _ c.groups.gathered c.say_group.new.gathered c.groups.invariant.0 told,
       ap (set c.groups.below c.groups.at) c.in_ok-say_group.ensures.below ∙ set-get_or c.groups.below c.groups.at c.index-below-at.result ∙ c.groups.invariant.1,
     )
 

@@ -37,7 +37,7 @@ abbrev pub decreases-say_groups : goal.decreases-say_groups
 decreases-say_groups l = 10 * J.depth (J.object (members_view l.members.now.entries)) + 1
 
 abbrev pub decreases-say_group : goal.decreases-say_group
-decreases-say_group l = 10 * J.depth (J.object (members_view l.members.now.entries))
+decreases-say_group l = 10 * J.depth (J.object (members_view l.members.now.map.now.entries))
 
 -- what was said and what is left are the whole
 abbrev pub invariant-say_groups-groups : goal.invariant-say_groups-groups
