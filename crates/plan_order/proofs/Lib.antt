@@ -1,7 +1,9 @@
 pub mod AlikeTraces
 pub mod AlikeValues
+pub mod DistinctTexts
 pub mod FieldsInOrder
 pub mod FieldsMet
+pub mod FoundOrders
 pub mod Grouping
 pub mod ItemsOrdered
 pub mod NotedSteps
@@ -13,9 +15,11 @@ pub mod PointersInOrder
 pub mod PutTwice
 pub mod Putting
 pub mod Rising
+pub mod RisingSingles
 pub mod ShuffledObjects
 pub mod ShuffledReads
 pub mod Shuffles
 pub mod SingleSteps
 pub mod SinglesSteps
+pub mod StepKeys
 pub mod TakenSteps

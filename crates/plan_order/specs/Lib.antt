@@ -1,4 +1,5 @@
 pub mod Alike
+pub mod HasOrder
 pub mod Ordered
 pub mod Responses
 pub mod Singles

@@ -1,6 +1,7 @@
 -- Steps taken apart, and what single steps keep of the steps that they were taken from.
-use Rattle.std.specs.Prelude.{◌≡◌, List, [], ◌∷◌, map}
-use Rattle.std.specs.List.{AllZip}
+use denote.Ref.{Bor}
+use Rattle.std.specs.Prelude.{◌≡◌, List, [], ◌∷◌, ◌++◌, map}
+use Rattle.std.specs.List.{AllByRecursion, AllZip}
 use Rattle.plan_ir.specs.Reader as r
 use Rattle.plan_ir.specs.Reader.{Reader}
 use Rattle.plan_ir.specs.ReaderMeaning.{ReaderPart, collect_reading, records_below}
@@ -9,6 +10,7 @@ use Rattle.plan_ir.specs.declared.guard.Guard.{Guard}
 use Rattle.plan_ir.specs.declared.reader.ReaderStep.{ReaderStep}
 use Rattle.plan_order.specs.Alike.{ReadAlike}
 use Rattle.plan_order.specs.Ordered.{AreInOrderBelow, IsOrdered}
+use Rattle.plan_order.specs.Responses.{fragments, responses}
 use Rattle.plan_order.specs.declared.single.Single.{Single}
 use Rattle.schema_tables.specs.Types.{Text}
 use Rattle.schema_types.specs.Environments.{Values}
@@ -51,8 +53,32 @@ step_in s = s.step
 abbrev pub steps_in : List Single → Reader
 steps_in singles = steps_of (map step_in singles)
 
-abbrev pub AreSingles : Reader → List Single → Type 0
-AreSingles plan singles = AreTaken plan (steps_in singles)
+abbrev pub single_of : Bor Text → ReaderStep → Single
+single_of key step = record { key = key; step = step }
+
+abbrev pub key_in : Single → Text
+key_in s = s.key.now
+
+-- one field whose response key is the key, or one pointer whose fragment it is
+abbrev pub IsKeyed : Single → Type 0
+IsKeyed s = responses (step_of s.step) ++ fragments (step_of s.step) ≡ key_in s ∷ []
+
+-- single steps that say in turn what the steps say that they were taken from, each with its key
+pub record AreSingles (plan : Reader) (singles : List Single) : Type 0 where
+  pub taken : AreTaken plan (steps_in singles)
+  pub told : responses (steps_in singles) ≡ responses plan
+  pub spread : fragments (steps_in singles) ≡ fragments plan
+  pub keyed : AllByRecursion IsKeyed singles
+
+-- the step with another plan below its field, where it is a field of objects
+abbrev pub over_child : Reader → Reader → Reader
+over_child r.done other = r.done
+over_child (r.typename n rest) other = r.typename n rest
+over_child (r.leaf n name xs rest) other = r.leaf n name xs rest
+over_child (r.object n name xs m ts is o c child rest) other = r.object n name xs m ts is o c other rest
+over_child (r.guarded g child rest) other = r.guarded g child rest
+over_child (r.pointer f xs rest) other = r.pointer f xs rest
+over_child (r.pointer_inline f xs child rest) other = r.pointer_inline f xs child rest
 
 -- each step behind a guard of its own
 abbrev pub guard_each : Guard → List ReaderStep → Reader

@@ -1,11 +1,12 @@
 //! The response keys and the fragments of the steps of an object, and whether they are in order.
-ghost use Rattle.std.specs.Prelude.{◌≡◌, true, ◌++◌, map, IfOk, OnOk};
+ghost use Rattle.std.specs.Prelude.{◌≡◌, ◌↔◌, true, ◌++◌, map, IfOk, OnOk};
 ghost use Rattle.std.specs.Cmp.Lexicographic.{slice_cmp};
-ghost use Rattle.std.specs.List.{AllByRecursion};
+ghost use Rattle.std.specs.List.{list_all};
 ghost use Rattle.std.specs.Ordering.{is_lt, nat_cmp};
 ghost use Rattle.gql_plain.specs.Order.{AreInOrder};
 ghost use Rattle.plan_ir.specs.ReaderView.{step_of};
-ghost use Rattle.plan_order.specs.Ordered.{IsApart, IsInOrder};
+ghost use Rattle.plan_order.specs.HasOrder.{stands_apart};
+ghost use Rattle.plan_order.specs.Ordered.{IsInOrder};
 ghost use Rattle.plan_order.specs.Responses.{fragments, responses};
 
 use gql_plain::NoMemory;
@@ -23,7 +24,7 @@ pub(crate) struct Keys<'p> {
 /// their pointers. Where there is a pointer, no response key stands among what such an object tells
 /// beside its fields.
 pub(crate) fn is_in_order(alloc: Global, steps: &ReaderSteps) -> Result<bool, NoMemory>
-    ensures { IfOk result (λ yes. yes ≡ true → IsInOrder steps.now) }
+    ensures { IfOk result (λ yes. (yes ≡ true) ↔ IsInOrder steps.now) }
 {
     let mut keys = Keys {
         responses: Vec::new(alloc),
@@ -83,7 +84,7 @@ fn note_step<'p>(keys: &mut Keys<'p>, step: &'p ReaderStep) -> Result<(), NoMemo
 
 /// Whether each text stands after that before it, by bytes; takes no memory.
 fn do_rise(texts: &[&str]) -> bool
-    ensures { result ≡ true → AreInOrder (map (λ t. t.now) texts.now) }
+    ensures { (result ≡ true) ↔ AreInOrder (map (λ t. t.now) texts.now) }
 {
     texts.is_sorted_by(|one, other| one.cmp(other).is_lt())
 }
@@ -91,7 +92,7 @@ fn do_rise(texts: &[&str]) -> bool
 /// Whether each response key stands before all that an object with pointers tells beside its fields, or
 /// behind all of it; takes no memory.
 fn are_apart(responses: &[&str]) -> bool
-    ensures { result ≡ true → AllByRecursion (λ t. IsApart t.now) responses.now }
+    ensures { result ≡ list_all (λ t. stands_apart t.now) responses.now }
 {
     responses.iter().all(|key| is_apart(key))
 }
@@ -99,7 +100,7 @@ fn are_apart(responses: &[&str]) -> bool
 /// Whether a response key stands before all that an object with pointers tells beside its fields, or
 /// behind all of it; takes no memory.
 fn is_apart(key: &str) -> bool
-    ensures { result ≡ true → IsApart key.now }
+    ensures { result ≡ stands_apart key.now }
 {
     if is_below(key, "__fragments") {
         return true;

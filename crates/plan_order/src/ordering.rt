@@ -1,15 +1,18 @@
 //! Plans put in order, so that what they show can be written while it is met.
-ghost use Rattle.std.specs.Prelude.{IfOk, IfSome};
-ghost use Rattle.std.specs.List.Sorted.{IsPermutation};
+ghost use Rattle.std.specs.Prelude.{◌≡◌, IfOk, IfSome, is_some};
+ghost use Rattle.std.specs.Cmp.Lexicographic.{slice_cmp};
+ghost use Rattle.std.specs.List.Sorted.{IsPermutation, IsSortedByKey};
+ghost use Rattle.std.specs.Ordering.{nat_cmp};
 ghost use Rattle.plan_ir.specs.Reader as reader;
 ghost use Rattle.plan_ir.specs.ReaderView.{step_of};
-ghost use Rattle.plan_order.specs.Singles.{AreSingles, IsOrderedCopy};
+ghost use Rattle.plan_order.specs.HasOrder.{has_order_below, is_orderable};
+ghost use Rattle.plan_order.specs.Singles.{AreSingles, IsOrderedCopy, key_in};
 
 use crate::keys::is_in_order;
-use crate::single::{Single, each_guarded, one_of, plan_of};
+use crate::single::{Single, each_guarded, one_of, plan_of, with_child};
 use gql_ast::Arguments;
 use gql_plain::{Name, NoMemory};
-use plan_ir::{ReaderPlan, ReaderStep, ReaderSteps, copy_of_conn};
+use plan_ir::{ReaderPlan, ReaderStep, ReaderSteps};
 use std::alloc::Global;
 
 /// A plan that reads what this one reads, with its steps in order of their response keys, or None where
@@ -18,7 +21,8 @@ use std::alloc::Global;
 /// n * log n steps, and each of them as many copies of guards as stand around it.
 #[cycle(ordered)]
 pub fn ordered(alloc: Global, plan: &ReaderPlan) -> Result<Option<ReaderPlan>, NoMemory>
-    ensures { IfOk result (λ found. IfSome found (λ copy. IsOrderedCopy plan.now.steps copy.steps)) }
+    ensures copy { IfOk result (λ found. IfSome found (λ copy. IsOrderedCopy plan.now.steps copy.steps)) }
+    ensures found { IfOk result (λ found. is_some found ≡ is_orderable plan.now.steps) }
 {
     let Some(singles) = singles_of(alloc, &plan.steps)? else {
         return Ok(None);
@@ -33,7 +37,8 @@ pub fn ordered(alloc: Global, plan: &ReaderPlan) -> Result<Option<ReaderPlan>, N
 
 /// The single steps in order of their keys.
 fn in_order<'p>(mut singles: Vec<Single<'p>>) -> Result<Vec<Single<'p>>, NoMemory>
-    ensures { IfOk result (λ sorted. IsPermutation singles.entry.items sorted.items) }
+    ensures same { IfOk result (λ sorted. IsPermutation singles.entry.items sorted.items) }
+    ensures order { IfOk result (λ sorted. IsSortedByKey key_in (slice_cmp nat_cmp) sorted.items) }
 {
     singles.sort_by(|one, other| one.key.cmp(other.key))?;
     Ok(singles)
@@ -46,7 +51,8 @@ fn singles_of<'p>(
     alloc: Global,
     steps: &'p ReaderSteps,
 ) -> Result<Option<Vec<Single<'p>>>, NoMemory>
-    ensures { IfOk result (λ found. IfSome found (λ singles. AreSingles steps.now singles.items)) }
+    ensures singles { IfOk result (λ found. IfSome found (λ singles. AreSingles steps.now singles.items)) }
+    ensures found { IfOk result (λ found. is_some found ≡ has_order_below steps.now) }
 {
     let mut singles = Vec::new(alloc);
     'steps: for step in steps.as_slice() {
@@ -61,7 +67,8 @@ fn singles_of<'p>(
 /// The singles of one step.
 #[cycle(ordered)]
 fn apart<'p>(alloc: Global, step: &'p ReaderStep) -> Result<Option<Vec<Single<'p>>>, NoMemory>
-    ensures { IfOk result (λ found. IfSome found (λ singles. AreSingles (step_of step.now) singles.items)) }
+    ensures singles { IfOk result (λ found. IfSome found (λ singles. AreSingles (step_of step.now) singles.items)) }
+    ensures found { IfOk result (λ found. is_some found ≡ has_order_below (step_of step.now)) }
 {
     match step {
         ReaderStep::Typename { response } => {
@@ -72,29 +79,13 @@ fn apart<'p>(alloc: Global, step: &'p ReaderStep) -> Result<Option<Vec<Single<'p
         }
         ReaderStep::Object {
             response,
-            name,
-            arguments,
-            many,
-            types,
-            identified,
-            open_type,
-            connection,
             child,
+            ..
         } => {
             let Some(below) = ordered(alloc, child)? else {
                 return Ok(None);
             };
-            let copy = ReaderStep::Object {
-                response: response.copy()?,
-                name: name.copy()?,
-                arguments: arguments.copy()?,
-                many: *many,
-                types: types.copy()?,
-                identified: identified.copy()?,
-                open_type: *open_type,
-                connection: copy_of_conn(connection)?,
-                child: below,
-            };
+            let copy = with_child(step, below)?;
             Ok(Some(one_of(alloc, response.as_str(), copy)?))
         }
         ReaderStep::Guarded { guard, child } => {
@@ -124,7 +115,8 @@ fn body_apart<'p>(
     arguments: &Arguments,
     body: &ReaderPlan,
 ) -> Result<Option<Vec<Single<'p>>>, NoMemory>
-    ensures { IfOk result (λ found. IfSome found (λ singles. AreSingles (reader.pointer_inline fragment.now arguments.now body.now.steps reader.done) singles.items)) }
+    ensures singles { IfOk result (λ found. IfSome found (λ singles. AreSingles (reader.pointer_inline fragment.now arguments.now body.now.steps reader.done) singles.items)) }
+    ensures found { IfOk result (λ found. is_some found ≡ is_orderable body.now.steps) }
 {
     let Some(below) = ordered(alloc, body)? else {
         return Ok(None);

@@ -1,13 +1,43 @@
--- Steps are taken apart one by one, and put in order.
-use Rattle.std.proofs.Common.{◌≤◌, map, IfSome, arith, sym, subst}
+-- Steps are taken apart one by one, and put in order; a plan is found where there is an order.
+use Rattle.std.proofs.Common.{◌≡◌, ◌≤◌, true, false, IfSome, is_some, arith, rules, sym, ap, subst, ◌∙◌}
 use Rattle.plan_ir.proofs.StepDepths.{step_within}
-use Rattle.plan_ir.specs.Reader as reader
 use Rattle.plan_ir.specs.Reader.{depth}
 use Rattle.plan_ir.specs.ReaderView.{step_of}
-use Rattle.plan_order.proofs.SinglesSteps.{singles_next, singles_ordered}
-use Rattle.plan_order.proofs.TakenSteps.{taken-guarded}
+use Rattle.plan_order.proofs.FoundOrders.{order_found}
+use Rattle.plan_order.proofs.SinglesSteps.{singles_guarded, singles_next, singles_ordered}
+use Rattle.plan_order.proofs.StepKeys.{has_below_next, has_below_not}
 use Rattle.plan_order.proofs.ordering.+ordered.Goals as goal
-use Rattle.plan_order.specs.Singles.{AreSingles, AreTaken, step_in, steps_in}
+use Rattle.plan_order.specs.HasOrder.{has_order_below}
+use Rattle.plan_order.specs.Singles.{AreSingles}
+
+-- ---- one plan
+
+pub ordered-returns-then-branch-clause-copy : goal.ordered-returns-then-branch-clause-copy
+ordered-returns-then-branch-clause-copy t c =
+    let plan = c.args.plan.now.steps in
+    let given = c.in-Some.singles.items in
+    let are : AreSingles plan given = subst (λ o. IfSome o (λ s. AreSingles plan s.items)) c.in-Some.is c.in_ok-singles.ensures.singles in
+    singles_ordered plan c.in_ok-copy.copy.steps given c.in_ok-sorted.sorted.items are c.in_ok-sorted.ensures.same c.in_ok-copy.ensures (c.in_ok-is_in_order.ensures.0 c.if-branch.true)
+
+pub ordered-returns-then-branch-clause-found : goal.ordered-returns-then-branch-clause-found
+ordered-returns-then-branch-clause-found t c =
+    let plan = c.args.plan.now.steps in
+    let given = c.in-Some.singles.items in
+    let are : AreSingles plan given = subst (λ o. IfSome o (λ s. AreSingles plan s.items)) c.in-Some.is c.in_ok-singles.ensures.singles in
+    let below : has_order_below plan ≡ true = sym (subst (λ o. is_some o ≡ has_order_below plan) c.in-Some.is c.in_ok-singles.ensures.found) in
+    sym c.if-branch.true
+    ∙ order_found plan c.in_ok-copy.copy.steps given c.in_ok-sorted.sorted.items _ are c.in_ok-sorted.ensures.same c.in_ok-sorted.ensures.order c.in_ok-copy.ensures below c.in_ok-is_in_order.ensures
+
+pub ordered-returns-clause-found : goal.ordered-returns-clause-found
+ordered-returns-clause-found t c =
+    let plan = c.args.plan.now.steps in
+    let given = c.in-Some.singles.items in
+    let are : AreSingles plan given = subst (λ o. IfSome o (λ s. AreSingles plan s.items)) c.in-Some.is c.in_ok-singles.ensures.singles in
+    let below : has_order_below plan ≡ true = sym (subst (λ o. is_some o ≡ has_order_below plan) c.in-Some.is c.in_ok-singles.ensures.found) in
+    sym c.if-branch.false
+    ∙ order_found plan c.in_ok-copy.copy.steps given c.in_ok-sorted.sorted.items _ are c.in_ok-sorted.ensures.same c.in_ok-sorted.ensures.order c.in_ok-copy.ensures below c.in_ok-is_in_order.ensures
+
+-- ---- steps one after another
 
 pub singles_of-apart-requires : goal.singles_of-apart-requires
 singles_of-apart-requires t c =
@@ -16,24 +46,29 @@ singles_of-apart-requires t c =
     (omega arith, tt)
 
 pub singles_of-steps-preserved : goal.singles_of-steps-preserved
-singles_of-steps-preserved t c =
-    singles_next c.as_slice-step-items.result.now c.steps.step-index c.step-item.result c.steps.singles.items c.in-Some.more.items c.append.new.self.items (omega arith) c.step-item.is
-    c.in_ok-append.ensures.items
-    (subst (λ o. IfSome o (λ s. AreSingles (step_of c.step-item.result) s.items)) c.in-Some.is c.in_ok-more.ensures)
-    c.steps.invariant
+singles_of-steps-preserved t c = record {
+  singles = singles_next c.as_slice-step-items.result.now c.steps.step-index c.step-item.result c.steps.singles.items c.in-Some.more.items c.append.new.self.items (omega arith) c.step-item.is
+      c.in_ok-append.ensures.items
+      (subst (λ o. IfSome o (λ s. AreSingles (step_of c.step-item.result) s.items)) c.in-Some.is c.in_ok-more.ensures.singles)
+      c.steps.invariant.singles;
+  below = has_below_next c.as_slice-step-items.result.now c.steps.step-index c.step-item.result (omega arith) c.step-item.is
+      (sym (subst (λ o. is_some o ≡ has_order_below (step_of c.step-item.result)) c.in-Some.is c.in_ok-more.ensures.found))
+      c.steps.invariant.below;
+}
 
-pub apart-returns-in_ok-each_guarded-in-Guarded : goal.apart-returns-in_ok-each_guarded-in-Guarded
-apart-returns-in_ok-each_guarded-in-Guarded t c =
+pub singles_of-returns-in_default-clause-found : goal.singles_of-returns-in_default-clause-found
+singles_of-returns-in_default-clause-found t c =
+    let here : has_order_below (step_of c.step-item.result) ≡ false = search rules in
+    sym (ap has_order_below (sym c.as_slice-step-items.ensures) ∙ has_below_not c.as_slice-step-items.result.now c.steps.step-index c.step-item.result (omega arith) c.step-item.is here)
+
+-- ---- one step
+
+pub apart-returns-in_ok-each_guarded-in-Guarded-clause-singles : goal.apart-returns-in_ok-each_guarded-in-Guarded-clause-singles
+apart-returns-in_ok-each_guarded-in-Guarded-clause-singles t c =
     let guard = c.in-Guarded.guard in
     let child = c.in-Guarded.child.steps in
     let inner = c.in-Some-2.singles.items in
-    let are : AreSingles child inner = subst (λ o. IfSome o (λ s. AreSingles child s.items)) c.in-Some-2.is c.in_ok-singles-in-Guarded.ensures in
-    subst (λ x. AreTaken (step_of x) (steps_in c.in_ok-each_guarded-in-Guarded.field-0.items)) (sym c.in-Guarded.is)
-    (subst (AreTaken (reader.guarded guard child reader.done)) (sym c.in_ok-each_guarded-in-Guarded.ensures) (taken-guarded guard child (map step_in inner) are))
-
-pub ordered-returns-then-branch : goal.ordered-returns-then-branch
-ordered-returns-then-branch t c =
-    let plan = c.args.plan.now.steps in
-    let given = c.in-Some.singles.items in
-    let are : AreSingles plan given = subst (λ o. IfSome o (λ s. AreSingles plan s.items)) c.in-Some.is c.in_ok-singles.ensures in
-    singles_ordered plan c.in_ok-copy.copy.steps given c.in_ok-sorted.sorted.items are c.in_ok-sorted.ensures c.in_ok-copy.ensures (c.in_ok-is_in_order.ensures c.if-branch.true)
+    let behind = c.in_ok-each_guarded-in-Guarded.field-0.items in
+    let are : AreSingles child inner = subst (λ o. IfSome o (λ s. AreSingles child s.items)) c.in-Some-2.is c.in_ok-singles-in-Guarded.ensures.singles in
+    subst (λ x. AreSingles (step_of x) behind) (sym c.in-Guarded.is)
+    (singles_guarded guard child inner behind are c.in_ok-each_guarded-in-Guarded.ensures.steps (c.in_ok-each_guarded-in-Guarded.ensures.keyed are.keyed))

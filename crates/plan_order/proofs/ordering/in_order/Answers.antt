@@ -1,0 +1,14 @@
+-- Each comparison is one of keys.
+use Rattle.std.proofs.Common.{◌≡◌, nat_cmp, rules, ap}
+use Rattle.std.proofs.lemmas.Cmp.{nat_list_cmp_total}
+use Rattle.std.proofs.lemmas.Fn.{always_returns_same}
+use Rattle.std.proofs.lemmas.List.Sorted.{ranks_by}
+use Rattle.std.specs.Cmp.Lexicographic.{slice_cmp}
+use Rattle.std.specs.Ordering.{is_lt}
+use Rattle.plan_order.proofs.ordering.in_order.Goals as goal
+use Rattle.plan_order.specs.Singles.{key_in}
+
+pub returns-clause-order : goal.returns-clause-order
+returns-clause-order c =
+    c.in_ok-sort_by.ensures.sorted (λ x y. is_lt (slice_cmp nat_cmp (key_in x) (key_in y))) (ranks_by nat_list_cmp_total key_in)
+    (always_returns_same _ _ _ (λ a r k called. (let e : r ≡ slice_cmp nat_cmp (key_in a.0.now) (key_in a.1.0.now) = search rules in ap is_lt e, search rules)))
