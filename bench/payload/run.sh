@@ -4,8 +4,10 @@
 # that meet in one id with equal values, and one long text. It tells of each number of facts whether it
 # is the one that is due. A program reads a text, or gathers its facts, as often as its words say, each
 # time from the beginning, and takes the time of each by the clock. Told is the least of eight times in
-# each of three runs, over all sizes, and the first time of a run, which has its memory from the system,
-# as the least of the three. `facts / reading` is the time for the facts, of a text that was read, as a
+# each of three runs, over all sizes, and of 25 where none takes 50 milliseconds; and the first time of a
+# run, which has its memory from the system, as the least of the runs. It tells how many times as long each
+# size takes as the one before, and the last as the first. `facts / reading` is the time for the facts, of
+# a text that was read, as a
 # ratio to that for the reading; what either has made is let go within its time. Most memory is that of
 # a run that does it once. The program is made in a folder of its own outside the repository, where the
 # crates that it stands on are proved first. Instead, a program may be named that was made so: run.sh
@@ -274,7 +276,8 @@ cat > measure.py <<'END'
 import os, subprocess, sys
 from payloads import PAYLOADS
 
-RUNS, ROUNDS, MODES = 3, 8, ("read", "facts")
+# Times below 50 milliseconds wander most with what else the machine does
+RUNS, MOST_RUNS, SHORT, ROUNDS, MODES = 3, 25, 50, 8, ("read", "facts")
 
 def run(plan, count, mode, rounds):
     """What a run found, its first and its least time in milliseconds, and its most memory in MiB."""
@@ -289,13 +292,15 @@ def run(plan, count, mode, rounds):
     return said[0], int(said[1]) / 1e6, int(said[2]) / 1e6, usage.ru_maxrss / 1024
 
 program, payloads, wrong = sys.argv[1], sys.argv[2], False
-print("payload                   count    MB  reading ms  facts ms  facts / reading  times the half  first: reading, facts, ratio, times the half  peak MiB  of reading  answer")
+print("payload                   count    MB  reading ms  facts ms  facts / reading  times the half  first  first: reading, facts, ratio, times the half, first  peak MiB  of reading  answer")
 for row, (name, plan, _, counts) in enumerate(PAYLOADS):
     due, other, least, first, most = {}, {}, {}, {}, {}
     for count in counts:
         # By a process of its own: a child's most memory begins at that of its parent
         due[count] = subprocess.check_output([sys.executable, payloads, str(row), str(count), f"{count}.json"], text=True).strip()
-    for _ in range(RUNS):
+    for done in range(MOST_RUNS):
+        if done >= RUNS and max(least.values()) > SHORT:
+            break
         for count in counts:
             for mode in MODES:
                 at = count, mode
@@ -306,16 +311,18 @@ for row, (name, plan, _, counts) in enumerate(PAYLOADS):
     for count in counts:
         for mode in MODES:
             most[count, mode] = run(plan, count, mode, 1)[3]
-    half = None
+    half = start = None
     for count in counts:
         now = [(of[count, "read"], of[count, "facts"]) for of in (least, first)]
         grown = [f"{new[1] / old[1]:.2f}" for new, old in zip(now, half)] if half else ["", ""]
+        start = start or now
+        whole = [f"{new[1] / old[1]:.2f}" for new, old in zip(now, start)] if count == counts[-1] else ["", ""]
         size = os.path.getsize(f"{count}.json") / 1e6
         wrong = wrong or count in other
         answer = other.get(count, "as due")
         (read, took), (read_first, took_first) = now
-        cells = f"{read_first:8.1f} {took_first:8.1f} {took_first / read_first:6.2f} {grown[1]:>6}"
-        print(f"{name:22} {count:8} {size:5.1f} {read:11.1f} {took:9.1f}  {took / read:15.2f}  {grown[0]:>14}  {cells:>45}  {most[count, 'facts']:8.0f}  {most[count, 'read']:10.0f}  {answer}", flush=True)
+        cells = f"{read_first:8.1f} {took_first:8.1f} {took_first / read_first:6.2f} {grown[1]:>6} {whole[1]:>6}"
+        print(f"{name:22} {count:8} {size:5.1f} {read:11.1f} {took:9.1f}  {took / read:15.2f}  {grown[0]:>14} {whole[0]:>6}  {cells:>52}  {most[count, 'facts']:8.0f}  {most[count, 'read']:10.0f}  {answer}", flush=True)
         half = now
         os.remove(f"{count}.json")
 sys.exit(wrong)
