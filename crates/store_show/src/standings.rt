@@ -1,0 +1,54 @@
+//! Where a walk that writes stood.
+ghost use Rattle.std.specs.Prelude.{◌≡◌, false, [], OnOk};
+ghost use Rattle.store_model.specs.Walks.{missing_trace, trace_at};
+ghost use Rattle.store_read.specs.Meeting.{met_onto};
+
+use gql_plain::NoMemory;
+use std::alloc::Global;
+use std::marker::Model;
+
+/// Whether something was missing, and the ids that a walk stood at, each as often as it stood there.
+#[derive(Drop)]
+pub(crate) struct Standings<'p> {
+    pub(crate) missing: bool,
+    pub(crate) seen: Vec<&'p str>,
+}
+
+impl<'p> Model for Standings<'p> {
+    ghost use Rattle.store_read.specs.Meeting.{Meeting, coded_meeting};
+
+    ghost Value = { Meeting };
+
+    ghost coded = { coded_meeting };
+
+    ghost use Rattle.std.specs.Prelude.{map};
+
+    ghost view = { λ s. record { missing = s.missing; seen = map (λ id. id.now) s.seen.items } };
+}
+
+impl<'p> Standings<'p> {
+    /// Nothing met; takes no memory.
+    pub(crate) fn new(alloc: Global) -> Standings<'p>
+        ensures { result ≡ record { missing = false; seen = [] } }
+    {
+        Standings {
+            missing: false,
+            seen: Vec::new(alloc),
+        }
+    }
+
+    /// Notes that the walk stands at an id.
+    pub(crate) fn stand(&mut self, id: &'p str) -> Result<(), NoMemory>
+        ensures { OnOk result (self.new ≡ met_onto self.old (trace_at id.now)) }
+    {
+        self.seen.push(id)?;
+        Ok(())
+    }
+
+    /// Notes that something is missing; takes no memory.
+    pub(crate) fn lose(&mut self)
+        ensures { self.new ≡ met_onto self.old missing_trace }
+    {
+        self.missing = true;
+    }
+}
