@@ -31,6 +31,19 @@ pub(crate) fn by_key(fields: Vec<SharedField>) -> Result<Ordered, NoMemory>
     if do_rise(&fields) {
         return Ok(Ordered::Whole(Fields::from_entries(fields)));
     }
+    let moved = by_heads(fields, |field| field.key())?;
+    settled(moved)
+}
+
+/// The fields in order of their keys, each once. Where the order of heads is theirs, as it mostly is, they
+/// are left as they stand.
+fn settled(fields: Vec<SharedField>) -> Result<Ordered, NoMemory>
+    ensures same { IfOk result (λ ordered. HoldSame (entries_of ordered) fields.items) }
+    ensures order { IfOk result IsOrdered }
+{
+    if do_rise(&fields) {
+        return Ok(Ordered::Whole(Fields::from_entries(fields)));
+    }
     let mut sorted = in_order(fields)?;
     sorted.dedup_by(|next, kept| is_same(next, kept));
     if do_rise(&sorted) {
@@ -39,13 +52,11 @@ pub(crate) fn by_key(fields: Vec<SharedField>) -> Result<Ordered, NoMemory>
     Ok(Ordered::Torn(sorted))
 }
 
-/// The fields in order of their keys. The last sort puts right what the order of heads leaves, which is
-/// mostly nothing.
-fn in_order(fields: Vec<SharedField>) -> Result<Vec<SharedField>, NoMemory>
+/// The fields in order of their keys.
+fn in_order(mut fields: Vec<SharedField>) -> Result<Vec<SharedField>, NoMemory>
     ensures same { IfOk result (λ moved. IsPermutation fields.items moved.items) }
     ensures order { IfOk result (λ moved. IsSorted (λ a b. text_cmp a.0 b.0) moved.items) }
 {
-    let mut fields = by_heads(fields, |field| field.key())?;
     fields.sort_by(|one, other| one.key().cmp(other.key()))?;
     Ok(fields)
 }
