@@ -2,6 +2,7 @@
 use gql_ast::Arguments;
 use gql_plain::{Counts, Id, Ids, NoMemory, Pairs, Plain, Words};
 use plan_ir::{ReaderPlan, ReaderStep, ReaderSteps};
+use plan_order::KeptReader;
 use schema_values::Env;
 use std::alloc::Global;
 use std::rc::Rc;
@@ -55,7 +56,7 @@ fn shown(alloc: Global, plan: ReaderPlan, of: &str, id: &str) -> Result<Watched,
     Ok(Watched {
         handle: Words::new(alloc, "h")?,
         fragment: None,
-        plan: Rc::new(alloc, plan)?,
+        plan: Rc::new(alloc, KeptReader::new(alloc, plan)?)?,
         types: types(alloc, of)?,
         env: Rc::new(alloc, env)?,
         id: Id::new(alloc, id)?,

@@ -2,10 +2,12 @@
 //! written while it is met, without a tree.
 #![tactic(auto)]
 
+pub mod kept;
 mod keys;
 pub mod laws;
 pub mod ordering;
 mod single;
 
+pub use kept::KeptReader;
 pub use laws::ordered_walks_read_alike;
 pub use ordering::ordered;

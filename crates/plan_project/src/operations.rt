@@ -14,7 +14,8 @@ use gql_ast::{Fragment, Kind, VariableDefs};
 use gql_plain::{Ids, Name, NoMemory};
 use plan_build::normal::one_type;
 use plan_build::normal_plan;
-use plan_ir::{Expanded, Form, NormalPlan, ReaderPlan};
+use plan_ir::{Expanded, Form, NormalPlan};
+use plan_order::KeptReader;
 use relay_dirs::locals;
 use schema_types::Schema;
 use std::alloc::Global;
@@ -34,7 +35,7 @@ pub struct Compiled {
     pub variables: VariableDefs,
     pub normal: Rc<NormalPlan>,
     /// The plan by which it is read.
-    pub reader: Rc<ReaderPlan>,
+    pub reader: Rc<KeptReader>,
 }
 
 /// What is kept of a fragment, with the plan by which it is read. The plan may have other owners.
@@ -48,7 +49,7 @@ pub struct CompiledFragment {
     /// The object types that a value of its type may have.
     pub types: Ids,
     /// The plan by which it is read.
-    pub reader: Rc<ReaderPlan>,
+    pub reader: Rc<KeptReader>,
 }
 
 /// The operation of a name with its plans.

@@ -8,7 +8,8 @@ use doc_sites::definitions_at;
 use gql_ast::Documents;
 use gql_plain::{Name, NoMemory};
 use plan_expand::Expander;
-use plan_ir::{Form, ReaderPlan};
+use plan_ir::Form;
+use plan_order::KeptReader;
 use plan_read::Readers;
 use schema_types::Schema;
 use std::alloc::Global;
@@ -47,13 +48,14 @@ impl<'a> Planner<'a> {
         alloc: Global,
         name: &Name,
         form: Form,
-    ) -> Result<Rc<ReaderPlan>, NoMemory>
+    ) -> Result<Rc<KeptReader>, NoMemory>
         requires ready { CanPlan self.now }
         requires there { is_some (reader_in self.now.expander.schema.now self.now.expander.documents.now form name.now) ≡ true }
         ensures { IfOk result (λ reader. Some reader.value.steps ≡ reader_in self.now.expander.schema.now self.now.expander.documents.now form name.now) }
     {
         let plan = self.readers.plan(alloc, name, form)?;
-        let reader = Rc::new(alloc, plan)?;
+        let kept = KeptReader::new(alloc, plan)?;
+        let reader = Rc::new(alloc, kept)?;
         Ok(reader)
     }
 }

@@ -91,7 +91,7 @@ pub(crate) fn refuse_fault(alloc: Global, fault: LineFault, n: u64) -> Result<Li
 }
 
 /// An answer of one text.
-fn one_line(alloc: Global, text: Words, refused: bool) -> Result<Lines, NoMemory>
+pub(crate) fn one_line(alloc: Global, text: Words, refused: bool) -> Result<Lines, NoMemory>
     ensures { IfOk result (AreLines (text ++ 10 ∷ []) refused) }
 {
     let mut texts = Vec::new(alloc);

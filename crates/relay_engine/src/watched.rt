@@ -1,10 +1,11 @@
 //! What reads and watches show.
-ghost use Rattle.std.specs.Prelude.{◌≡◌, ◌+◌, ◌≤◌, List, ℕ, true, is_some, None, Some, IfOk};
+ghost use Rattle.std.specs.Prelude.{◌≡◌, ◌+◌, ◌≤◌, ◌++◌, ◌∷◌, [], List, ℕ, true, is_some, None, Some, IfOk};
 ghost use Rattle.plan_project.specs.Lookups.{fragment_in, operation_in, KeepsFragment, ReadsFragment};
 ghost use Rattle.relay_engine.specs.Handles.{held_as};
 ghost use Rattle.relay_engine.specs.Parts.{IsProject};
 ghost use Rattle.relay_engine.specs.Stands.{KeepsHandle, ShowsPart};
 ghost use Rattle.relay_machine.specs.Machine as machine;
+ghost use Rattle.relay_machine.specs.Printed as printed;
 ghost use Rattle.schema_types.specs.Environments.{Values, environment};
 ghost use Rattle.schema_types.specs.Sites.{FragmentAt};
 ghost use Rattle.store_model.specs.Records.{Records};
@@ -17,6 +18,7 @@ use crate::environments::with_locals;
 use crate::said::operation_held;
 use gql_plain::{Id, NoMemory, Words};
 use plan_project::{CompiledFragment, Project};
+use relay_lines::{line_of_read, read_line};
 use schema_values::Env;
 use std::alloc::Global;
 use std::rc::Rc;
@@ -92,7 +94,7 @@ pub(crate) fn look<S: RecordSource>(
     ensures looks { S.Count.looks steps.new ≤ S.Count.looks steps.old + standings (read_of (slots (S.records source.now)) (look_of what.now)) }
     ensures applies { S.Count.applies steps.new ≡ S.Count.applies steps.old }
 {
-    let plan = what.plan.as_ref();
+    let plan = what.plan.plan();
     read(
         alloc,
         source,
@@ -103,4 +105,36 @@ pub(crate) fn look<S: RecordSource>(
         &what.handle,
         steps,
     )
+}
+
+/// The line that answers a read of these records. Where the plan can be put in order, its data is written
+/// as it is read.
+pub(crate) fn read_line_of<S: RecordSource>(
+    alloc: Global,
+    source: &S,
+    what: &Watched,
+    n: u64,
+    steps: &mut S::Count,
+) -> Result<Words, NoMemory>
+    ensures line { IfOk result (λ words. words ++ 10 ∷ [] ≡ printed.read_line n (shows (slots (S.records source.now)) (look_of what.now))) }
+    ensures looks { S.Count.looks steps.new ≤ S.Count.looks steps.old + standings (read_of (slots (S.records source.now)) (look_of what.now)) }
+    ensures applies { S.Count.applies steps.new ≡ S.Count.applies steps.old }
+{
+    match what.plan.ordered() {
+        Some(plan) => line_of_read(
+            alloc,
+            source,
+            plan,
+            &what.types,
+            &what.env,
+            &what.id,
+            &what.handle,
+            n,
+            steps,
+        ),
+        None => {
+            let snapshot = look(alloc, source, what, steps)?;
+            read_line(alloc, &snapshot, n)
+        }
+    }
 }

@@ -11,11 +11,11 @@ ghost use Rattle.store_model.specs.Events as events;
 ghost use Rattle.store_watch.specs.Rows.{look_of};
 ghost use Rattle.store_watch.specs.Watching as watch_list;
 
-use crate::answers::{accept, refuse, show, show_watch};
+use crate::answers::{accept, one_line, refuse, show_watch};
 use crate::engine::Engine;
 use crate::lines::Lines;
 use crate::targets::Targeted;
-use crate::watched::look;
+use crate::watched::{look, read_line_of};
 use gql_plain::{NoMemory, Words};
 use relay_lines::Refusal;
 use store_model::Target;
@@ -40,8 +40,8 @@ impl<S: RecordSource> Engine<S> {
     {
         match self.target(target, false, n)? {
             Targeted::Shown(what) => {
-                let snapshot = look(self.alloc, self.layers.view(), &what, steps)?;
-                show(self.alloc, &snapshot, n)
+                let text = read_line_of(self.alloc, self.layers.view(), &what, n, steps)?;
+                one_line(self.alloc, text, false)
             }
             Targeted::Refused(lines) => Ok(lines),
         }

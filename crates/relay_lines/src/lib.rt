@@ -11,7 +11,8 @@ mod summary;
 mod values;
 
 pub use lines::{
-    collect_line, event_line, fault_line, notice_line, read_line, refusal_line, watch_line,
+    collect_line, event_line, fault_line, line_of_read, notice_line, read_line, refusal_line,
+    watch_line,
 };
 pub use refusal::{Limited, Refusal};
 pub use summary::summary_line;

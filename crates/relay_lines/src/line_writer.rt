@@ -1,20 +1,28 @@
 //! The text of one line, written a member at a time.
-ghost use Rattle.std.specs.Prelude.{◌≡◌, ◌∷◌, ◌++◌, [], map, IfOk, OnOk};
+ghost use Rattle.std.specs.Prelude.{◌≡◌, ◌≤◌, ◌+◌, ◌∷◌, ◌++◌, [], map, IfOk, OnOk};
 ghost use Rattle.gql_plain.specs.Shown.{tree_of};
 ghost use Rattle.gql_plain.specs.Tree.{truth, text, list, trees_of};
 ghost use Rattle.json.specs.Print.{print};
 ghost use Rattle.json.specs.Token.{begin_object, end_object};
+ghost use Rattle.plan_ir.specs.ReaderMeaning.{plan_reads};
+ghost use Rattle.plan_order.specs.Ordered.{IsOrdered};
 ghost use Rattle.relay_lines.specs.Members.{member_tokens};
 ghost use Rattle.relay_machine.specs.Printed.{number};
 ghost use Rattle.relay_machine.specs.Refusals.{shown_field, shown_step};
+ghost use Rattle.store_model.specs.Walks.{reading, standings, type_of_record};
+ghost use Rattle.store_read.specs.Reading.{slots};
 
-use crate::values::{write_field, write_path, write_texts};
-use gql_plain::{Ids, NoMemory, Plain, Words, write_plain};
+use crate::values::{write_borrowed, write_field, write_path, write_texts};
+use gql_plain::{Id, Ids, NoMemory, Plain, Words, write_plain};
 use json::Writer;
+use plan_ir::ReaderPlan;
+use schema_values::Env;
 use std::alloc::Global;
 use std::marker::Model;
 use store_model::PathSteps;
 use store_record::Field;
+use store_show::{Seen, show};
+use store_source::RecordSource;
 
 /// The bytes that a line has room for at first: most lines need no more.
 const FIRST_ROOM: usize = 128;
@@ -90,6 +98,49 @@ impl LineWriter {
     {
         self.out.key(key)?;
         write_texts(&mut self.out, texts.as_slice())
+    }
+
+    /// Puts a list of borrowed texts.
+    pub(crate) fn put_borrowed(&mut self, key: &str, texts: &[&str]) -> Result<(), NoMemory>
+        ensures { OnOk result
+            (self.new ≡ self.old ++ member_tokens key.now (list (trees_of (map (λ t. text t.now) texts.now)))) }
+    {
+        self.out.key(key)?;
+        write_borrowed(&mut self.out, texts)
+    }
+
+    /// Puts what a plan that is in order shows of the record at an id, as it is read.
+    pub(crate) fn put_read<'p, S: RecordSource>(
+        &mut self,
+        alloc: Global,
+        key: &str,
+        source: &'p S,
+        plan: &'p ReaderPlan,
+        types: &Ids,
+        env: &'p Env,
+        id: &'p Id,
+        owner: &'p Words,
+        steps: &mut S::Count,
+    ) -> Result<Seen<'p>, NoMemory>
+        requires { IsOrdered plan.now.steps }
+        ensures shown { IfOk result (λ _. self.new ≡ self.old ++ member_tokens key.now (reading (plan_reads (type_of_record env.now.root) owner.now (slots (S.records source.now)) env.now.values plan.now.steps types.now id.now)).value) }
+        ensures missing { IfOk result (λ met. met.missing ≡ (reading (plan_reads (type_of_record env.now.root) owner.now (slots (S.records source.now)) env.now.values plan.now.steps types.now id.now)).missing) }
+        ensures seen { IfOk result (λ met. map (λ id. id.now) met.ids.items ≡ (reading (plan_reads (type_of_record env.now.root) owner.now (slots (S.records source.now)) env.now.values plan.now.steps types.now id.now)).seen) }
+        ensures looks { S.Count.looks steps.new ≤ S.Count.looks steps.old + standings (plan_reads (type_of_record env.now.root) owner.now (slots (S.records source.now)) env.now.values plan.now.steps types.now id.now) }
+        ensures applies { S.Count.applies steps.new ≡ S.Count.applies steps.old }
+    {
+        self.out.key(key)?;
+        show(
+            alloc,
+            source,
+            plan,
+            types,
+            env,
+            id,
+            owner,
+            &mut self.out,
+            steps,
+        )
     }
 
     /// Puts the steps of a path.

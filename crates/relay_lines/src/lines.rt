@@ -1,17 +1,23 @@
 //! The printed lines.
-ghost use Rattle.std.specs.Prelude.{◌≡◌, ◌++◌, ◌∷◌, [], IfOk};
+ghost use Rattle.std.specs.Prelude.{◌≡◌, ◌≤◌, ◌+◌, ◌++◌, ◌∷◌, [], IfOk};
 ghost use Rattle.gql_plain.specs.Tree.{text};
+ghost use Rattle.plan_ir.specs.ReaderMeaning.{plan_reads};
+ghost use Rattle.plan_order.specs.Ordered.{IsOrdered};
 ghost use Rattle.relay_lines.specs.Members.{ordered_line, shown_members};
 ghost use Rattle.relay_lines.specs.RefusalShown.{refusal_shown};
 ghost use Rattle.relay_machine.specs.Printed as model;
-ghost use Rattle.store_read.specs.Reading.{reading_of};
+ghost use Rattle.store_model.specs.Walks.{reading, standings, type_of_record};
+ghost use Rattle.store_read.specs.Reading.{reading_of, slots};
 
 use crate::line_writer::LineWriter;
 use crate::refusal::Refusal;
 use crate::refused::{bare_line, limit_line, named_line, payload_line, variable_line};
-use gql_plain::{NoMemory, Words};
+use gql_plain::{Id, Ids, NoMemory, Words};
+use plan_ir::ReaderPlan;
+use schema_values::Env;
 use std::alloc::Global;
 use store_read::Snapshot;
+use store_source::RecordSource;
 
 /// The answer of an event that shows nothing: the event's name, and the number of the line.
 pub fn event_line(alloc: Global, name: &str, n: u64) -> Result<Words, NoMemory>
@@ -29,6 +35,33 @@ pub fn read_line(alloc: Global, snapshot: &Snapshot, n: u64) -> Result<Words, No
     ensures { IfOk result (λ words. words ++ 10 ∷ [] ≡ model.read_line n (reading_of snapshot.now)) }
 {
     shown_line(alloc, "ok", "read", snapshot, n)
+}
+
+/// The answer of a read by a plan that is in order, whose data is written as it is read; `owner` is the
+/// name that its pointers tell of their owner.
+pub fn line_of_read<S: RecordSource>(
+    alloc: Global,
+    source: &S,
+    plan: &ReaderPlan,
+    types: &Ids,
+    env: &Env,
+    id: &Id,
+    owner: &Words,
+    n: u64,
+    steps: &mut S::Count,
+) -> Result<Words, NoMemory>
+    requires { IsOrdered plan.now.steps }
+    ensures line { IfOk result (λ words. words ++ 10 ∷ [] ≡ model.read_line n (reading (plan_reads (type_of_record env.now.root) owner.now (slots (S.records source.now)) env.now.values plan.now.steps types.now id.now))) }
+    ensures looks { S.Count.looks steps.new ≤ S.Count.looks steps.old + standings (plan_reads (type_of_record env.now.root) owner.now (slots (S.records source.now)) env.now.values plan.now.steps types.now id.now) }
+    ensures applies { S.Count.applies steps.new ≡ S.Count.applies steps.old }
+{
+    let mut line = LineWriter::new(alloc)?;
+    let met = line.put_read(alloc, "data", source, plan, types, env, id, owner, steps)?;
+    line.put_truth("missing", met.missing)?;
+    line.put_number("n", n)?;
+    line.put_text("ok", "read")?;
+    line.put_borrowed("seen", &met.ids)?;
+    line.finish()
 }
 
 /// The answer of a watch that starts: what it shows at first, as the answer of a read has it.

@@ -24,6 +24,20 @@ pub(crate) fn write_texts(out: &mut Writer, texts: &[Words]) -> Result<(), NoMem
     Ok(())
 }
 
+/// Writes a list of borrowed texts.
+pub(crate) fn write_borrowed(out: &mut Writer, texts: &[&str]) -> Result<(), NoMemory>
+    ensures tokens { OnOk result
+        (out.new.tokens ≡ out.old.tokens ++ tree_tokens (list (trees_of (map (λ t. text t.now) texts.now)))) }
+    ensures before { out.new.before ≡ out.old.before }
+{
+    out.begin_array()?;
+    'texts: for text in texts {
+        out.string(text)?;
+    }
+    out.end_array()?;
+    Ok(())
+}
+
 /// Writes the steps of a path: a key as a text, a place in a list as a number.
 pub(crate) fn write_path(out: &mut Writer, path: &[PathStep]) -> Result<(), NoMemory>
     ensures tokens { OnOk result

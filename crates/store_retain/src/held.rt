@@ -1,6 +1,7 @@
 //! What is held under a handle.
 use gql_plain::Name;
-use plan_ir::{NormalPlan, ReaderPlan};
+use plan_ir::NormalPlan;
+use plan_order::KeptReader;
 use schema_values::Env;
 use std::rc::Rc;
 
@@ -10,6 +11,6 @@ pub struct Held {
     /// The name of the operation.
     pub name: Name,
     pub normal: Rc<NormalPlan>,
-    pub reader: Rc<ReaderPlan>,
+    pub reader: Rc<KeptReader>,
     pub env: Rc<Env>,
 }

@@ -71,7 +71,7 @@ fn read_row<S: RecordSource>(
     let snapshot = read(
         alloc,
         view,
-        &what.plan,
+        what.plan.plan(),
         &what.types,
         &what.env,
         &what.id,

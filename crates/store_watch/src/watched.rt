@@ -1,6 +1,6 @@
 //! What watches show.
 use gql_plain::{Id, Ids, Name, Words};
-use plan_ir::ReaderPlan;
+use plan_order::KeptReader;
 use schema_values::Env;
 use std::rc::Rc;
 
@@ -12,7 +12,7 @@ pub struct Watched {
     pub handle: Words,
     /// The name of the fragment; None where the plan is that of the operation.
     pub fragment: Option<Name>,
-    pub plan: Rc<ReaderPlan>,
+    pub plan: Rc<KeptReader>,
     /// The object types of which the record may be.
     pub types: Ids,
     pub env: Rc<Env>,

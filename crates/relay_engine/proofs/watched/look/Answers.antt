@@ -13,7 +13,7 @@ returns-clause-read g c =
     let m = slots (g.S.RecordSource.records c.args.source.now) in
     subst (λ (env : Env). IfOk c.read.result (λ s. reading_of s ≡ reading (plan_reads (type_of_record env.root) what.handle m env.values what.plan.value.steps what.types what.id))) c.deref.ensures
     (subst (λ (plan : ReaderPlan). IfOk c.read.result (λ s. reading_of s ≡ reading (plan_reads (type_of_record c.deref.result.now.root) what.handle m c.deref.result.now.values plan.steps what.types what.id)))
-    c.as_ref-plan.ensures c.read.ensures.read)
+    (c.plan-plan.ensures ∙ c.deref-plan.ensures) c.read.ensures.read)
 
 pub returns-clause-looks : goal.returns-clause-looks
 returns-clause-looks g c =
@@ -23,4 +23,4 @@ returns-clause-looks g c =
     let after = g.S.Count.Steps.looks c.read.new.steps in
     subst (λ (env : Env). after ≤ before + standings (plan_reads (type_of_record env.root) what.handle m env.values what.plan.value.steps what.types what.id)) c.deref.ensures
     (subst (λ (plan : ReaderPlan). after ≤ before + standings (plan_reads (type_of_record c.deref.result.now.root) what.handle m c.deref.result.now.values plan.steps what.types what.id))
-    c.as_ref-plan.ensures c.read.ensures.looks)
+    (c.plan-plan.ensures ∙ c.deref-plan.ensures) c.read.ensures.looks)

@@ -25,5 +25,5 @@ plan-requires-clause-composite c =
 pub returns : goal.returns
 returns c =
     let k = c.requires.ready in
-    ap (λ (p : ReaderPlan). Some p.steps) c.in_ok-reader.ensures.ok ∙ c.in_ok-plan.ensures
+    ap (λ (p : ReaderPlan). Some p.steps) (c.in_ok-reader.ensures.ok ∙ c.in_ok-kept.ensures) ∙ c.in_ok-plan.ensures
     ∙ (λ i. reader_in (k.same_schema i) (k.same_documents i) c.args.form c.args.name.now)
