@@ -95,7 +95,7 @@ fn first(
     read(
         alloc,
         map,
-        &what.plan,
+        what.plan.plan(),
         &what.types,
         &what.env,
         &what.id,

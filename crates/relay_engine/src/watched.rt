@@ -1,5 +1,7 @@
 //! What reads and watches show.
 ghost use Rattle.std.specs.Prelude.{◌≡◌, ◌+◌, ◌≤◌, ◌++◌, ◌∷◌, [], List, ℕ, true, is_some, None, Some, IfOk};
+ghost use Rattle.plan_order.specs.Alike.{ReadAlike};
+ghost use Rattle.plan_order.specs.Ordered.{IsOrdered};
 ghost use Rattle.plan_project.specs.Lookups.{fragment_in, operation_in, KeepsFragment, ReadsFragment};
 ghost use Rattle.relay_engine.specs.Handles.{held_as};
 ghost use Rattle.relay_engine.specs.Parts.{IsProject};
@@ -17,6 +19,7 @@ ghost use Rattle.store_watch.specs.Watching.{read_of, shows};
 use crate::environments::with_locals;
 use crate::said::operation_held;
 use gql_plain::{Id, NoMemory, Words};
+use plan_ir::ReaderPlan;
 use plan_project::{CompiledFragment, Project};
 use relay_lines::{line_of_read, read_line};
 use schema_values::Env;
@@ -121,20 +124,38 @@ pub(crate) fn read_line_of<S: RecordSource>(
     ensures applies { S.Count.applies steps.new ≡ S.Count.applies steps.old }
 {
     match what.plan.ordered() {
-        Some(plan) => line_of_read(
-            alloc,
-            source,
-            plan,
-            &what.types,
-            &what.env,
-            &what.id,
-            &what.handle,
-            n,
-            steps,
-        ),
+        Some(plan) => ordered_line_of(alloc, source, what, plan, n, steps),
         None => {
             let snapshot = look(alloc, source, what, steps)?;
             read_line(alloc, &snapshot, n)
         }
     }
+}
+
+/// The same by this plan, which is in order and reads alike.
+fn ordered_line_of<S: RecordSource>(
+    alloc: Global,
+    source: &S,
+    what: &Watched,
+    plan: &ReaderPlan,
+    n: u64,
+    steps: &mut S::Count,
+) -> Result<Words, NoMemory>
+    requires order { IsOrdered plan.now.steps }
+    requires alike { ReadAlike what.now.plan.value.steps plan.now.steps }
+    ensures line { IfOk result (λ words. words ++ 10 ∷ [] ≡ printed.read_line n (shows (slots (S.records source.now)) (look_of what.now))) }
+    ensures looks { S.Count.looks steps.new ≤ S.Count.looks steps.old + standings (read_of (slots (S.records source.now)) (look_of what.now)) }
+    ensures applies { S.Count.applies steps.new ≡ S.Count.applies steps.old }
+{
+    line_of_read(
+        alloc,
+        source,
+        plan,
+        &what.types,
+        &what.env,
+        &what.id,
+        &what.handle,
+        n,
+        steps,
+    )
 }

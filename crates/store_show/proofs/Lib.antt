@@ -1,3 +1,4 @@
+pub mod AlikeReadings
 pub mod PointerSteps
 pub mod ShowDepths
 pub mod ShowItems
