@@ -1,8 +1,9 @@
 //! Plans that read, each beside the same plan in order.
-ghost use Rattle.std.specs.Prelude.{◌≡◌, Some, IfOk};
+ghost use Rattle.std.specs.Prelude.{◌≡◌, Some, IfOk, is_some};
 ghost use Rattle.std.specs.Option.{option_copied};
 ghost use Rattle.plan_ir.specs.declared.reader.ReaderPlan.{ReaderPlan as Plan};
 ghost use Rattle.plan_order.specs.Alike.{ReadAlike};
+ghost use Rattle.plan_order.specs.HasOrder.{is_orderable};
 ghost use Rattle.plan_order.specs.Ordered.{IsOrdered};
 
 use crate::ordering::ordered;
@@ -28,9 +29,9 @@ impl Model for KeptReader {
 
     ghost view = { λ k. k.plan };
 
-    ghost use Rattle.plan_order.specs.Kept.{IsInOrderOf};
+    ghost use Rattle.plan_order.specs.Kept.{IsOrderOf};
 
-    ghost invariant = { λ k. IsInOrderOf k.plan.steps k.ordered };
+    ghost invariant = { λ k. IsOrderOf k.plan.steps k.ordered };
 }
 
 impl KeptReader {
@@ -52,7 +53,8 @@ impl KeptReader {
     /// The plan in order, by which every record reads alike; None where it cannot be put in order. Takes
     /// no memory.
     pub fn ordered(&self) -> Option<&ReaderPlan>
-        ensures { (s : Plan) → option_copied result ≡ Some s → IsOrdered s.steps × ReadAlike self.now.steps s.steps }
+        ensures order { (s : Plan) → option_copied result ≡ Some s → IsOrdered s.steps × ReadAlike self.now.steps s.steps }
+        ensures found { is_some result ≡ is_orderable self.now.steps }
     {
         self.ordered.as_ref()
     }
