@@ -1,4 +1,5 @@
 pub mod PutSteps
 pub mod WalkSteps
+pub mod TextSteps
 pub mod GroupSteps
 pub mod ValueSteps

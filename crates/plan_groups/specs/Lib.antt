@@ -1,5 +1,6 @@
 pub mod FieldView
 pub mod GroupView
 pub mod Putting
+pub mod Placed
 pub mod Codes
 pub mod Made

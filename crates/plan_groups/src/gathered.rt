@@ -1,14 +1,15 @@
 //! The fields of steps by their response keys.
-ghost use Rattle.std.specs.Prelude.{◌≡◌, ◌<◌, [], ◌∷◌, map, length, set, slice_index, OnOk, IfOk};
+ghost use Rattle.std.specs.Prelude.{◌≡◌, ◌<◌, [], ◌∷◌, map, length, OnOk, IfOk};
 ghost use Rattle.plan_ir.specs.NormalMeaning.{collect_steps, collect_plan};
 ghost use Rattle.plan_ir.specs.NormalKeys.{keys_of};
 ghost use Rattle.plan_ir.specs.NormalView.{step_of};
-ghost use Rattle.store_model.specs.Items.{asked_of, collect_all, grouped_onto, groups_at, with_asked};
+ghost use Rattle.store_model.specs.Items.{asked_of, grouped_onto, groups_at, with_asked};
 ghost use Rattle.plan_groups.specs.FieldView.{asked_at, plan_at, IsKept};
-ghost use Rattle.plan_groups.specs.GroupView.{group_of, groups_in, AreKept, IsPlaced};
+ghost use Rattle.plan_groups.specs.Placed.{groups_in, IsPlaced};
 ghost use Rattle.plan_groups.specs.Putting.{put_at};
 
 use crate::field::{Call, FieldAt, PlanAt, connection_in, form_of_objects};
+use crate::group::GroupAt;
 use crate::guards::guard_passes;
 use crate::room::total;
 use gql_plain::{NoMemory, SharedText};
@@ -17,17 +18,10 @@ use schema_values::Env;
 use std::alloc::Global;
 use std::collections::HashMap;
 
-/// The fields of one response key.
-#[derive(Drop)]
-pub(crate) struct Fields<'p> {
-    pub(crate) first: FieldAt<'p>,
-    pub(crate) others: Vec<FieldAt<'p>>,
-}
-
 /// Fields by their response keys, in order of first response key.
 #[derive(Drop)]
 pub(crate) struct Gathered<'p> {
-    pub(crate) groups: Vec<Fields<'p>>,
+    pub(crate) groups: Vec<GroupAt<'p>>,
     /// Where the fields of a response key stand.
     pub(crate) places: HashMap<&'p str, usize>,
 }
@@ -37,9 +31,8 @@ pub(crate) fn gather<'p>(
     alloc: Global,
     object: &str,
     parts: &[PlanAt<'p>],
-) -> Result<Vec<Fields<'p>>, NoMemory>
-    ensures groups { IfOk result (λ groups. map group_of groups.items ≡ groups_at collect_plan object.now (map plan_at parts.now)) }
-    ensures kept { IfOk result (λ groups. AreKept groups.items) }
+) -> Result<Vec<GroupAt<'p>>, NoMemory>
+    ensures { IfOk result (λ groups. groups.items ≡ groups_at collect_plan object.now (map plan_at parts.now)) }
 {
     let mut gathered = Gathered::with_room(alloc, total(parts, |part| part.len()))?;
     'parts: for part in parts {
@@ -161,15 +154,13 @@ impl<'p> Gathered<'p> {
         let key = field.response.as_str();
         match self.places.get(key) {
             Some(place) => {
-                put_behind(&mut self.groups, *place, field)?;
+                put_behind(alloc, &mut self.groups, *place, field)?;
                 Ok(())
             }
             None => {
+                let group = GroupAt::of(alloc, field)?;
                 drop(self.places.insert(key, self.groups.len())?);
-                self.groups.push(Fields {
-                    first: field,
-                    others: Vec::new(alloc),
-                })?;
+                self.groups.push(group)?;
                 Ok(())
             }
         }
@@ -178,15 +169,15 @@ impl<'p> Gathered<'p> {
 
 /// Puts a field behind those of the group at a place.
 fn put_behind<'p>(
-    groups: &mut Vec<Fields<'p>>,
+    alloc: Global,
+    groups: &mut Vec<GroupAt<'p>>,
     place: usize,
     field: FieldAt<'p>,
 ) -> Result<(), NoMemory>
     requires { place < length groups.old.items }
-    ensures put { OnOk result (map group_of groups.new.items ≡ put_at place (map group_of groups.old.items) (asked_at field.entry)) }
-    ensures kept { OnOk result (AreKept groups.old.items → AreKept groups.new.items) }
+    ensures { OnOk result (groups.new.items ≡ put_at place groups.old.items (asked_at field.entry)) }
 {
     let group = &mut groups[place];
-    group.others.push(field)?;
+    group.add(alloc, field)?;
     Ok(())
 }

@@ -1,18 +1,18 @@
 //! Groups of fields: those of one response key.
-ghost use Rattle.std.specs.Prelude.{◌≡◌, [], ◌++◌, codes, map, option_copied, IfOk, OnOk};
-ghost use Rattle.gql_plain.specs.Order.{sorted_texts};
+ghost use Rattle.std.specs.Prelude.{◌≡◌, ◌+◌, ◌≤◌, [], codes, map, option_copied, vec_capacity, vec_len, IfOk, OnErr, OnOk};
+ghost use Rattle.gql_plain.specs.Order.{sorted_texts, with_text, AreInOrder};
 ghost use Rattle.plan_ir.specs.NormalMeaning.{collect_plan};
 ghost use Rattle.store_model.specs.Items.{asks, handle_of, key_of, parts};
 ghost use Rattle.store_model.specs.Reaches.{types_of};
 ghost use Rattle.store_model.specs.Says as says;
 ghost use Rattle.plan_groups.specs.FieldView.{ask_at, asked_at, form_at, plan_at, IsKept};
 ghost use Rattle.plan_groups.specs.GroupView.{group_of};
-ghost use Rattle.plan_groups.specs.Made.{AreKept};
+ghost use Rattle.plan_groups.specs.Made.{with_handle, with_part};
+ghost use Rattle.plan_groups.specs.Putting.{with_other};
 
 use crate::field::{FieldAt, FormAt, PlanAt};
-use crate::gathered::Fields;
 use crate::groups::info_type;
-use gql_plain::{Ids, NoMemory, Pairs, Plain, SharedText, Words};
+use gql_plain::{NoMemory, Pairs, Plain, SharedText, Words};
 use std::alloc::Global;
 use std::marker::Model;
 use std::slice;
@@ -21,11 +21,14 @@ use store_record::handle_key;
 /// The fields of one response key.
 #[derive(Drop)]
 pub struct GroupAt<'p> {
-    fields: Fields<'p>,
+    first: FieldAt<'p>,
+    others: Vec<FieldAt<'p>>,
     /// What stands below the fields, where there are several.
     parts: Vec<PlanAt<'p>>,
+    /// The key that the first field is stored under.
     key: SharedText,
-    handles: Ids,
+    /// The distinct keys of the connections of the fields, in byte order.
+    handles: Vec<Words>,
 }
 
 impl<'p> Model for GroupAt<'p> {
@@ -42,33 +45,49 @@ impl<'p> Model for GroupAt<'p> {
     ghost use Rattle.plan_groups.specs.GroupView.{group_of};
     ghost use Rattle.plan_groups.specs.Made.{IsMade};
 
-    ghost view = { λ g. group_of g.fields };
+    ghost view = { λ g. group_of g.first g.others.items };
 
-    ghost invariant = { λ g. IsMade (group_of g.fields) (map plan_at g.parts.items) g.key g.handles };
+    ghost invariant = { λ g. IsMade (group_of g.first g.others.items) (map plan_at g.parts.items) g.key g.handles.items };
 }
 
 impl<'p> GroupAt<'p> {
-    /// The group of these fields.
-    pub(crate) fn of(alloc: Global, fields: Fields<'p>) -> Result<GroupAt<'p>, NoMemory>
-        requires { IsKept fields.first }
-        ensures { IfOk result (λ group. group ≡ group_of fields.entry) }
+    /// The group of one field.
+    pub(crate) fn of(alloc: Global, field: FieldAt<'p>) -> Result<GroupAt<'p>, NoMemory>
+        requires { IsKept field }
+        ensures { IfOk result (λ group. group ≡ group_of field.entry []) }
     {
-        let key = fields.first.key(alloc)?;
-        let handles = handles_of(alloc, &fields)?;
-        let parts = parts_of(alloc, &fields)?;
+        let key = field.key(alloc)?;
+        let handle = own_handle(alloc, &field)?;
+        let handles = first_handles(alloc, handle)?;
         Ok(GroupAt {
-            fields,
-            parts,
+            first: field,
+            others: Vec::new(alloc),
+            parts: Vec::new(alloc),
             key,
             handles,
         })
+    }
+
+    /// Puts a field behind those of the group. Its arguments are evaluated only where it has a
+    /// connection.
+    pub(crate) fn add(&mut self, alloc: Global, field: FieldAt<'p>) -> Result<(), NoMemory>
+        ensures { OnOk result (self.new ≡ with_other self.old (asked_at field.entry)) }
+    {
+        let first = self.first.part;
+        let handle = own_handle(alloc, &field)?;
+        self.parts.reserve(2)?;
+        self.others.reserve(1)?;
+        put_handle(&mut self.handles, handle)?;
+        put_part(&mut self.parts, first, field.part);
+        self.others.push_reserved(field);
+        Ok(())
     }
 
     /// The response key; takes no memory.
     pub fn response(&self) -> &'p str
         ensures { result.now ≡ self.now.first.ask.response }
     {
-        self.fields.first.response.as_str()
+        self.first.response.as_str()
     }
 
     /// The key that the first field is stored under, made once; takes no memory.
@@ -82,15 +101,15 @@ impl<'p> GroupAt<'p> {
     pub fn form(&self) -> FormAt<'p>
         ensures { form_at result ≡ self.now.first.ask.form }
     {
-        self.fields.first.form
+        self.first.form
     }
 
     /// What stands below each field; takes no memory.
     pub fn parts(&self) -> &[PlanAt<'p>]
         ensures { map plan_at result.now ≡ parts self.now }
     {
-        if self.fields.others.is_empty() {
-            return slice::from_ref(&self.fields.first.part);
+        if self.others.is_empty() {
+            return slice::from_ref(&self.first.part);
         }
         &self.parts
     }
@@ -99,14 +118,14 @@ impl<'p> GroupAt<'p> {
     pub fn handles(&self) -> &[Words]
         ensures { result.now ≡ sorted_texts (says.handles (asks self.now)) }
     {
-        self.handles.as_slice()
+        &self.handles
     }
 
     /// The values of the first field's arguments.
     fn arguments(&self, alloc: Global) -> Result<Pairs, NoMemory>
         ensures { IfOk result (λ arguments. arguments ≡ self.now.first.ask.arguments) }
     {
-        self.fields.first.arguments(alloc)
+        self.first.arguments(alloc)
     }
 
     /// The value of the argument `after` of the first field, null where it is not given (Cursor
@@ -129,7 +148,7 @@ impl<'p> GroupAt<'p> {
     pub fn page_type(&self) -> Option<&'p str>
         ensures { option_copied result ≡ says.first_of (types_of self.now.first.ask.form) }
     {
-        self.fields.first.form.first_type()
+        self.first.form.first_type()
     }
 
     /// The type of the page information where the fields are of a connection, by what they ask of
@@ -141,79 +160,88 @@ impl<'p> GroupAt<'p> {
     }
 }
 
-/// What stands below the fields, where there are several; else nothing, without memory.
-fn parts_of<'p>(alloc: Global, fields: &Fields<'p>) -> Result<Vec<PlanAt<'p>>, NoMemory>
-    ensures { IfOk result (λ below. AreKept (group_of fields.now) (map plan_at below.items)) }
+/// Puts what stands below a field behind what is kept; where nothing is kept, what stands below the
+/// first field comes before it. There is room for both.
+fn put_part<'p>(parts: &mut Vec<PlanAt<'p>>, first: PlanAt<'p>, part: PlanAt<'p>)
+    requires { vec_len parts.old + 2 ≤ vec_capacity parts.old }
+    ensures { map plan_at parts.new.items ≡ with_part (map plan_at parts.old.items) (plan_at first.entry) (plan_at part.entry) }
 {
-    if fields.others.is_empty() {
-        return Ok(Vec::new(alloc));
+    if parts.is_empty() {
+        parts.push_reserved(first);
+        parts.push_reserved(part);
+        return;
     }
-    let mut parts = Vec::with_capacity(alloc, fields.others.len())?;
-    parts.push(fields.first.part)?;
-    put_parts(&mut parts, &fields.others)?;
-    Ok(parts)
+    parts.push_reserved(part);
 }
 
-/// Puts what stands below each of the fields.
-fn put_parts<'p>(parts: &mut Vec<PlanAt<'p>>, fields: &[FieldAt<'p>]) -> Result<(), NoMemory>
-    ensures { OnOk result (map plan_at parts.new.items ≡ map plan_at parts.old.items ++ map (λ f. plan_at f.part) fields.now) }
-{
-    'fields: for field in fields {
-        parts.push(field.part)?;
-    }
-    Ok(())
-}
-
-/// The distinct keys of the connections of the fields, in byte order.
-fn handles_of(alloc: Global, fields: &Fields<'_>) -> Result<Ids, NoMemory>
-    ensures { IfOk result (λ keys. keys ≡ sorted_texts (says.handles (asks (group_of fields.now)))) }
-{
-    let mut keys = Vec::new(alloc);
-    put_own_handle(alloc, &mut keys, &fields.first)?;
-    put_handles(alloc, &mut keys, &fields.others)?;
-    if keys.is_empty() {
-        return Ok(Ids::new(alloc));
-    }
-    Ids::sort(keys)
-}
-
-/// Puts the keys of the connections of fields.
-fn put_handles(alloc: Global, keys: &mut Vec<Words>, fields: &[FieldAt<'_>]) -> Result<(), NoMemory>
-    ensures { OnOk result (keys.new.items ≡ keys.old.items ++ says.handles (map ask_at fields.now)) }
-{
-    'fields: for field in fields {
-        put_own_handle(alloc, keys, field)?;
-    }
-    Ok(())
-}
-
-/// Puts the key of a field's connection. Only where it has one, its arguments are evaluated.
-fn put_own_handle(alloc: Global, keys: &mut Vec<Words>, field: &FieldAt<'_>) -> Result<(), NoMemory>
-    ensures { OnOk result (keys.new.items ≡ keys.old.items ++ says.some_text (handle_of (ask_at field.now)) []) }
+/// The key of a field's connection. Only where it has one, its arguments are evaluated.
+fn own_handle(alloc: Global, field: &FieldAt<'_>) -> Result<Option<Words>, NoMemory>
+    ensures { IfOk result (λ key. key ≡ handle_of (ask_at field.now)) }
 {
     if field.connection.is_none() {
-        return Ok(());
+        return Ok(None);
     }
     let arguments = field.arguments(alloc)?;
-    put_handle(alloc, keys, field, &arguments)
+    handle_with(alloc, field, &arguments)
 }
 
-/// Puts the key of a field's connection; its arguments have these values.
-fn put_handle(
+/// The key of a field's connection; its arguments have these values.
+fn handle_with(
     alloc: Global,
-    keys: &mut Vec<Words>,
     field: &FieldAt<'_>,
     arguments: &Pairs,
-) -> Result<(), NoMemory>
+) -> Result<Option<Words>, NoMemory>
     requires { arguments.now ≡ (ask_at field.now).arguments }
-    ensures { OnOk result (keys.new.items ≡ keys.old.items ++ says.some_text (handle_of (ask_at field.now)) []) }
+    ensures { IfOk result (λ key. key ≡ handle_of (ask_at field.now)) }
 {
     match field.connection {
         Some(connection) => {
-            keys.push(handle_key(alloc, connection, arguments)?)?;
+            let key = handle_key(alloc, connection, arguments)?;
+            Ok(Some(key))
+        }
+        None => Ok(None),
+    }
+}
+
+/// The key of the first field's connection alone; nothing, without memory, where it has none.
+fn first_handles(alloc: Global, key: Option<Words>) -> Result<Vec<Words>, NoMemory>
+    ensures { IfOk result (λ keys. keys.items ≡ says.some_text key []) }
+{
+    match key {
+        Some(key) => {
+            let mut keys = Vec::with_capacity(alloc, 1)?;
+            keys.push(key)?;
+            Ok(keys)
+        }
+        None => Ok(Vec::new(alloc)),
+    }
+}
+
+/// Puts the key of a connection at its place, where there is one, unless it is there.
+fn put_handle(keys: &mut Vec<Words>, key: Option<Words>) -> Result<(), NoMemory>
+    requires { AreInOrder keys.old.items }
+    ensures ok { OnOk result (keys.new.items ≡ with_handle key keys.old.items) }
+    ensures err { OnErr result (keys.new.items ≡ keys.old.items) }
+{
+    match key {
+        Some(key) => put_text(keys, key),
+        None => Ok(()),
+    }
+}
+
+/// Puts a text at its place in a list in byte order, unless it is there.
+fn put_text(texts: &mut Vec<Words>, text: Words) -> Result<(), NoMemory>
+    requires { AreInOrder texts.old.items }
+    ensures ok { OnOk result (texts.new.items ≡ with_text text texts.old.items) }
+    ensures err { OnErr result (texts.new.items ≡ texts.old.items) }
+{
+    let found = texts.binary_search_by(|other| other.as_str().cmp(text.as_str()));
+    match found {
+        Ok(_) => Ok(()),
+        Err(at) => {
+            texts.insert(at, text)?;
             Ok(())
         }
-        None => Ok(()),
     }
 }
 

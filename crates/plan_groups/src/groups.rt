@@ -4,10 +4,9 @@ ghost use Rattle.plan_ir.specs.NormalMeaning.{collect_plan};
 ghost use Rattle.store_model.specs.Items.{groups_at};
 ghost use Rattle.store_model.specs.Says.{info_in, info_of};
 ghost use Rattle.plan_groups.specs.FieldView.{plan_at};
-ghost use Rattle.plan_groups.specs.GroupView.{group_of};
 
 use crate::field::PlanAt;
-use crate::gathered::{Fields, gather};
+use crate::gathered::gather;
 use crate::group::GroupAt;
 use gql_plain::NoMemory;
 use std::alloc::Global;
@@ -39,11 +38,7 @@ impl<'p> Groups<'p> {
     pub fn of(alloc: Global, object: &str, parts: &[PlanAt<'p>]) -> Result<Groups<'p>, NoMemory>
         ensures { IfOk result (λ groups. groups ≡ groups_at collect_plan object.now (map plan_at parts.now)) }
     {
-        let gathered = gather(alloc, object, parts)?;
-        let mut items = Vec::with_capacity(alloc, gathered.len())?;
-        'groups: for fields in gathered {
-            items.push(GroupAt::of(alloc, fields)?)?;
-        }
+        let items = gather(alloc, object, parts)?;
         Ok(Groups { items })
     }
 
@@ -74,12 +69,12 @@ pub(crate) fn info_type<'p>(
 }
 
 /// The type of the page information among groups, empty where there is none.
-fn info_among<'p>(groups: &[Fields<'p>]) -> &'p str
-    ensures { result.now ≡ info_in (map group_of groups.now) }
+fn info_among<'p>(groups: &[GroupAt<'p>]) -> &'p str
+    ensures { result.now ≡ info_in groups.now }
 {
     'groups: for group in groups {
-        if group.first.response.as_str() == "pageInfo" {
-            return group.first.form.first_type().unwrap_or("");
+        if group.response() == "pageInfo" {
+            return group.page_type().unwrap_or("");
         }
     }
     ""

@@ -1,19 +1,8 @@
--- The group at the place has one field more, and its first one stays.
-use Rattle.std.proofs.Common.{◌∷◌, [], map, get_or, sym, ap, subst, ◌∙◌}
-use Rattle.std.proofs.lemmas.List.{map-append}
-use Rattle.std.proofs.lemmas.List.Elements.{All-get_or, All-set}
+-- The group at the place has one field more.
+use Rattle.std.proofs.Common.{◌≡◌, ap, ◌∙◌}
 use Rattle.plan_groups.proofs.GroupSteps.{put_behind_is}
 use Rattle.plan_groups.proofs.gathered.put_behind.Goals as goal
-use Rattle.plan_groups.specs.FieldView.{asked_at, IsKept}
-use Rattle.plan_groups.specs.declared.gathered.Fields.{Fields}
+use Rattle.plan_groups.specs.FieldView.{asked_at}
 
-pub returns-clause-put : goal.returns-clause-put
-returns-clause-put c =
-    put_behind_is c.args.groups.now.items c.args.place c.index_mut-group.result.now _ c.args.field c.requires c.index_mut-group.ensures.value
-    (λ i. record { first = asked_at c.index_mut-group.result.now.first; others = (ap (map asked_at) c.in_ok-push.ensures.items ∙ map-append asked_at c.index_mut-group.result.now.others.items (c.args.field ∷ [])) i })
-
-pub returns-clause-kept : goal.returns-clause-kept
-returns-clause-kept c = λ kept.
-    let there : IsKept (get_or c.args.groups.now.items c.args.place c.index_mut-group.result.now).first = All-get_or (λ (g : Fields). IsKept g.first) c.args.groups.now.items c.args.place c.index_mut-group.result.now c.requires kept in
-    let same : IsKept c.index_mut-group.result.now.first = subst (λ (g : Fields). IsKept g.first) (sym c.index_mut-group.ensures.value) there in
-    All-set (λ (g : Fields). IsKept g.first) c.args.groups.now.items c.args.place _ same kept
+pub returns : goal.returns
+returns c = put_behind_is c.args.groups.now.items c.args.place c.index_mut-group.result.now _ (asked_at c.args.field) c.requires c.index_mut-group.ensures.value c.in_ok-add.ensures

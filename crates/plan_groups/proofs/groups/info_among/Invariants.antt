@@ -1,8 +1,7 @@
 -- Those so far are other groups.
-use Rattle.std.proofs.Common.{◌≡◌, map, drop}
-use Rattle.plan_groups.specs.GroupView.{group_of}
+use Rattle.std.proofs.Common.{◌≡◌, drop}
 use Rattle.store_model.specs.Says.{info_in}
 use Rattle.plan_groups.proofs.groups.info_among.Given as goal
 
 abbrev pub invariant-groups : goal.invariant-groups
-invariant-groups l = info_in (map group_of (drop l.group-index l.groups)) ≡ info_in (map group_of l.groups)
+invariant-groups l = info_in (drop l.group-index l.groups) ≡ info_in l.groups

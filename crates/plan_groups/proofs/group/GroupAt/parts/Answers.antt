@@ -10,12 +10,12 @@ use Rattle.store_model.specs.Items.{parts}
 pub returns-then-is_empty : goal.returns-then-is_empty
 returns-then-is_empty c =
     ap (map plan_at) c.from_ref.ensures.value
-    ∙ one_part c.self.inside.fields.first c.self.inside.fields.others.items (nil_from_length c.self.inside.fields.others.items (grind (arith, c.is_empty.ensures)))
+    ∙ one_part c.self.inside.first c.self.inside.others.items (nil_from_length c.self.inside.others.items (grind (arith, c.is_empty.ensures)))
     ∙ ap parts c.self.view_is
 
 pub returns : goal.returns
 returns c =
-    let some : c.self.inside.fields.others.items ≡ [] → ⊥ = λ none. let zero : length c.self.inside.fields.others.items ≡ 0 = ap length none in grind (arith, c.is_empty.ensures, zero) in
+    let some : c.self.inside.others.items ≡ [] → ⊥ = λ none. let zero : length c.self.inside.others.items ≡ 0 = ap length none in grind (arith, c.is_empty.ensures, zero) in
     ap (map plan_at) c.deref.ensures.value
-    ∙ kept_parts (group_of c.self.inside.fields) (map plan_at c.self.inside.parts.items) (λ none. some (no_others c.self.inside.fields.others.items none)) c.self.invariant.below
+    ∙ kept_parts (group_of c.self.inside.first c.self.inside.others.items) (map plan_at c.self.inside.parts.items) (λ none. some (no_others c.self.inside.others.items none)) c.self.invariant.below
     ∙ ap parts c.self.view_is
