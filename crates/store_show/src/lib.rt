@@ -5,6 +5,7 @@
 #![tactic(auto)]
 
 mod lead;
+mod near;
 mod row_at;
 mod showing;
 pub mod shown;

@@ -17,6 +17,7 @@ ghost use Rattle.store_show.specs.Spans.{span_of};
 ghost use Rattle.store_read.specs.Walked as walked;
 
 use crate::lead::Lead;
+use crate::near::field_near;
 use crate::row_at::RowAt;
 use crate::span::Span;
 use crate::standings::Standings;
@@ -156,8 +157,19 @@ fn show_members<'p, S: RecordSource>(
     ensures looks { S.Count.looks steps.new ≤ S.Count.looks steps.old + length (object_shown_at (S.records store.now.source.now) store.now.root.now store.now.owner.now at.entry plan.now).1.seen }
     ensures applies { S.Count.applies steps.new ≡ S.Count.applies steps.old }
 {
+    let mut near = 0;
     if has_no_pointer(plan) {
-        return show_fields(alloc, store, at, Span::All, plan, met, out, steps);
+        return show_fields(
+            alloc,
+            store,
+            at,
+            Span::All,
+            plan,
+            &mut near,
+            met,
+            out,
+            steps,
+        );
     }
     show_around(alloc, store, at, plan, met, out, steps)
 }
@@ -179,9 +191,30 @@ fn show_around<'p, S: RecordSource>(
     ensures looks { S.Count.looks steps.new ≤ S.Count.looks steps.old + length (around_at (S.records store.now.source.now) store.now.root.now store.now.owner.now at.entry plan.now).1.seen }
     ensures applies { S.Count.applies steps.new ≡ S.Count.applies steps.old }
 {
-    show_fields(alloc, store, at, Span::Before, plan, met, out, steps)?;
+    let mut near = 0;
+    show_fields(
+        alloc,
+        store,
+        at,
+        Span::Before,
+        plan,
+        &mut near,
+        met,
+        out,
+        steps,
+    )?;
     show_marks(alloc, store, at, plan, met, out, steps)?;
-    show_fields(alloc, store, at, Span::Behind, plan, met, out, steps)
+    show_fields(
+        alloc,
+        store,
+        at,
+        Span::Behind,
+        plan,
+        &mut near,
+        met,
+        out,
+        steps,
+    )
 }
 
 /// Whether no step is a pointer, those behind guards among them; takes no memory.
@@ -219,6 +252,7 @@ fn show_fields<'p, S: RecordSource>(
     at: RowAt<'p>,
     span: Span,
     plan: &'p ReaderSteps,
+    near: &mut usize,
     met: &mut Standings<'p>,
     out: &mut Writer,
     steps: &mut S::Count,
@@ -232,12 +266,24 @@ fn show_fields<'p, S: RecordSource>(
     let items = plan.as_slice();
     let keys = plan.keys();
     'steps: for (place, step) in items.iter().enumerate() {
-        show_step(alloc, store, at, span, step, &keys[place], met, out, steps)?;
+        show_step(
+            alloc,
+            store,
+            at,
+            span,
+            step,
+            &keys[place],
+            near,
+            met,
+            out,
+            steps,
+        )?;
     }
     Ok(())
 }
 
-/// Writes the field of a step, or the fields behind a guard that lets them.
+/// Writes the field of a step, or the fields behind a guard that lets them. `near` is where the next field
+/// of the record is looked for first.
 #[cycle(show)]
 fn show_step<'p, S: RecordSource>(
     alloc: Global,
@@ -246,6 +292,7 @@ fn show_step<'p, S: RecordSource>(
     span: Span,
     step: &'p ReaderStep,
     key: &'p Option<SharedText>,
+    near: &mut usize,
     met: &mut Standings<'p>,
     out: &mut Writer,
     steps: &mut S::Count,
@@ -260,7 +307,7 @@ fn show_step<'p, S: RecordSource>(
     match step {
         ReaderStep::Typename { response } => {
             let field = FieldAt::type_name(at.env, response);
-            show_field(alloc, store, at, span, field, met, out, steps)
+            show_field(alloc, store, at, span, field, near, met, out, steps)
         }
         ReaderStep::Leaf {
             response,
@@ -268,7 +315,7 @@ fn show_step<'p, S: RecordSource>(
             arguments,
         } => {
             let field = FieldAt::leaf(at.env, response, name, arguments, key.as_ref());
-            show_field(alloc, store, at, span, field, met, out, steps)
+            show_field(alloc, store, at, span, field, near, met, out, steps)
         }
         ReaderStep::Object {
             response,
@@ -289,14 +336,14 @@ fn show_step<'p, S: RecordSource>(
                 part: PartAt::new(at.env, child),
                 key: key.as_ref(),
             };
-            show_field(alloc, store, at, span, field, met, out, steps)
+            show_field(alloc, store, at, span, field, near, met, out, steps)
         }
         ReaderStep::Guarded { guard, child } => {
             let passes = guard_passes(alloc, at.env, at.name, guard)?;
             if !passes {
                 return Ok(());
             }
-            show_fields(alloc, store, at, span, &child.steps, met, out, steps)
+            show_fields(alloc, store, at, span, &child.steps, near, met, out, steps)
         }
         ReaderStep::Pointer { .. } => Ok(()),
     }
@@ -310,6 +357,7 @@ fn show_field<'p, S: RecordSource>(
     at: RowAt<'p>,
     span: Span,
     field: FieldAt<'p>,
+    near: &mut usize,
     met: &mut Standings<'p>,
     out: &mut Writer,
     steps: &mut S::Count,
@@ -326,7 +374,7 @@ fn show_field<'p, S: RecordSource>(
     }
     let key = field.read_key(alloc)?;
     let lead = Lead::Member(field.response.as_str());
-    let value = at.row.fields.get(key.as_str());
+    let value = field_near(&at.row.fields, key.as_str(), near);
     show_value(
         alloc, store, at, field.form, field.part, value, lead, met, out, steps,
     )

@@ -641,9 +641,9 @@ show_field-returns-clause-shown g t c =
     let asks = asked_at field in
     let taken : c.takes.result ≡ true = search rules in
     let is : true ≡ is_taken (span_of c.args.span) field.response.now = sym taken ∙ c.takes.ensures ∙ ap (is_taken (span_of c.args.span)) c.as_str.ensures in
-    let value : option_copied c.get-value.result ≡ fields (read_key (ask_at field)) = c.get-value.ensures ∙ ap fields (c.as_str-3.ensures ∙ c.in_ok-key.ensures) in
-    let found : value_at next T (part_at field.part ∷ []) (form_at field.form) (option_copied c.get-value.result) ≡ group_at next T fields (alone asks) = ap (value_at next T (part_at field.part ∷ []) (form_at field.form)) value in
-    let tokens : led (Member c.as_str-2.result) (value_at next T (part_at field.part ∷ []) (form_at field.form) (option_copied c.get-value.result)).0 ≡ pairs_tokens (field_shown (is_taken (span_of c.args.span) field.response.now) next T fields asks) =
+    let value : option_copied c.field_near-value.result ≡ fields (read_key (ask_at field)) = c.field_near-value.ensures ∙ ap fields (c.as_str-3.ensures ∙ c.in_ok-key.ensures) in
+    let found : value_at next T (part_at field.part ∷ []) (form_at field.form) (option_copied c.field_near-value.result) ≡ group_at next T fields (alone asks) = ap (value_at next T (part_at field.part ∷ []) (form_at field.form)) value in
+    let tokens : led (Member c.as_str-2.result) (value_at next T (part_at field.part ∷ []) (form_at field.form) (option_copied c.field_near-value.result)).0 ≡ pairs_tokens (field_shown (is_taken (span_of c.args.span) field.response.now) next T fields asks) =
     ap (λ (r : Found). led (Member c.as_str-2.result) r.0) found ∙ led_member (Member c.as_str-2.result) field.response.now (group_at next T fields (alone asks)).0 (ap (λ k. key k ∷ []) c.as_str-2.ensures) ∙ ap (λ b. pairs_tokens (field_shown b next T fields asks)) is in
     subst (λ ts. OnOk c.show_value.result (c.show_value.new.out.tokens ≡ c.args.out.now.tokens ++ ts)) tokens c.show_value.ensures.shown
 
@@ -657,8 +657,8 @@ show_field-returns-clause-met g t c =
     let asks = asked_at field in
     let taken : c.takes.result ≡ true = search rules in
     let is : true ≡ is_taken (span_of c.args.span) field.response.now = sym taken ∙ c.takes.ensures ∙ ap (is_taken (span_of c.args.span)) c.as_str.ensures in
-    let value : option_copied c.get-value.result ≡ fields (read_key (ask_at field)) = c.get-value.ensures ∙ ap fields (c.as_str-3.ensures ∙ c.in_ok-key.ensures) in
-    let found : value_at next T (part_at field.part ∷ []) (form_at field.form) (option_copied c.get-value.result) ≡ group_at next T fields (alone asks) = ap (value_at next T (part_at field.part ∷ []) (form_at field.form)) value in
+    let value : option_copied c.field_near-value.result ≡ fields (read_key (ask_at field)) = c.field_near-value.ensures ∙ ap fields (c.as_str-3.ensures ∙ c.in_ok-key.ensures) in
+    let found : value_at next T (part_at field.part ∷ []) (form_at field.form) (option_copied c.field_near-value.result) ≡ group_at next T fields (alone asks) = ap (value_at next T (part_at field.part ∷ []) (form_at field.form)) value in
     subst (λ n. OnOk c.show_value.result (c.show_value.new.met ≡ n)) (ap (λ (r : Found). met_onto c.args.met.now r.1) found ∙ ap (λ b. met_onto c.args.met.now (field_met b next T fields asks)) is) c.show_value.ensures.met
 
 pub show_field-returns-clause-looks : goal.show_field-returns-clause-looks
@@ -671,8 +671,8 @@ show_field-returns-clause-looks g t c =
     let asks = asked_at field in
     let taken : c.takes.result ≡ true = search rules in
     let is : true ≡ is_taken (span_of c.args.span) field.response.now = sym taken ∙ c.takes.ensures ∙ ap (is_taken (span_of c.args.span)) c.as_str.ensures in
-    let value : option_copied c.get-value.result ≡ fields (read_key (ask_at field)) = c.get-value.ensures ∙ ap fields (c.as_str-3.ensures ∙ c.in_ok-key.ensures) in
-    let found : value_at next T (part_at field.part ∷ []) (form_at field.form) (option_copied c.get-value.result) ≡ group_at next T fields (alone asks) = ap (value_at next T (part_at field.part ∷ []) (form_at field.form)) value in
+    let value : option_copied c.field_near-value.result ≡ fields (read_key (ask_at field)) = c.field_near-value.ensures ∙ ap fields (c.as_str-3.ensures ∙ c.in_ok-key.ensures) in
+    let found : value_at next T (part_at field.part ∷ []) (form_at field.form) (option_copied c.field_near-value.result) ≡ group_at next T fields (alone asks) = ap (value_at next T (part_at field.part ∷ []) (form_at field.form)) value in
     subst (λ n. g.S.Count.Steps.looks c.show_value.new.steps ≤ g.S.Count.Steps.looks c.args.steps.now + n) (ap (λ (r : Found). length r.1.seen) found ∙ ap (λ b. length (field_met b next T fields asks).seen) is) c.show_value.ensures.looks
 
 -- ---- a list
