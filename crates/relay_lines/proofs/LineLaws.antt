@@ -1,16 +1,16 @@
 -- The tokens of a line, member by member.
-use Rattle.std.proofs.Common.{◌≡◌, List, [], ◌∷◌, ◌++◌, refl, sym, ap, ◌∙◌, append_assoc, append-nil, Result, IfOk}
+use Rattle.std.proofs.Common.{◌≡◌, ℕ, Bool, List, [], ◌∷◌, ◌++◌, Bor, codes, map, refl, sym, ap, ◌∙◌, append_assoc, append-nil, Result, IfOk}
 use Rattle.std.proofs.lemmas.Result.{IfOk-weaker}
 use Rattle.gql_plain.proofs.Tokens.{print-tree_tokens}
 use Rattle.gql_plain.specs.ToJson.{members_tokens}
-use Rattle.gql_plain.specs.Tree.{Tree, members_of}
+use Rattle.gql_plain.specs.Tree.{Tree, truth, text, list, trees_of, members_of}
 use Rattle.gql_plain.specs.declared.memory.NoMemory.{NoMemory}
 use Rattle.json.specs.Print.{print}
 use Rattle.json.specs.Token as token
 use Rattle.json.specs.Token.{Token}
 use Rattle.relay_lines.specs.Members.{member_tokens, ordered_line}
-use Rattle.relay_machine.specs.Printed.{in_order, line}
-use Rattle.store_model.specs.Walks.{shown_object}
+use Rattle.relay_machine.specs.Printed.{in_order, line, number, read_line}
+use Rattle.store_model.specs.Walks.{Reading, shown_object}
 use Rattle.store_record.specs.Keys.{Text}
 
 -- the tokens of members
@@ -58,3 +58,26 @@ printed members r {ms = ms} whole order said =
     IfOk-weaker r (λ words. words ++ 10 ∷ [] ≡ ordered_line ms) (λ words. words ++ 10 ∷ [] ≡ line members)
     (λ words is. is ∙ ap ordered_line order)
     (ordered r whole said)
+
+-- the trees of borrowed texts are those of the texts
+borrowed_texts : (ids : List (Bor Text)) → map (λ (t : Bor Text). text t.now) ids ≡ map text (map (λ (t : Bor Text). t.now) ids)
+borrowed_texts [] = refl
+borrowed_texts (id ∷ ids) = ap (λ ts. text id.now ∷ ts) (borrowed_texts ids)
+
+-- the line of what a read gives, whose ids are borrowed
+pub read_shown : (r : Result Text NoMemory) (n : ℕ) (met : Reading) (ids : List (Bor Text)) {written : List Token} {missing : Bool}
+    → missing ≡ met.missing → map (λ (t : Bor Text). t.now) ids ≡ met.seen
+    → Holds written ((codes "data", met.value) ∷ (codes "missing", truth missing) ∷ (codes "n", number n) ∷ (codes "ok", text (codes "read")) ∷ (codes "seen", list (trees_of (map (λ (t : Bor Text). text t.now) ids))) ∷ [])
+    → IfOk r (λ words. words ≡ print (written ++ token.end_object ∷ []))
+    → IfOk r (λ words. words ++ 10 ∷ [] ≡ read_line n met)
+read_shown r n met ids {missing = missing} same seen whole said =
+    printed
+    ((codes "data", met.value)
+    ∷ (codes "missing", truth met.missing)
+    ∷ (codes "n", number n)
+    ∷ (codes "ok", text (codes "read"))
+    ∷ (codes "seen", list (trees_of (map text met.seen))) ∷ [])
+    r whole
+    (ap (λ (b : Bool). (codes "data", met.value) ∷ (codes "missing", truth b) ∷ (codes "n", number n) ∷ (codes "ok", text (codes "read")) ∷ (codes "seen", list (trees_of (map (λ (t : Bor Text). text t.now) ids))) ∷ []) same
+    ∙ ap (λ (ts : List Tree). (codes "data", met.value) ∷ (codes "missing", truth met.missing) ∷ (codes "n", number n) ∷ (codes "ok", text (codes "read")) ∷ (codes "seen", list (trees_of ts)) ∷ []) (borrowed_texts ids ∙ ap (λ (ts : List Text). map text ts) seen))
+    said

@@ -1,0 +1,12 @@
+use Rattle.std.proofs.Common.{◌≡◌, ◌++◌, drop, map}
+use Rattle.gql_plain.specs.ToJson.{trees_tokens}
+use Rattle.gql_plain.specs.Tree.{text, trees_of}
+use Rattle.relay_lines.proofs.values.write_borrowed.Given as goal
+
+-- what is written, followed by the tokens of what is left, is the whole
+abbrev pub invariant-texts : goal.invariant-texts
+invariant-texts l = record {
+  before : l.out.before ≡ l.initial.out.before;
+  whole : l.out.tokens ++ trees_tokens (trees_of (map (λ t. text t.now) (drop l.text-index l.texts)))
+      ≡ l.initial.out.tokens ++ trees_tokens (trees_of (map (λ t. text t.now) l.texts));
+}
