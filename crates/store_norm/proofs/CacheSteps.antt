@@ -4,9 +4,9 @@ use Rattle.std.proofs.lemmas.List.{length-map, with_items_is}
 use Rattle.std.specs.List.{AllByRecursion}
 use Rattle.std.specs.Vec.{with_items}
 use Rattle.plan_ir.specs.NormalMeaning.{Plan, collect_plan}
-use Rattle.store_model.specs.Items.{Group, groups_at, parts}
+use Rattle.store_model.specs.Items.{Group, groups_at}
 use Rattle.store_norm.specs.CacheView.{AreRight, IsRight, IsSame, IsTypeAt}
-use Rattle.store_norm.specs.Caching.{Caching, caches, parts_of, plans_of}
+use Rattle.store_norm.specs.Caching.{Caching, caches, parts_below, parts_of, plans_of}
 use Rattle.store_norm.specs.declared.cache.TypeGroups.{TypeGroups}
 use Rattle.store_record.specs.Keys.{Text}
 
@@ -40,7 +40,7 @@ right_last ps levels (u ∷ ts) t right last = (right.0, right_last ps levels ts
 
 pub plans_of-caches : (levels : ℕ) (gs : List (Group Plan)) → plans_of (caches levels gs) ≡ parts_of gs
 plans_of-caches levels [] = refl
-plans_of-caches levels (g ∷ gs) = ap (λ ps. parts g ∷ ps) (plans_of-caches levels gs)
+plans_of-caches levels (g ∷ gs) = ap (λ ps. parts_below g ∷ ps) (plans_of-caches levels gs)
 
 fewer_levels : (levels below : ℕ) (gs : List (Group Plan)) → below < levels → AllByRecursion (λ (c : Caching). c.levels < levels) (caches below gs)
 fewer_levels levels below [] fewer = tt
@@ -63,13 +63,13 @@ rest_plans [] = []
 rest_plans (ps ∷ rest) = rest
 
 same_length : (cs : List Caching) (gs : List (Group Plan)) → plans_of cs ≡ parts_of gs → length cs ≡ length gs
-same_length cs gs same = sym (length-map cs (λ (c : Caching). c.parts)) ∙ ap length same ∙ length-map gs (λ (g : Group Plan). parts g)
+same_length cs gs same = sym (length-map cs (λ (c : Caching). c.parts)) ∙ ap length same ∙ length-map gs (λ (g : Group Plan). parts_below g)
 
--- what lies below a group is for what stands below it
-pub plans_at : (cs : List Caching) (gs : List (Group Plan)) (at : ℕ) (d : Caching) (g : Group Plan) → plans_of cs ≡ parts_of gs → at < length gs → g ≡ get_or gs at g → (get_or cs at d).parts ≡ parts g
+-- what lies below a group is for the plans that are asked there
+pub plans_at : (cs : List Caching) (gs : List (Group Plan)) (at : ℕ) (d : Caching) (g : Group Plan) → plans_of cs ≡ parts_of gs → at < length gs → g ≡ get_or gs at g → (get_or cs at d).parts ≡ parts_below g
 plans_at [] gs at d g same inside is = absurd (omega (arith, inside, same_length [] gs same))
 plans_at (c ∷ cs) [] at d g same inside is = absurd (omega (arith, inside))
-plans_at (c ∷ cs) (h ∷ gs) zero d g same inside is = ap first_plans same ∙ sym (ap (λ (x : Group Plan). parts x) is)
+plans_at (c ∷ cs) (h ∷ gs) zero d g same inside is = ap first_plans same ∙ sym (ap (λ (x : Group Plan). parts_below x) is)
 plans_at (c ∷ cs) (h ∷ gs) (suc at) d g same inside is = plans_at cs gs at d g (ap rest_plans same) (omega (arith, inside)) is
 
 -- what lies below is as it was

@@ -18,6 +18,7 @@ use Rattle.store_model.specs.Items.{Below, Form, typename, leaf, one, many, Grou
 use Rattle.store_model.specs.Says.{Made, Path, Report, Walk, both, element_of, elements_of, elements_under, form_says, group_says, groups_say, leaf_of, link_of, no_report, walk_of, walks_of}
 use Rattle.store_model.specs.declared.payload_fault.PathStep.TheVariants.{Index}
 use Rattle.store_norm.proofs.Reports.{gathered_both}
+use Rattle.store_norm.specs.Caching.{has_objects}
 use Rattle.store_norm.specs.Walk.{group_told, is_typename}
 use Rattle.store_record.specs.Keys.{Text}
 use Rattle.store_report.specs.Gathering.{Gathering, gathered_onto}
@@ -106,6 +107,13 @@ one_walk (J.number n) b fs made path = refl
 one_walk (J.string s) b fs made path = refl
 one_walk (J.array ds) b fs made path = refl
 one_walk (J.object ms) b fs made path = refl
+
+-- where no objects stand, the value says the same whatever is asked below
+pub below_walk : (d : J.Data) (f : Form) (fs : List Plan) (made : Made) (path : Path) → walk_of collect_plan d f (cond (has_objects f) fs []) made path ≡ walk_of collect_plan d f fs made path
+below_walk d typename fs made path = typename_walk d [] made path ∙ sym (typename_walk d fs made path)
+below_walk d leaf fs made path = leaf_walk d [] made path ∙ sym (leaf_walk d fs made path)
+below_walk d (one b) fs made path = refl
+below_walk d (many b) fs made path = refl
 
 -- ---- lists
 

@@ -1,9 +1,9 @@
 -- What a cache of groups is seen as: the plans whose groups it has, and how many levels may lie below.
-use Rattle.std.specs.Prelude.{ℕ, List, map, refl}
+use Rattle.std.specs.Prelude.{ℕ, Bool, true, false, cond, List, [], map, refl}
 use Rattle.std.specs.Coded.{Coded, code_by, coded×, coded_ℕ, coded_list}
 use Rattle.plan_groups.specs.Codes.{coded_plan}
 use Rattle.plan_ir.specs.NormalMeaning.{Plan}
-use Rattle.store_model.specs.Items.{Group, parts}
+use Rattle.store_model.specs.Items.{Form, typename, leaf, one, many, Group, parts}
 
 pub record Caching : Type 0 where
   pub parts : List Plan
@@ -12,14 +12,25 @@ pub record Caching : Type 0 where
 abbrev pub coded_caching : Coded Caching
 coded_caching = code_by (List Plan × ℕ) (coded× (coded_list coded_plan) coded_ℕ) (λ c. (c.parts, c.levels)) (λ t. record { parts = t.0; levels = t.1 }) (λ _. refl)
 
+-- whether objects, or a list of them, stand under a field
+abbrev pub has_objects : Form → Bool
+has_objects typename = false
+has_objects leaf = false
+has_objects (one b) = true
+has_objects (many b) = true
+
+-- the plans that are asked of what stands below a group: none where no objects stand there
+abbrev pub parts_below : Group Plan → List Plan
+parts_below g = cond (has_objects g.first.ask.form) (parts g) []
+
 -- what lies below groups
 abbrev pub caches : ℕ → List (Group Plan) → List Caching
-caches levels groups = map (λ g. record { parts = parts g; levels = levels }) groups
+caches levels groups = map (λ g. record { parts = parts_below g; levels = levels }) groups
 
 -- the plans of caches
 abbrev pub plans_of : List Caching → List (List Plan)
 plans_of cs = map (λ c. c.parts) cs
 
--- what stands below groups
+-- the plans that are asked of what stands below groups
 abbrev pub parts_of : List (Group Plan) → List (List Plan)
-parts_of groups = map parts groups
+parts_of groups = map parts_below groups

@@ -1,12 +1,12 @@
 //! Making the groups that plans ask of objects, once for each type.
-ghost use Rattle.std.specs.Prelude.{◌≡◌, true, map, IfOk};
-ghost use Rattle.plan_groups.specs.FieldView.{plan_at};
+ghost use Rattle.std.specs.Prelude.{◌≡◌, [], true, map, IfOk};
+ghost use Rattle.plan_groups.specs.FieldView.{form_at, plan_at};
 ghost use Rattle.store_norm.specs.CacheView.{AreRight, IsPlaceOf, IsRight, IsTypeAt};
-ghost use Rattle.store_norm.specs.Caching.{caches};
+ghost use Rattle.store_norm.specs.Caching.{caches, has_objects, parts_below};
 
 use crate::cache::{GroupCache, TypeGroups};
 use gql_plain::NoMemory;
-use plan_groups::{GroupAt, Groups, PlanAt};
+use plan_groups::{FormAt, GroupAt, Groups, PlanAt};
 use std::alloc::Global;
 use std::collections::BTreeMap;
 
@@ -29,6 +29,18 @@ impl<'p> GroupCache<'p> {
             types: Vec::new(alloc),
         })
     }
+
+    /// No plans, which ask nothing; takes no memory.
+    fn empty(alloc: Global, levels: usize) -> GroupCache<'p>
+        ensures { result ≡ record { parts = []; levels = levels } }
+    {
+        GroupCache {
+            parts: Vec::new(alloc),
+            levels,
+            places: BTreeMap::new(alloc),
+            types: Vec::new(alloc),
+        }
+    }
 }
 
 /// For each group what lies below it; nothing is made yet.
@@ -41,9 +53,36 @@ pub(crate) fn caches_below<'p>(
 {
     let mut below = Vec::with_capacity(alloc, groups.len())?;
     'groups: for group in groups {
-        below.push(GroupCache::new(alloc, group.parts(), levels)?)?;
+        below.push(cache_below(alloc, group, levels)?)?;
     }
     Ok(below)
+}
+
+/// What lies below a group; nothing is made yet. Where no objects stand under its fields nothing is ever
+/// asked of it, and it takes no memory.
+fn cache_below<'p>(
+    alloc: Global,
+    group: &GroupAt<'p>,
+    levels: usize,
+) -> Result<GroupCache<'p>, NoMemory>
+    ensures { IfOk result (λ cache. cache ≡ record { parts = parts_below group.now; levels = levels }) }
+{
+    if has_objects(&group.form()) {
+        return GroupCache::new(alloc, group.parts(), levels);
+    }
+    Ok(GroupCache::empty(alloc, levels))
+}
+
+/// Whether objects, or a list of them, stand under a field; takes no memory.
+fn has_objects(form: &FormAt<'_>) -> bool
+    ensures { result ≡ has_objects (form_at form.now) }
+{
+    match form {
+        FormAt::Typename => false,
+        FormAt::Leaf => false,
+        FormAt::One(_) => true,
+        FormAt::Many(_) => true,
+    }
 }
 
 /// The place of the groups that plans ask of an object of a type, which are made where they are not

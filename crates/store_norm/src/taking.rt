@@ -4,13 +4,13 @@ ghost use Rattle.plan_groups.specs.FieldView.{below_at, form_at};
 ghost use Rattle.plan_ir.specs.NormalMeaning.{collect_plan};
 ghost use Rattle.serde_json.specs.View.{items_view, members_view, view};
 ghost use Rattle.store_model.specs.Events.{plain_of_data};
-ghost use Rattle.store_model.specs.Items.{many, parts};
+ghost use Rattle.store_model.specs.Items.{many};
 ghost use Rattle.store_model.specs.Records.{typename};
 ghost use Rattle.store_model.specs.Says as says;
 ghost use Rattle.store_model.specs.declared.payload_fault.Cause.TheVariants.{Shape, Typename};
 ghost use Rattle.store_model.specs.declared.payload_fault.PathStep.TheVariants.{Key};
 ghost use Rattle.store_norm.specs.CacheView.{IsSame};
-ghost use Rattle.store_norm.specs.Caching.{plans_of, parts_of};
+ghost use Rattle.store_norm.specs.Caching.{plans_of, parts_below, parts_of};
 ghost use Rattle.store_norm.specs.MadeView.{id_of, made_at};
 ghost use Rattle.store_norm.specs.Tables.{IsTabled};
 ghost use Rattle.store_norm.specs.Walk as walk;
@@ -76,7 +76,7 @@ fn take_group<'r>(
     fields: &mut Vec<SharedField>,
     rows: &mut ObjectRows<'r>,
 ) -> Result<(), NoMemory>
-    requires below { below.old.parts ≡ parts group.now }
+    requires below { below.old.parts ≡ parts_below group.now }
     requires tabled { IsTabled members.now }
     ensures said { OnOk result (Adds (with_open id.now fields.old.items rows.old) (with_open id.now fields.new.items rows.new) (walk.group_told id.now trail.now (members_view members.now.map.now.entries) group.now)) }
     ensures below { below.new ≡ below.old }
@@ -102,7 +102,7 @@ fn take_field<'r>(
     fields: &mut Vec<SharedField>,
     rows: &mut ObjectRows<'r>,
 ) -> Result<(), NoMemory>
-    requires { below.old.parts ≡ parts group.now }
+    requires { below.old.parts ≡ parts_below group.now }
     ensures said { OnOk result (Adds (with_open id.now fields.old.items rows.old) (with_open id.now fields.new.items rows.new) (says.group_says collect_plan id.now trail.now group.now (Some (says.walk_of collect_plan (view value.now))))) }
     ensures below { below.new ≡ below.old }
 {

@@ -4,14 +4,14 @@ ghost use Rattle.plan_groups.specs.FieldView.{below_at, form_at};
 ghost use Rattle.plan_ir.specs.NormalMeaning.{collect_plan};
 ghost use Rattle.serde_json.specs.Find.{get_member};
 ghost use Rattle.serde_json.specs.View.{items_view, members_view, view};
-ghost use Rattle.store_model.specs.Items.{many, parts};
+ghost use Rattle.store_model.specs.Items.{many};
 ghost use Rattle.store_model.specs.Records.{typename};
 ghost use Rattle.store_model.specs.Says as says;
 ghost use Rattle.store_model.specs.declared.payload_fault.Cause.TheVariants.{Shape, Typename};
 ghost use Rattle.store_model.specs.declared.payload_fault.PathStep.TheVariants.{Key};
 ghost use Rattle.store_report.specs.Gathering.{gathered_onto};
 ghost use Rattle.store_norm.specs.CacheView.{IsSame};
-ghost use Rattle.store_norm.specs.Caching.{plans_of, parts_of};
+ghost use Rattle.store_norm.specs.Caching.{plans_of, parts_below, parts_of};
 ghost use Rattle.store_norm.specs.MadeView.{id_of, made_at};
 ghost use Rattle.store_norm.specs.Tables.{IsTabled};
 ghost use Rattle.store_norm.specs.Walk as walk;
@@ -66,7 +66,7 @@ fn say_group<'r>(
     path: &Path<'r>,
     gathered: &mut Gathered<'r>,
 ) -> Result<(), NoMemory>
-    requires below { below.old.parts ≡ parts group.now }
+    requires below { below.old.parts ≡ parts_below group.now }
     requires tabled { IsTabled members.now }
     ensures said { OnOk result (gathered.new ≡ gathered_onto gathered.old (walk.group_told id.now path.now (members_view members.now.map.now.entries) group.now)) }
     ensures below { below.new ≡ below.old }
@@ -103,7 +103,7 @@ fn say_field<'r>(
     path: &Path<'r>,
     gathered: &mut Gathered<'r>,
 ) -> Result<(), NoMemory>
-    requires { below.old.parts ≡ parts group.now }
+    requires { below.old.parts ≡ parts_below group.now }
     ensures said { OnOk result (gathered.new ≡ gathered_onto gathered.old (says.group_says collect_plan id.now path.now group.now (Some (says.walk_of collect_plan (view value.now))))) }
     ensures below { below.new ≡ below.old }
 {

@@ -19,9 +19,9 @@ use Rattle.store_model.specs.declared.payload_fault.PathStep.TheVariants.{Index,
 use Rattle.store_norm.proofs.CacheSteps.{plans_at, right_at, type_within}
 use Rattle.store_norm.proofs.FieldSteps.{type_told}
 use Rattle.store_norm.proofs.TakeSteps.{Ends, elements_taken, ends_here, groups_taken, object_taken}
-use Rattle.store_norm.proofs.WalkSteps.{element_below, element_deep, elements_ids, leaf_walk, member_below, one_walk, told_absent, told_present, told_typename}
+use Rattle.store_norm.proofs.WalkSteps.{below_walk, element_below, element_deep, elements_ids, leaf_walk, member_below, one_walk, told_absent, told_present, told_typename}
 use Rattle.store_norm.proofs.taking.+take.Goals as goal
-use Rattle.store_norm.specs.Caching.{Caching, parts_of, plans_of}
+use Rattle.store_norm.specs.Caching.{Caching, parts_below, parts_of, plans_of}
 use Rattle.store_norm.specs.MadeView.{id_of, made_at}
 use Rattle.store_norm.specs.Walk.{group_told, is_typename}
 use Rattle.store_record.specs.Keys.{Text, client_id}
@@ -68,11 +68,13 @@ take_field-returns-clause-said t c =
     let here = path ++ Key ask.response ∷ [] in
     let there : c.with-here.result ≡ here = c.with-here.ensures ∙ ap (λ k. path ++ Key k ∷ []) c.response.ensures in
     let says_all = walk_of collect_plan d ask.form (parts group) (client_id id (key_of ask)) here in
+    let below : walk_of collect_plan d ask.form (parts_below group) (client_id id (key_of ask)) here ≡ says_all = below_walk d ask.form (parts group) (client_id id (key_of ask)) here in
     let said : Adds c.take_pages.new.rows c.take_value.new.rows says_all.1 =
-    subst (λ (r : Field × Report). Adds c.take_pages.new.rows c.take_value.new.rows r.1)
-    (λ i. walk_of collect_plan d (c.form.ensures i) (c.requires i) (client_id id (c.key.ensures i)) (there i)) c.in_ok-field.ensures.said in
+    subst (λ (r : Field × Report). Adds c.take_pages.new.rows c.take_value.new.rows r.1) below
+    (subst (λ (r : Field × Report). Adds c.take_pages.new.rows c.take_value.new.rows r.1)
+    (λ i. walk_of collect_plan d (c.form.ensures i) (c.requires i) (client_id id (c.key.ensures i)) (there i)) c.in_ok-field.ensures.said) in
     let value : c.in_ok-field.field ≡ says_all.0 =
-    c.in_ok-field.ensures.field ∙ (λ i. (walk_of collect_plan d (c.form.ensures i) (c.requires i) (client_id id (c.key.ensures i)) (there i)).0) in
+    c.in_ok-field.ensures.field ∙ (λ i. (walk_of collect_plan d (c.form.ensures i) (c.requires i) (client_id id (c.key.ensures i)) (there i)).0) ∙ ap (λ (r : Field × Report). r.0) below in
     let entry : c.in_ok-new.field-0 ≡ (key_of ask, says_all.0) = c.in_ok-new.ensures ∙ (λ i. ((c.in_ok-key.ensures ∙ c.key-2.ensures) i, value i)) in
     subst (λ es. Adds (with_open id c.args.fields.now.items c.args.rows.now) (with_open id es c.take_value.new.rows) (both (put_at id (key_of ask) says_all.0 here) (both (report_pages (pages_of collect_plan id group)) says_all.1)))
     (sym (c.in_ok-push.ensures.items ∙ ap (λ (e : Text × Field). c.args.fields.now.items ++ e ∷ []) entry))

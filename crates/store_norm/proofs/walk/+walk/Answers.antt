@@ -11,17 +11,18 @@ use Rattle.serde_json.specs.View.{items_view, members_view, view}
 use Rattle.store_model.proofs.Smaller.{found_smaller}
 use Rattle.store_model.specs.Items.{key_of, parts}
 use Rattle.store_model.specs.Records.{typename}
-use Rattle.store_model.specs.Says.{elements_of, elements_under, groups_say, id_under, is_misnamed, named_says, pages_of, put_at, report_pages, responses, unless_misnamed, walk_of, walks_of}
+use Rattle.store_model.specs.Says.{Report, elements_of, elements_under, groups_say, id_under, is_misnamed, named_says, pages_of, put_at, report_pages, responses, unless_misnamed, walk_of, walks_of}
 use Rattle.store_model.specs.declared.payload_fault.PathStep.TheVariants.{Index, Key}
 use Rattle.store_norm.proofs.CacheSteps.{plans_at, right_at, same_type, type_within}
 use Rattle.store_norm.proofs.FieldSteps.{field_said, said_thrice, type_told}
 use Rattle.store_norm.proofs.Reports.{gathered_none}
-use Rattle.store_norm.proofs.WalkSteps.{element_below, element_deep, elements_ids, elements_said, groups_said, member_below, told_absent, told_present}
+use Rattle.store_norm.proofs.WalkSteps.{below_walk, element_below, element_deep, elements_ids, elements_said, groups_said, member_below, told_absent, told_present}
 use Rattle.store_norm.proofs.walk.+walk.Goals as goal
-use Rattle.store_norm.specs.Caching.{Caching, parts_of, plans_of}
+use Rattle.store_norm.specs.Caching.{Caching, parts_below, parts_of, plans_of}
 use Rattle.store_norm.specs.MadeView.{id_of, made_at}
 use Rattle.store_norm.specs.Walk.{group_told, is_typename}
 use Rattle.store_record.specs.Keys.{client_id}
+use Rattle.store_record.specs.declared.field.Field.{Field}
 use Rattle.store_record.specs.declared.field.Field.TheVariants.{Leaf}
 use Rattle.store_report.specs.Gathering.{gathered_onto, with_value}
 
@@ -62,13 +63,15 @@ say_field-returns-clause-said t c =
     let path = c.args.path.now ++ Key group.first.ask.response ∷ [] in
     let path_is : c.args.path.now ++ Key c.response-response.result.now ∷ [] ≡ path = ap (λ r. c.args.path.now ++ Key r ∷ []) c.response-response.ensures in
     let says_all = walk_of collect_plan d group.first.ask.form (parts group) (client_id id key) path in
+    let below : walk_of collect_plan d group.first.ask.form (parts_below group) (client_id id key) path ≡ says_all = below_walk d group.first.ask.form (parts group) (client_id id key) path in
     let put : c.field.new.self ≡ gathered_onto g (put_at id key (Leaf Null) path) =
     c.in_ok-at.ensures.put ∙ (λ i. gathered_onto g (put_at id (c.key.ensures i) (Leaf Null) (path_is i))) in
     let said : c.say_value.new.gathered ≡ gathered_onto c.say_pages.new.gathered says_all.1 =
     c.in_ok-field.ensures.said
-    ∙ (λ i. gathered_onto c.say_pages.new.gathered (walk_of collect_plan d (c.form.ensures i) (c.requires i) (client_id id (c.key-2.ensures i)) (path_is i)).1) in
+    ∙ (λ i. gathered_onto c.say_pages.new.gathered (walk_of collect_plan d (c.form.ensures i) (c.requires i) (client_id id (c.key-2.ensures i)) (path_is i)).1)
+    ∙ ap (λ (r : Field × Report). gathered_onto c.say_pages.new.gathered r.1) below in
     let value : c.in_ok-field.field ≡ says_all.0 =
-    c.in_ok-field.ensures.field ∙ (λ i. (walk_of collect_plan d (c.form.ensures i) (c.requires i) (client_id id (c.key-2.ensures i)) (path_is i)).0) in
+    c.in_ok-field.ensures.field ∙ (λ i. (walk_of collect_plan d (c.form.ensures i) (c.requires i) (client_id id (c.key-2.ensures i)) (path_is i)).0) ∙ ap (λ (r : Field × Report). r.0) below in
     field_said g c.field.new.self c.say_pages.new.gathered c.say_value.new.gathered id key (Leaf Null) path (report_pages (pages_of collect_plan id group)) says_all.1 c.in_ok-at.at
     c.in_ok-at.ensures.place put c.in_ok-say_pages.ensures said says_all.0 c.set.new.self
     (c.set.ensures ∙ ap (λ v. with_value c.in_ok-at.at v c.say_value.new.gathered) value)
