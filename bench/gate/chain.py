@@ -2,9 +2,9 @@
 """chain.py FOLDER [DONE..]: runs `rt ci NAME` for every crate of the repository in this folder, those of the longest way to the top first.
 
 A proof starts as soon as the crates below it have passed. At most as many run at once as the file `slots` in FOLDER/../chain.state says (8 where there
-is none). The crates with the longest way before them take whatever processors are idle and come first at each of them; the others get one, and
-what is left. Words in the file `hold` keep crates back, those in `urgent` come first, and a crate that failed is tried again once its name
-stands in `retry`. Crates that are named behind the folder count as passed. What happens is told in `log` there, what each crate said in
+is none, and four more for crates that are urgent). The crates with the longest way before them take whatever processors are idle and come first
+at each of them, the first of all before the others; the rest get one, and what is left. Words in the file `hold` keep crates back, those in
+`urgent` come first, those in `calm` last, and a crate that failed is tried again once its name stands in `retry`. Crates that are named behind the folder count as passed. What happens is told in `log` there, what each crate said in
 `said/NAME`. With edits in the folder `rt ci` tries those of all crates below a crate first, so take the `must-fail/` folders away in a copy of the repository, and try the edits in another.
 """
 import glob
@@ -80,10 +80,13 @@ def main():
         longest = max(way(it) for it in below if it not in passed)
         urgent = lambda name: way(name) > 0.7 * longest or name in words("urgent")
         ready = [it for it in below if it not in passed | failed | set(running) | set(words("hold")) and passed.issuperset(below[it])]
-        for name in sorted(ready, key=way, reverse=True)[: int((words("slots") or ["8"])[0]) - len(running)]:
-            running[name] = start(name, urgent(name))
+        room = int((words("slots") or ["8"])[0])
+        for name in sorted(ready, key=way, reverse=True):
+            if len(running) < room or urgent(name) and len(running) < room + 4:
+                running[name] = start(name, urgent(name))
+        first = max(running, key=way, default="")
         for name, process in running.items():
-            rank(process, -15 if urgent(name) else 8)
+            rank(process, 8 if name in words("calm") or not urgent(name) else -20 if name == first else -15)
         time.sleep(2)
         for name in [it for it in running if running[it].poll() is not None]:
             code = running.pop(name).returncode

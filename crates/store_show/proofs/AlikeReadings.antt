@@ -32,7 +32,7 @@ module _ (a b : Found) (alike : AreAlike a b) where
       λ i. record { value = or_null (alike.shown i); missing = alike.missing i; seen = seen i }
 
   pub same_standings : standings a ≡ standings b
-  same_standings = length_permutation a.1.seen b.1.seen alike.seen
+  same_standings = sym (length_permutation a.1.seen b.1.seen alike.seen)
 
 module _ (plan other : Reader) (alike : ReadAlike plan other) (typed : Text → Text) (owner : Text) (m : Slots) (env : Values) (types : List Text) (id : Text) where
   -- each walks as deep as its own plan, which is as deep as the other
