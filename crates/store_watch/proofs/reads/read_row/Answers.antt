@@ -10,16 +10,18 @@ pub returns-in_err-snapshot-clause-looks : goal.returns-in_err-snapshot-clause-l
 returns-in_err-snapshot-clause-looks g c =
     let m = slots (g.S.RecordSource.records c.args.view.now) in
     let what = c.args.row.now.what in
-    let same : plan_reads (type_of_record c.deref-2.result.now.root) what.handle m c.deref-2.result.now.values c.deref.result.now.steps what.types what.id ≡ read_of m (look_of what) =
-    (λ i. plan_reads (type_of_record (c.deref-2.ensures i).root) what.handle m (c.deref-2.ensures i).values (c.deref.ensures i).steps what.types what.id) in
+    let plan : c.plan.result.now ≡ what.plan.value = c.plan.ensures ∙ c.deref.ensures in
+    let same : plan_reads (type_of_record c.deref-2.result.now.root) what.handle m c.deref-2.result.now.values c.plan.result.now.steps what.types what.id ≡ read_of m (look_of what) =
+    (λ i. plan_reads (type_of_record (c.deref-2.ensures i).root) what.handle m (c.deref-2.ensures i).values (plan i).steps what.types what.id) in
     subst (λ (r : Found). g.S.Count.Steps.looks c.read.new.steps ≤ g.S.Count.Steps.looks c.args.steps.now + standings r) same c.read.ensures.looks
 
 pub returns-clause-notice : goal.returns-clause-notice
 returns-clause-notice g c =
     let m = slots (g.S.RecordSource.records c.args.view.now) in
     let what = c.args.row.now.what in
-    let same : plan_reads (type_of_record c.deref-2.result.now.root) what.handle m c.deref-2.result.now.values c.deref.result.now.steps what.types what.id ≡ read_of m (look_of what) =
-    (λ i. plan_reads (type_of_record (c.deref-2.ensures i).root) what.handle m (c.deref-2.ensures i).values (c.deref.ensures i).steps what.types what.id) in
+    let plan : c.plan.result.now ≡ what.plan.value = c.plan.ensures ∙ c.deref.ensures in
+    let same : plan_reads (type_of_record c.deref-2.result.now.root) what.handle m c.deref-2.result.now.values c.plan.result.now.steps what.types what.id ≡ read_of m (look_of what) =
+    (λ i. plan_reads (type_of_record (c.deref-2.ensures i).root) what.handle m (c.deref-2.ensures i).values (plan i).steps what.types what.id) in
     let gives : reading_of c.in_ok-snapshot.snapshot ≡ shows m (look_of what) = c.in_ok-snapshot.ensures.read ∙ ap reading same in
     let told = c.differs-told.ensures ∙ ap (differs (reading_of c.args.row.now.kept)) gives in
     λ i. record { place = c.args.place; gives = gives i; told = told i }
@@ -28,6 +30,7 @@ pub returns-clause-looks : goal.returns-clause-looks
 returns-clause-looks g c =
     let m = slots (g.S.RecordSource.records c.args.view.now) in
     let what = c.args.row.now.what in
-    let same : plan_reads (type_of_record c.deref-2.result.now.root) what.handle m c.deref-2.result.now.values c.deref.result.now.steps what.types what.id ≡ read_of m (look_of what) =
-    (λ i. plan_reads (type_of_record (c.deref-2.ensures i).root) what.handle m (c.deref-2.ensures i).values (c.deref.ensures i).steps what.types what.id) in
+    let plan : c.plan.result.now ≡ what.plan.value = c.plan.ensures ∙ c.deref.ensures in
+    let same : plan_reads (type_of_record c.deref-2.result.now.root) what.handle m c.deref-2.result.now.values c.plan.result.now.steps what.types what.id ≡ read_of m (look_of what) =
+    (λ i. plan_reads (type_of_record (c.deref-2.ensures i).root) what.handle m (c.deref-2.ensures i).values (plan i).steps what.types what.id) in
     subst (λ (r : Found). g.S.Count.Steps.looks c.read.new.steps ≤ g.S.Count.Steps.looks c.args.steps.now + standings r) same c.read.ensures.looks
