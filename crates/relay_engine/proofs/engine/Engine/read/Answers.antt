@@ -1,4 +1,4 @@
-use Rattle.std.proofs.Common.{◌≡◌, ◌+◌, ◌≤◌, [], ◌∷◌, false, Option, ap, subst, ◌∙◌}
+use Rattle.std.proofs.Common.{◌≡◌, ◌+◌, ◌≤◌, ◌++◌, [], ◌∷◌, false, Option, refl, ap, subst, ◌∙◌}
 use Rattle.std.proofs.lemmas.Result.{IfOk-weaker}
 use Rattle.event_script.specs.Seen.{target_seen}
 use Rattle.relay_engine.proofs.KeepingLaws.{shown_is}
@@ -18,28 +18,30 @@ use Rattle.store_layers.specs.Layered.{view_of}
 use Rattle.store_model.specs.Events as events
 use Rattle.store_model.specs.Records.{Records}
 use Rattle.store_model.specs.Walks.{standings}
-use Rattle.store_read.specs.Reading.{reading_of, slots}
+use Rattle.store_read.specs.Reading.{slots}
 use Rattle.store_watch.specs.Rows.{look_of}
 use Rattle.store_watch.specs.Watching.{read_of, shows}
 
-pub returns-in_ok-snapshot-in-Shown-clause-step : goal.returns-in_ok-snapshot-in-Shown-clause-step
-returns-in_ok-snapshot-in-Shown-clause-step g c =
+pub returns-in_ok-text-in-Shown-clause-step : goal.returns-in_ok-text-in-Shown-clause-step
+returns-in_ok-text-in-Shown-clause-step g c =
     let k : Kept = c.args.self.now in
     let n = c.args.n in
     let target = target_seen c.args.target.now in
     let what = c.in-Shown.what in
-    let snapshot = c.in_ok-snapshot-in-Shown.snapshot in
-    IfOk-weaker c.show.result (AreLines (read_line n (reading_of snapshot)) false) (λ lines. HasStepped k k lines (λ p s. step_read p s n target))
+    let text = c.in_ok-text-in-Shown.text in
+    IfOk-weaker c.one_line.result (AreLines (text ++ 10 ∷ []) false) (λ lines. HasStepped k k lines (λ p s. step_read p s n target))
     (λ lines are p s stands.
     let take : Handle → Option PartShown → Step = λ h part. accept (read_line n (shown p (view p s) h part)) s in
     let made : (h : Handle) × (part : Option PartShown) × (step_read p s n target ≡ take h part) × ShowsPart p (look_of what) h part =
     subst (Targets k p (step_read p s n target) take) c.in-Shown.is (c.in_ok-what.ensures.step p s stands take) in
     let records : g.S.RecordSource.records c.view.result.now ≡ view_of k.layers = c.view.ensures ∙ ap (λ (x : Kept). view_of x.layers) c.self.view_is in
-    let read : reading_of snapshot ≡ shown p (view p s) made.0 made.1 =
-    shown_is k p s stands (look_of what) made.0 made.1 (reading_of snapshot) made.3 (c.in_ok-snapshot-in-Shown.ensures.read ∙ ap (λ m. shows (slots m) (look_of what)) records) in
+    let read : shows (slots (view_of k.layers)) (look_of what) ≡ shown p (view p s) made.0 made.1 =
+    shown_is k p s stands (look_of what) made.0 made.1 (shows (slots (view_of k.layers)) (look_of what)) made.3 refl in
+    let told : text ++ 10 ∷ [] ≡ read_line n (shown p (view p s) made.0 made.1) =
+    c.in_ok-text-in-Shown.ensures.line ∙ ap (λ m. read_line n (shows (slots m) (look_of what))) records ∙ ap (read_line n) read in
     same_step k p (take made.0 made.1) (step_read p s n target) lines made.2
-    (accepting k p s (read_line n (shown p (view p s) made.0 made.1)) lines stands (subst (λ r. AreLines (read_line n r) false lines) read are)))
-    c.show.ensures
+    (accepting k p s (read_line n (shown p (view p s) made.0 made.1)) lines stands (subst (λ t. AreLines t false lines) told are)))
+    c.one_line.ensures
 
 pub returns-in-Refused-clause-step : goal.returns-in-Refused-clause-step
 returns-in-Refused-clause-step g c = λ p s stands.
@@ -48,14 +50,14 @@ returns-in-Refused-clause-step g c = λ p s stands.
     let take : Handle → Option PartShown → Step = λ h part. accept (read_line n (shown p (view p s) h part)) s in
     subst (Targets k p (step_read p s n (target_seen c.args.target.now)) take) c.in-Refused.is (c.in_ok-what.ensures.step p s stands take)
 
-pub returns-in_err-snapshot-in-Shown-clause-looks : goal.returns-in_err-snapshot-in-Shown-clause-looks
-returns-in_err-snapshot-in-Shown-clause-looks g c = λ p s stands.
+pub returns-in_err-text-in-Shown-clause-looks : goal.returns-in_err-text-in-Shown-clause-looks
+returns-in_err-text-in-Shown-clause-looks g c = λ p s stands.
     let k : Kept = c.args.self.now in
     let n = c.args.n in
     let target = target_seen c.args.target.now in
     let what = c.in-Shown.what in
     let before = g.S.Count.Steps.looks c.args.steps.now in
-    let after = g.S.Count.Steps.looks c.look.new.steps in
+    let after = g.S.Count.Steps.looks c.read_line_of.new.steps in
     let take : Handle → Option PartShown → Step = λ h part. accept (read_line n (shown p (view p s) h part)) s in
     let made : (h : Handle) × (part : Option PartShown) × (step_read p s n target ≡ take h part) × ShowsPart p (look_of what) h part =
     subst (Targets k p (step_read p s n target) take) c.in-Shown.is (c.in_ok-what.ensures.step p s stands take) in
@@ -64,16 +66,16 @@ returns-in_err-snapshot-in-Shown-clause-looks g c = λ p s stands.
     let records : g.S.RecordSource.records c.view.result.now ≡ view p s =
     c.view.ensures ∙ ap (λ (x : Kept). view_of x.layers) c.self.view_is ∙ view_is k.layers p s stands.base stands.layers in
     event_reads p k s (events.read target) (step_read p s n target) (read_line n (shown p (view p s) made.0 made.1)) s made.2 before after
-    (read_of (slots (view p s)) (look_of what)) (reads (view p s)) (subst (λ (m : Records). after ≤ before + standings (read_of (slots m) (look_of what))) records c.look.ensures.looks)
+    (read_of (slots (view p s)) (look_of what)) (reads (view p s)) (subst (λ (m : Records). after ≤ before + standings (read_of (slots m) (look_of what))) records c.read_line_of.ensures.looks)
 
-pub returns-in_ok-snapshot-in-Shown-clause-looks : goal.returns-in_ok-snapshot-in-Shown-clause-looks
-returns-in_ok-snapshot-in-Shown-clause-looks g c = λ p s stands.
+pub returns-in_ok-text-in-Shown-clause-looks : goal.returns-in_ok-text-in-Shown-clause-looks
+returns-in_ok-text-in-Shown-clause-looks g c = λ p s stands.
     let k : Kept = c.args.self.now in
     let n = c.args.n in
     let target = target_seen c.args.target.now in
     let what = c.in-Shown.what in
     let before = g.S.Count.Steps.looks c.args.steps.now in
-    let after = g.S.Count.Steps.looks c.look.new.steps in
+    let after = g.S.Count.Steps.looks c.read_line_of.new.steps in
     let take : Handle → Option PartShown → Step = λ h part. accept (read_line n (shown p (view p s) h part)) s in
     let made : (h : Handle) × (part : Option PartShown) × (step_read p s n target ≡ take h part) × ShowsPart p (look_of what) h part =
     subst (Targets k p (step_read p s n target) take) c.in-Shown.is (c.in_ok-what.ensures.step p s stands take) in
@@ -82,4 +84,4 @@ returns-in_ok-snapshot-in-Shown-clause-looks g c = λ p s stands.
     let records : g.S.RecordSource.records c.view.result.now ≡ view p s =
     c.view.ensures ∙ ap (λ (x : Kept). view_of x.layers) c.self.view_is ∙ view_is k.layers p s stands.base stands.layers in
     event_reads p k s (events.read target) (step_read p s n target) (read_line n (shown p (view p s) made.0 made.1)) s made.2 before after
-    (read_of (slots (view p s)) (look_of what)) (reads (view p s)) (subst (λ (m : Records). after ≤ before + standings (read_of (slots m) (look_of what))) records c.look.ensures.looks)
+    (read_of (slots (view p s)) (look_of what)) (reads (view p s)) (subst (λ (m : Records). after ≤ before + standings (read_of (slots m) (look_of what))) records c.read_line_of.ensures.looks)
