@@ -1,10 +1,11 @@
 //! The fields of a record.
-ghost use Rattle.std.specs.Prelude.{◌≡◌, ◌==◌, [], length, option_copied, IfOk, OnOk, OnErr};
+ghost use Rattle.std.specs.Prelude.{◌≡◌, ◌==◌, [], Some, length, option_copied, IfOk, OnOk, OnErr};
 ghost use Rattle.std.specs.Cmp.Lexicographic.{slice_cmp};
 ghost use Rattle.std.specs.FinMap.Entries.{put};
 ghost use Rattle.std.specs.Map.{keys_of};
 ghost use Rattle.std.specs.Ordering.{nat_cmp};
 ghost use Rattle.gql_plain.specs.Order.{AreInOrder, member_at};
+ghost use Rattle.store_record.specs.declared.field.Field.{Field as FieldValue};
 
 use gql_plain::{Id, NoMemory, OptIds, Plain, SharedText, Words};
 use std::alloc::Global;
@@ -153,6 +154,44 @@ impl Fields {
             Ok(at) => Some(self.entries[at].field()),
             Err(_) => None,
         }
+    }
+
+    /// The field under a key, or None where there is none, as by `get`; takes no memory.
+    ///
+    /// The place `near` is looked at first, and is then left where the next key may stand. So fields that are
+    /// asked for in the order of their keys are mostly found without a search, by as many comparisons as fields.
+    /// Any number may be given: 0 at the beginning.
+    pub fn near(&self, key: &str, near: &mut usize) -> Option<&Field>
+        ensures { option_copied result ≡ member_at self.now key.now }
+    {
+        if let Some(field) = self.field_at(*near, key) {
+            *near = near.wrapping_add(1);
+            return Some(field);
+        }
+        let found = self.entries.binary_search_by(|entry| entry.key().cmp(key));
+        match found {
+            Ok(at) => {
+                *near = at.wrapping_add(1);
+                Some(self.entries[at].field())
+            }
+            Err(at) => {
+                *near = at;
+                None
+            }
+        }
+    }
+
+    /// The field at a place, where its key is this one; takes no memory.
+    fn field_at(&self, place: usize, key: &str) -> Option<&Field>
+        ensures { (f : FieldValue) → option_copied result ≡ Some f → member_at self.now key.now ≡ Some f }
+    {
+        if place < self.entries.len() {
+            let entry = &self.entries[place];
+            if entry.key() == key {
+                return Some(entry.field());
+            }
+        }
+        None
     }
 
     /// Puts a field under a key, in the place of the one that stands there.
