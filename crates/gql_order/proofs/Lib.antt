@@ -1,2 +1,4 @@
 pub mod Borrowed
+pub mod HeadLaws
 pub mod Moved
+pub mod RankLaws

@@ -1,9 +1,15 @@
 //! The first bytes of texts, as numbers.
 ghost use Rattle.std.specs.List.Sorted.{IsPermutation};
-ghost use Rattle.std.specs.Prelude.{◌≡◌, IfOk, get_or};
-ghost use Rattle.gql_order.specs.Heads.{head_from};
+ghost use Rattle.std.specs.Prelude.{◌≡◌, ℕ, List, true, IfOk, get_or, if◌then◌else◌, map};
+ghost use Rattle.gql_order.specs.Heads.{IsHead, ReadsText};
+ghost use Rattle.gql_order.specs.Ranks.{AllRanked, IsRank, RanksRise, rank_lt};
+ghost use Rattle.std.specs.Cmp.Lexicographic.{slice_cmp};
+ghost use Rattle.std.specs.Ordering.{is_lt, nat_cmp};
+ghost use Rattle.gql_plain.specs.Order.{AreInOrder};
 
 use gql_plain::NoMemory;
+use std::alloc::Global;
+use std::cmp::Ordering;
 
 /// The most items that are left as they stand.
 const FEW: usize = 20;
@@ -11,36 +17,162 @@ const FEW: usize = 20;
 /// One more than the number of those of which it is seen what their texts begin with.
 const SAMPLES: usize = 9;
 
+/// Items in the order of a few bytes of their texts.
+#[derive(Drop)]
+pub struct HeadOrder<T> {
+    /// The items.
+    pub items: Vec<T>,
+    /// Whether it is known that each text stands after the one before it. It may be so where it is not known.
+    pub is_rising: bool,
+}
+
+/// Where the text of an item stands, as far as a few bytes tell.
+#[derive(Clone, Copy)]
+struct Rank {
+    /// 1 where the text begins with what texts mostly begin with, 0 where it stands before that, 2 behind.
+    class: u8,
+    /// Eight bytes of the text as one number: of class 1 those behind what texts mostly begin with.
+    head: u64,
+}
+
+/// An item and its rank.
+#[derive(Drop)]
+struct Ranked<T> {
+    rank: Rank,
+    item: T,
+}
+
 /// The items in the order of eight bytes of their texts, behind those that texts mostly begin with, where
 /// they are many: numbers are compared sooner than texts. A sort that follows finds nearly all in order. n
 /// items take about n * log n steps, and memory for n numbers.
-pub fn by_heads<T: Drop, F: Fn(&T) -> &str>(mut items: Vec<T>, text: F) -> Result<Vec<T>, NoMemory>
+pub fn by_heads<T: Drop, F: Fn(&T) -> &str>(items: Vec<T>, text: F) -> Result<Vec<T>, NoMemory>
     requires { F.IsAlwaysCallable text }
     ensures { IfOk result (λ moved. IsPermutation items.items moved.items) }
 {
+    let moved = ordered_by_heads(items, text)?;
+    Ok(moved.items)
+}
+
+/// The items in the order of `by_heads`, and whether that is known to be the byte order of their texts, each
+/// once: where no two of the eight bytes are equal no text is read again. Of few items, which are left as
+/// they stand, it is not known.
+pub fn ordered_by_heads<T: Drop, F: Fn(&T) -> &str>(
+    items: Vec<T>,
+    text: F,
+) -> Result<HeadOrder<T>, NoMemory>
+    requires { F.IsAlwaysCallable text }
+    ensures moved { IfOk result (λ moved. IsPermutation items.items moved.items.items) }
+    ensures rising { IfOk result (λ moved. moved.is_rising ≡ true → (key : T → List ℕ) → ReadsText F.Fn key text → AreInOrder (map key moved.items.items)) }
+{
     if items.len() <= FEW {
-        return Ok(items);
+        return Ok(HeadOrder {
+            items,
+            is_rising: false,
+        });
     }
-    let common = common_start(&items, &text);
-    items.sort_by_cached_key(|item| head_of(text(item), common))?;
+    let start = start_of(*items.allocator(), &items, &text)?;
+    let mut ranked = ranked_of(items, &text, &start)?;
+    ranked.sort_by(|one, other| one.rank.compare(other.rank))?;
+    let is_rising = do_rise(&ranked);
+    Ok(HeadOrder {
+        items: items_of(ranked)?,
+        is_rising,
+    })
+}
+
+/// The items, each with its rank.
+fn ranked_of<T: Drop, F: Fn(&T) -> &str>(
+    items: Vec<T>,
+    text: &F,
+    start: &[u8],
+) -> Result<Vec<Ranked<T>>, NoMemory>
+    requires { F.IsAlwaysCallable text.now }
+    ensures same { IfOk result (λ ranked. map (λ r. r.item) ranked.items ≡ items.items) }
+    ensures ranks { IfOk result (λ ranked. (key : T → List ℕ) → ReadsText F.Fn key text.now → AllRanked key start.now ranked.items) }
+{
+    let mut ranked = Vec::with_capacity(*items.allocator(), items.len())?;
+    'items: for item in items {
+        let rank = rank_of(text(&item), start);
+        ranked.push(Ranked { rank, item })?;
+    }
+    Ok(ranked)
+}
+
+/// The items without their ranks.
+fn items_of<T: Drop>(ranked: Vec<Ranked<T>>) -> Result<Vec<T>, NoMemory>
+    ensures { IfOk result (λ items. items.items ≡ map (λ r. r.item) ranked.items) }
+{
+    let mut items = Vec::with_capacity(*ranked.allocator(), ranked.len())?;
+    'ranked: for next in ranked {
+        items.push(next.item)?;
+    }
     Ok(items)
 }
 
-/// The eight bytes of a text from a place on as one number, of which the first counts most, with zeros
-/// behind its end; takes no memory.
-fn head_of(text: &str, from: usize) -> u64
-    ensures { result ≡ head_from text.now from }
+/// Whether each rank stands after the one before it; takes no memory.
+fn do_rise<T>(ranked: &[Ranked<T>]) -> bool
+    ensures { result ≡ true → RanksRise ranked.now }
+{
+    ranked.is_sorted_by(|one, other| one.rank.is_before(other.rank))
+}
+
+impl Rank {
+    /// The order of two ranks; takes no memory.
+    fn compare(self, other: Rank) -> Ordering {
+        self.class
+            .cmp(&other.class)
+            .then(self.head.cmp(&other.head))
+    }
+
+    /// Whether a rank stands before another; takes no memory.
+    fn is_before(self, other: Rank) -> bool
+        ensures { result ≡ rank_lt self other }
+    {
+        self.class < other.class || self.class == other.class && self.head < other.head
+    }
+}
+
+/// The rank of a text among those that mostly begin with some bytes; takes no memory.
+fn rank_of(text: &str, start: &[u8]) -> Rank
+    ensures { IsRank start.now text.now result }
 {
     let bytes = text.as_bytes();
+    match bytes.strip_prefix(start) {
+        Some(rest) => Rank {
+            class: 1,
+            head: head_of(rest),
+        },
+        None => Rank {
+            class: side_of(bytes, start),
+            head: head_of(bytes),
+        },
+    }
+}
+
+/// 0 where bytes stand before others, else 2; takes no memory.
+fn side_of(bytes: &[u8], start: &[u8]) -> u8
+    ensures { result ≡ (if is_lt (slice_cmp nat_cmp bytes.now start.now) then 0 else 2) }
+{
+    if bytes.cmp(start).is_lt() {
+        return 0;
+    }
+    2
+}
+
+/// The first eight bytes as one number, of which the first counts most, with zeros behind the end; takes no
+/// memory.
+fn head_of(bytes: &[u8]) -> u64
+    ensures { IsHead bytes.now result }
+{
     u64::from_be_bytes([
-        byte_at(bytes, from),
-        byte_at(bytes, from.wrapping_add(1)),
-        byte_at(bytes, from.wrapping_add(2)),
-        byte_at(bytes, from.wrapping_add(3)),
-        byte_at(bytes, from.wrapping_add(4)),
-        byte_at(bytes, from.wrapping_add(5)),
-        byte_at(bytes, from.wrapping_add(6)),
-        byte_at(bytes, from.wrapping_add(7)),
+        byte_at(bytes, 0),
+        byte_at(bytes, 1),
+        byte_at(bytes, 2),
+        byte_at(bytes, 3),
+        byte_at(bytes, 4),
+        byte_at(bytes, 5),
+        byte_at(bytes, 6),
+        byte_at(bytes, 7),
     ])
 }
 
@@ -54,22 +186,27 @@ fn byte_at(bytes: &[u8], at: usize) -> u8
     }
 }
 
-/// How many first bytes the texts of some items have in common, of those that stand evenly apart; takes no
-/// memory. The last item may be of another kind, and is left out.
-fn common_start<T, F: Fn(&T) -> &str>(items: &[T], text: &F) -> usize
+/// What the texts of some items begin with, of those that stand evenly apart. The last item may be of
+/// another kind, and is left out.
+fn start_of<T, F: Fn(&T) -> &str>(alloc: Global, items: &[T], text: &F) -> Result<Vec<u8>, NoMemory>
     requires { F.IsAlwaysCallable text.now }
 {
+    let mut start = Vec::new(alloc);
     let step = items.len() / SAMPLES;
     let Some(first) = items.get(step) else {
-        return 0;
+        return Ok(start);
     };
-    let mut common = text(first).len();
+    let first = text(first);
+    let mut common = first.len();
     'samples: for sample in 2..SAMPLES {
         if let Some(item) = items.get(step.wrapping_mul(sample)) {
-            common = common_to(text(first), text(item), common);
+            common = common_to(first, text(item), common);
         }
     }
-    common
+    if let Some(bytes) = first.as_bytes().get(..common) {
+        start.extend_from_slice(bytes)?;
+    }
+    Ok(start)
 }
 
 /// How many first bytes two texts have in common, at most so many; takes no memory.
