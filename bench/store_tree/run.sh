@@ -1,6 +1,6 @@
 #!/bin/bash
-# Times inserts into a Tree, by `insert` and by `put`, and gets from it, and the same of std's
-# BTreeMap in the same run, at 1, 2 and 4 times 131,072 keys in mixed order. Each figure is the least
+# Times inserts into a Tree, by `insert` and by `put`, gets from it, and new values for the keys of a
+# full one as a commit gives them, by `write`, and the same of std's BTreeMap in the same run, at 1, 2 and 4 times 131,072 keys in mixed order. Each figure is the least
 # of three rounds. The program is made and run in a folder of its own outside the repository.
 set -eu
 repository=$(cd "$(dirname "$0")/../.." && pwd)
@@ -31,7 +31,7 @@ use std::collections::BTreeMap;
 use std::io;
 use std::rc::Rc;
 use std::time::{Duration, Instant};
-use store_tree::Tree;
+use store_tree::{Item, Tree};
 
 /// The number that stands at a place of the mixed order: each number up to the mask, one less than
 /// a power of two, stands once, and neighbours lie far apart.
@@ -84,6 +84,49 @@ fn filled_map(alloc: Global, keys: Vec<String>) -> Result<BTreeMap<String, Rc<u6
     Ok(map)
 }
 
+/// One commit: the version before is kept until all that may fail is done, and then the entry is
+/// written in place, or put in where it comes back.
+fn committed_tree(
+    alloc: Global,
+    tree: Tree<u64>,
+    key: String,
+    number: u64,
+    steps: &mut Counts,
+) -> Result<Tree<u64>, NoMemory> {
+    let before = tree.version()?;
+    let item = Item::new(alloc, Words::from_string(key), Rc::new(alloc, number)?)?;
+    drop(before);
+    let mut after = tree;
+    match after.write(item) {
+        None => Ok(after),
+        Some(item) => after.put_item(alloc, item, steps),
+    }
+}
+
+fn written_tree(alloc: Global, tree: Tree<u64>, keys: Vec<String>) -> Result<Tree<u64>, NoMemory> {
+    let mut steps = Counts::new();
+    let mut after = tree;
+    let mut number: u64 = 0;
+    for key in keys {
+        number = number.wrapping_add(2);
+        after = committed_tree(alloc, after, key, number, &mut steps)?;
+    }
+    Ok(after)
+}
+
+fn written_map(
+    alloc: Global,
+    map: &mut BTreeMap<String, Rc<u64>>,
+    keys: Vec<String>,
+) -> Result<(), NoMemory> {
+    let mut number: u64 = 0;
+    for key in keys {
+        number = number.wrapping_add(2);
+        drop(map.insert(key, Rc::new(alloc, number)?)?);
+    }
+    Ok(())
+}
+
 fn sum_in_tree(tree: &Tree<u64>, keys: &[String]) -> u64 {
     let mut sum: u64 = 0;
     for key in keys {
@@ -108,6 +151,8 @@ struct Times {
     insert: u64,
     put: u64,
     map_insert: u64,
+    write: u64,
+    map_write: u64,
     get: u64,
     map_get: u64,
 }
@@ -140,7 +185,39 @@ fn fill_times(rt: &HostRuntime, count: u64, times: &mut Times) -> io::Result<boo
         return Ok(false);
     };
     drop(inserted);
-    get_times(rt, &put, &map, count, times)
+    if !get_times(rt, &put, &map, count, times)? {
+        return Ok(false);
+    }
+    write_times(rt, put, map, count, times)
+}
+
+/// The times of new values for all keys, and whether the two hold the same.
+fn write_times(
+    rt: &HostRuntime,
+    tree: Tree<u64>,
+    map: BTreeMap<String, Rc<u64>>,
+    count: u64,
+    times: &mut Times,
+) -> io::Result<bool> {
+    let alloc = rt.alloc();
+    let (Ok(first), Ok(second), Ok(keys)) = (
+        key_texts(alloc, count),
+        key_texts(alloc, count),
+        key_texts(alloc, count),
+    ) else {
+        return Ok(false);
+    };
+    let start = Instant::now(rt)?;
+    let written = written_tree(alloc, tree, first);
+    times.write = times.write.min(each(start.elapsed(rt)?, count));
+    let mut map = map;
+    let start = Instant::now(rt)?;
+    let outcome = written_map(alloc, &mut map, second);
+    times.map_write = times.map_write.min(each(start.elapsed(rt)?, count));
+    let (Ok(written), Ok(())) = (written, outcome) else {
+        return Ok(false);
+    };
+    Ok(sum_in_tree(&written, &keys) == sum_in_map(&map, &keys) && written.len() == count)
 }
 
 /// The times of look-ups, and whether the two hold the same.
@@ -177,6 +254,8 @@ fn main(rt: HostRuntime) -> io::Result<()> {
             insert: u64::MAX,
             put: u64::MAX,
             map_insert: u64::MAX,
+            write: u64::MAX,
+            map_write: u64::MAX,
             get: u64::MAX,
             map_get: u64::MAX,
         };
@@ -188,6 +267,7 @@ fn main(rt: HostRuntime) -> io::Result<()> {
         print_ratio(&rt, count, "insert", times.insert, times.map_insert)?;
         print_ratio(&rt, count, "put", times.put, times.map_insert)?;
         print_ratio(&rt, count, "get", times.get, times.map_get)?;
+        print_ratio(&rt, count, "write", times.write, times.map_write)?;
     }
     Ok(())
 }

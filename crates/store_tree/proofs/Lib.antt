@@ -10,3 +10,4 @@ pub mod Order
 pub mod Places
 pub mod Seen
 pub mod Sides
+pub mod Writing

@@ -4,3 +4,4 @@ pub mod KeyOrder
 pub mod Made
 pub mod Place
 pub mod Shape
+pub mod Written

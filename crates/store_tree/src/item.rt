@@ -30,10 +30,11 @@ pub(crate) struct Entry<V> {
     pub(crate) value: Rc<V>,
 }
 
-/// An entry with the digest of its key, so that few comparisons read the key itself. It is seen as
-/// the key and the value.
+/// An entry that is ready to be put into a tree. It is seen as the key and the value.
+///
+/// It has the digest of its key, so that few comparisons read the key itself.
 #[derive(Drop)]
-pub(crate) struct Item<V> {
+pub struct Item<V> {
     digest: u64,
     entry: Rc<Entry<V>>,
 }
@@ -50,8 +51,8 @@ impl<V> Model for Item<V> {
 }
 
 impl<V: Drop> Item<V> {
-    /// An entry of the key and the value.
-    pub(crate) fn new(alloc: Global, key: Words, value: Rc<V>) -> Result<Item<V>, NoMemory>
+    /// An entry of the key and the value. The error means that no memory is left.
+    pub fn new(alloc: Global, key: Words, value: Rc<V>) -> Result<Item<V>, NoMemory>
         ensures { IfOk result (λ i. i ≡ (key, value.value)) }
     {
         let digest = digest(key.as_str());
@@ -60,7 +61,7 @@ impl<V: Drop> Item<V> {
     }
 
     /// The key; takes no memory.
-    pub(crate) fn key(&self) -> &str
+    pub fn key(&self) -> &str
         ensures { result.now ≡ self.now.0 }
     {
         self.entry.key.as_str()
@@ -81,14 +82,14 @@ impl<V: Drop> Item<V> {
     }
 
     /// The value; takes no memory.
-    pub(crate) fn value(&self) -> &V
+    pub fn value(&self) -> &V
         ensures { result.now ≡ self.now.1 }
     {
         self.entry.value.as_ref()
     }
 
-    /// The same entry once more, in constant time.
-    pub(crate) fn share(&self) -> Result<Item<V>, NoMemory>
+    /// The same entry once more, in constant time. The error means that it can't be shared by more.
+    pub fn share(&self) -> Result<Item<V>, NoMemory>
         ensures { IfOk result (λ i. i ≡ self.now) }
     {
         Ok(Item {

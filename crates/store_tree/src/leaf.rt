@@ -5,6 +5,7 @@ ghost use Rattle.std.specs.Option.{option_copied};
 ghost use Rattle.store_tree.specs.Contents.{keys_of, without_tied};
 ghost use Rattle.store_tree.specs.KeyOrder.{digest_of, key_cmp};
 ghost use Rattle.store_tree.specs.Place.{HasUpTo, IsPlace, IsPut};
+ghost use Rattle.store_tree.specs.Written.{IsLeafWritten};
 
 use crate::item::Item;
 use gql_plain::{NoMemory, Words};
@@ -95,6 +96,30 @@ impl<V: Drop> Leaf<V> {
                 Ok(Some(self.part()?))
             }
         }
+    }
+
+    /// Puts an entry into the leaf, in place of one that has the same key. A leaf without the key
+    /// that has no room for one more stays, and the entry comes back. Takes no memory.
+    pub(crate) fn write(&mut self, item: Item<V>) -> Option<Item<V>>
+        requires in_order { T (is_sorted key_cmp self.old) }
+        requires few { HasUpTo MOST self.old }
+        ensures { IsLeafWritten MOST item self.old self.new result }
+    {
+        let at = match self.place(item.digest(), item.key()) {
+            Ok(at) => {
+                self.items[at] = item;
+                return None;
+            }
+            Err(at) => at,
+        };
+        let len = self.items.len();
+        if len >= MOST || len >= self.items.capacity() {
+            return Some(item);
+        }
+        if let Err(refused) = self.items.insert(at, item) {
+            return Some(refused.value);
+        }
+        None
     }
 
     /// Parts a leaf that has one entry too many.

@@ -5,9 +5,11 @@ mod balance;
 mod branch;
 mod change;
 mod in_place;
-mod item;
+pub mod item;
 mod leaf;
 mod leaves;
 pub mod tree;
+mod written;
 
+pub use item::Item;
 pub use tree::Tree;

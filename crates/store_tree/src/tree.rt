@@ -1,5 +1,5 @@
 //! The tree: a map from text whose versions share their nodes.
-ghost use Rattle.std.specs.Prelude.{◌≡◌, ◌+◌, ◌*◌, ◌≤◌, [], length, map, IfOk, T};
+ghost use Rattle.std.specs.Prelude.{◌≡◌, ◌+◌, ◌*◌, ◌≤◌, [], length, map, IfOk, IfSome, None, T};
 ghost use Rattle.std.specs.Cmp.Lexicographic.{slice_cmp};
 ghost use Rattle.std.specs.FinMap.{find, put, is_sorted};
 ghost use Rattle.std.specs.Option.{option_copied};
@@ -11,6 +11,7 @@ use crate::branch::Branch;
 use crate::change::{with_entry, without_entry};
 use crate::in_place::put_entry;
 use crate::item::{Item, digest};
+use crate::written::write_entry;
 use gql_plain::{Ids, NoMemory, Steps, Words};
 use std::alloc::Global;
 use std::marker::Model;
@@ -127,6 +128,42 @@ impl<V: Drop> Tree<V> {
         let item = Item::new(alloc, key, value)?;
         put_entry(alloc, &mut root, item, steps)?;
         Ok(Tree { root })
+    }
+
+    /// As `put`, with an entry that is made already.
+    pub fn put_item<C: Steps>(
+        self,
+        alloc: Global,
+        item: Item<V>,
+        steps: &mut C,
+    ) -> Result<Tree<V>, NoMemory>
+        ensures pairs { IfOk result (λ t. t.pairs ≡ put (slice_cmp nat_cmp) item.0 item.1 self.pairs) }
+        ensures in_order { KeysRise self.pairs }
+        ensures looks { C.looks steps.new ≡ C.looks steps.old }
+        ensures applies { C.applies steps.new ≡ C.applies steps.old }
+        ensures nodes { C.nodes steps.new ≤ C.nodes steps.old + 8 * (self.height + 1) }
+        ensures bound { C.nodes steps.new ≤ C.nodes steps.old
+            + 8 * (2 * binary_digits (length self.pairs) + 1) }
+    {
+        let mut root = self.into_root();
+        put_entry(alloc, &mut root, item, steps)?;
+        Ok(Tree { root })
+    }
+
+    /// Puts an entry into the tree, in place of one that has the same key, where that takes no
+    /// memory: no other version holds the leaf and the nodes on the way to the key, and the leaf has
+    /// the key or room for one more. Otherwise the tree stays as it was, and the entry comes back. No
+    /// node is made. Takes no memory.
+    pub fn write(&mut self, item: Item<V>) -> Option<Item<V>>
+        ensures written { result ≡ None → self.new.pairs ≡ put (slice_cmp nat_cmp) item.0 item.1 self.old.pairs }
+        ensures height { self.new.height ≡ self.old.height }
+        ensures given_back { IfSome result (λ back. (back ≡ item) × (self.new ≡ self.old)) }
+        ensures in_order { KeysRise self.old.pairs }
+    {
+        if self.root.count() == u64::MAX {
+            return Some(item);
+        }
+        write_entry(&mut self.root, item)
     }
 
     /// The map without the key.
