@@ -128,10 +128,54 @@ fn a_change_of_a_version_leaves_the_old_one(rt: HostRuntime) -> Result<(), Fail>
     let empty = Versions::new(alloc);
     assert!(rt; leaves_the_old(alloc, &empty, &mut steps)?);
     assert!(rt; steps.looks == 6 && steps.applies == 0);
-    // A leaf for each of four changes.
-    assert!(rt; steps.nodes == 4);
     assert!(rt; leaves_a_version(alloc, empty, &mut steps)?);
-    // The first leaf, and the one that the last change leaves as it is.
-    assert!(rt; steps.nodes == 6);
+    // So few changes stand beside the tree.
+    assert!(rt; steps.nodes == 0);
+    Ok(())
+}
+
+/// The map with four live records of a type, of a map that is not used again.
+fn put_four<S: RecordSource>(
+    alloc: Global,
+    source: S,
+    type_name: &str,
+    steps: &mut S::Count,
+) -> Result<S, NoMemory> {
+    let source = put_type(alloc, source, "a", type_name, steps)?;
+    let source = put_type(alloc, source, "b", type_name, steps)?;
+    let source = put_type(alloc, source, "c", type_name, steps)?;
+    put_type(alloc, source, "d", type_name, steps)
+}
+
+#[test]
+fn settled_changes_are_written_in_place(rt: HostRuntime) -> Result<(), Fail> {
+    let alloc = rt.alloc();
+    let mut steps = Counts::new();
+    let source = put_four(alloc, Versions::new(alloc), "A", &mut steps)?;
+    let mut source = put_four(alloc, source, "B", &mut steps)?;
+    // The first four have made room for the others: one leaf.
+    assert!(rt; steps.nodes == 1);
+    source.settle();
+    let source = put_four(alloc, source, "C", &mut steps)?;
+    assert!(rt; steps.nodes == 1);
+    let text = shown(alloc, &source, &mut steps)?;
+    assert!(rt; text.as_str() == "C C C abcd");
+    Ok(())
+}
+
+#[test]
+fn what_a_version_holds_is_not_settled(rt: HostRuntime) -> Result<(), Fail> {
+    let alloc = rt.alloc();
+    let mut steps = Counts::new();
+    let source = put_four(alloc, Versions::new(alloc), "A", &mut steps)?;
+    let mut source = put_four(alloc, source, "B", &mut steps)?;
+    let version = source.version()?;
+    source.settle();
+    let source = put_type(alloc, source, "a", "C", &mut steps)?;
+    // The list has still been full, and the version holds the leaf.
+    assert!(rt; steps.nodes == 2);
+    let new = shown(alloc, &source, &mut steps)?;
+    let old = shown(alloc, &version, &mut steps)?;
+    assert!(rt; new.as_str() == "C B B abcd" && old.as_str() == "B B B abcd");
     Ok(())
 }

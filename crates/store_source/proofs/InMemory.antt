@@ -45,7 +45,7 @@ over : (b : Bool) (w r : Option (Rc Slot Global)) → slots_of (cond b w r) ≡ 
 over true w r = refl
 over false w r = refl
 
-ties : (id q : List ℕ) → bytes_eq id q ≡ eq_by_cmp (slice_cmp nat_cmp) q id
+pub ties : (id q : List ℕ) → bytes_eq id q ≡ eq_by_cmp (slice_cmp nat_cmp) q id
 ties id q = nat_list_eq_equiv.symm id q ∙ sym (is_eq-slice_cmp q id)
 
 module _ (m n : Held) (id : List ℕ) where
@@ -95,14 +95,14 @@ texts_same : (es : Rows) → map string_bytes (keys_of es) ≡ map (λ pair. pai
 texts_same [] = refl
 texts_same (e ∷ es) = ap (λ texts. string_bytes e.0 ∷ texts) (texts_same es)
 
-no_length : (pairs : List (List ℕ × Slot)) → length pairs ≡ 0 → pairs ≡ []
+pub no_length : (pairs : List (List ℕ × Slot)) → length pairs ≡ 0 → pairs ≡ []
 no_length [] e = refl
 no_length (pair ∷ pairs) e = absurd (omega arith)
 
 none : entries {X = Slot} {R = slice_cmp nat_cmp} empty ≡ []
 none = no_length _ (sym (len-entries (empty {X = Slot} {R = slice_cmp nat_cmp})) ∙ len-empty (slice_cmp nat_cmp) Slot)
 
-entries_made : (pairs : List (List ℕ × Slot)) → entries (from_entries {R = slice_cmp nat_cmp} pairs) ≡ by_bytes pairs
+pub entries_made : (pairs : List (List ℕ × Slot)) → entries (from_entries {R = slice_cmp nat_cmp} pairs) ≡ by_bytes pairs
 entries_made [] = none
 entries_made (pair ∷ pairs) = entries-insert nat_list_cmp_total (from_entries pairs) pair.0 pair.1 ∙ ap (put (slice_cmp nat_cmp) pair.0 pair.1) (entries_made pairs)
 

@@ -1,10 +1,10 @@
--- The records of a tree: what a look-up, a change and the keys of the tree are there.
+-- The records of a tree: what its keys and the number of its nodes are there.
 use Rattle.std.proofs.Common.{◌≡◌, ℕ, ◌+◌, ◌*◌, ◌≤◌, List, [], length, sym, ap, subst, ◌∙◌, nat_cmp}
 use Rattle.std.specs.Cmp.Lexicographic.{slice_cmp, nat_list_cmp_total}
-use Rattle.std.specs.FinMap.{find, put, empty, get, insert, remove, keys, len, from_sorted, get-empty, get-from_sorted, len-entries, entries-from_sorted, same_map, slice_cmp-IsAntisymmetric, nat_cmp-IsAntisymmetric}
+use Rattle.std.specs.FinMap.{empty, keys, len, from_sorted, get-empty, get-from_sorted, len-entries, entries-from_sorted, same_map, slice_cmp-IsAntisymmetric, nat_cmp-IsAntisymmetric}
 use Rattle.store_record.specs.declared.record.Slot.{Slot}
-use Rattle.store_tree.specs.Contents.{KeysRise, binary_digits, keys_of, without_key}
-use Rattle.store_tree.proofs.AsMap.{keys-from_sorted, from_sorted-put, from_sorted-without_key}
+use Rattle.store_tree.specs.Contents.{KeysRise, binary_digits, keys_of}
+use Rattle.store_tree.proofs.AsMap.{keys-from_sorted}
 use Rattle.store_source.specs.Records.{Records, most_nodes}
 
 pub tree_empty : (pairs : List (List ℕ × Slot)) → pairs ≡ [] → from_sorted {R = slice_cmp nat_cmp} pairs ≡ empty
@@ -14,15 +14,6 @@ tree_empty pairs e =
     (λ q. get-from_sorted (slice_cmp nat_cmp) [] q tt ∙ sym (get-empty (slice_cmp nat_cmp) q))
 
 module _ (pairs : List (List ℕ × Slot)) (seen : Records) (is : from_sorted pairs ≡ seen) (rise : KeysRise pairs) where
-  pub tree_get : (id : List ℕ) → find (slice_cmp nat_cmp) id pairs ≡ get seen id
-  tree_get id = sym (get-from_sorted (slice_cmp nat_cmp) pairs id rise) ∙ ap (λ m. get m id) is
-
-  pub tree_put : (id : List ℕ) (made slot : Slot) (after : List (List ℕ × Slot)) → made ≡ slot → after ≡ put (slice_cmp nat_cmp) id made pairs → from_sorted after ≡ insert seen id slot
-  tree_put id made slot after same e = ap from_sorted e ∙ from_sorted-put pairs rise id made ∙ (λ i. insert (is i) id (same i))
-
-  pub tree_remove : (id : List ℕ) (after : List (List ℕ × Slot)) → after ≡ without_key id pairs → from_sorted after ≡ remove seen id
-  tree_remove id after e = ap from_sorted e ∙ from_sorted-without_key pairs rise id ∙ ap (λ m. remove m id) is
-
   pub tree_keys : keys_of pairs ≡ keys seen
   tree_keys = sym (keys-from_sorted pairs rise) ∙ ap keys is
 

@@ -161,6 +161,8 @@ impl RecordSource for Flat {
         })
     }
 
+    fn settle(&mut self) {}
+
     fn ids(&self) -> Result<Ids, NoMemory> {
         ids_of(self.alloc, &self.slots)
     }

@@ -3,6 +3,7 @@
 #![tactic(auto)]
 
 pub mod flat;
+mod newest;
 pub mod source;
 pub mod versions;
 

@@ -73,6 +73,12 @@ pub trait RecordSource: Sized + Drop {
     fn version(&self) -> Result<Self, NoMemory>
         ensures { IfOk result (λ m. records m ≡ records self.now) };
 
+    /// Brings what was changed last to where it stays, as far as that takes no memory; the map stays
+    /// the same. To be called where the map before is held no more: what nobody else holds is then
+    /// written in place. Takes no memory.
+    fn settle(&mut self)
+        ensures { records self.new ≡ records self.old };
+
     /// The ids that are not absent, in byte order.
     fn ids(&self) -> Result<Ids, NoMemory>
         ensures { IfOk result (λ ids. ids ≡ map.keys (records self.now)) };

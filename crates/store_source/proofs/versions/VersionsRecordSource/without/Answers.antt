@@ -1,12 +1,15 @@
-use Rattle.store_source.proofs.InTree.{tree_nodes, tree_remove}
+use Rattle.std.proofs.Common.{◌∙◌, ap}
+use Rattle.store_source.proofs.Laid.{laid_nodes, laid_removed}
 use Rattle.store_source.proofs.versions.VersionsRecordSource.without.Goals as goal
+use Rattle.store_tree.specs.Contents.{without_key}
 
-pub returns-in_err-remove-clause-nodes : goal.returns-in_err-remove-clause-nodes
-returns-in_err-remove-clause-nodes c = tree_nodes c.self.inside.tree.pairs _ c.self.view_is c.remove.ensures.in_order _ _ c.remove.ensures.bound
+pub returns-in_err-tree-clause-nodes : goal.returns-in_err-tree-clause-nodes
+returns-in_err-tree-clause-nodes c = laid_nodes c.self.inside.newest.items c.self.inside.tree.pairs _ c.self.view_is c.remove.ensures.in_order _ _ c.remove.ensures.bound
 
 pub returns-clause-records : goal.returns-clause-records
 returns-clause-records c =
-    tree_remove c.self.inside.tree.pairs _ c.self.view_is c.remove.ensures.in_order c.args.id.now _ c.in_ok-remove.ensures.pairs
+    laid_removed c.self.inside.newest.items c.in_ok-newest.newest.items c.self.inside.tree.pairs c.in_ok-tree.tree.pairs _ c.self.view_is c.remove.ensures.in_order c.args.id.now
+    (c.in_ok-newest.ensures ∙ ap (without_key c.args.id.now) c.deref.ensures.value) c.in_ok-tree.ensures.pairs
 
 pub returns-clause-nodes : goal.returns-clause-nodes
-returns-clause-nodes c = tree_nodes c.self.inside.tree.pairs _ c.self.view_is c.remove.ensures.in_order _ _ c.remove.ensures.bound
+returns-clause-nodes c = laid_nodes c.self.inside.newest.items c.self.inside.tree.pairs _ c.self.view_is c.remove.ensures.in_order _ _ c.remove.ensures.bound
