@@ -302,6 +302,7 @@ impl<S: RecordSource> Layers<S> {
                 take_out(&mut self.entries, gone);
                 self.base = base;
                 self.versions = versions;
+                self.base.settle();
                 Ok(())
             }
         }

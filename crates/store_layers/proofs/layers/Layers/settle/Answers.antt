@@ -3,8 +3,8 @@ use Rattle.store_layers.proofs.Begun.{begun_kept}
 use Rattle.store_layers.proofs.Drafted.{taken_off, room_above, confirmed_kept}
 use Rattle.store_layers.proofs.layers.Layers.settle.Goals as goal
 use Rattle.store_layers.specs.Drafts.{Suits}
-use Rattle.store_layers.specs.Layered.{Layered, view_of}
-use Rattle.store_layers.specs.Versions.{layered_of, layers_of}
+use Rattle.store_layers.specs.Layered.{Layered, entries_of, view_of}
+use Rattle.store_layers.specs.Versions.{AreVersions, layered_of, layers_of, shown}
 
 pub invariant_of-self-in-Begun : goal.invariant_of-self-in-Begun
 invariant_of-self-in-Begun g c =
@@ -40,4 +40,7 @@ invariant_of-self-in-Confirmed g c =
     let named = c.self.inside.entries.entries in
     let from = layered_of (r c.self.inside.base) named in
     let suits = subst (Suits r from) c.in-Confirmed.is (subst (λ (s : Layered). Suits r s c.args.draft.placing) (sym c.self.view_is) c.requires.suits) in
-    record { versions = confirmed_kept r (r c.in-Confirmed.base) named c.take_out.new.entries.entries c.in-Confirmed.gone c.in-Confirmed.versions.items suits.1 c.take_out.ensures }
+    record {
+      versions = subst (λ b. AreVersions b (entries_of (layers_of c.take_out.new.entries.entries)) (shown r c.in-Confirmed.versions.items)) (sym c.settle.ensures)
+          (confirmed_kept r (r c.in-Confirmed.base) named c.take_out.new.entries.entries c.in-Confirmed.gone c.in-Confirmed.versions.items suits.1 c.take_out.ensures);
+    }
