@@ -9,7 +9,7 @@ ghost use Rattle.store_record.specs.Equal.{entry_eq};
 ghost use Rattle.store_report.specs.ObjectRows.{HoldSame};
 ghost use Rattle.store_report.specs.RowFields.{AreOthers, DoFall, HasTypeKey, IsOrdered, entries_of, says_name};
 
-use gql_order::by_heads;
+use gql_order::ordered_by_heads;
 use gql_plain::{NoMemory, Plain};
 use store_record::{Field, Fields, SharedField};
 
@@ -23,7 +23,7 @@ pub(crate) enum Ordered {
 }
 
 /// The fields in order of their keys, each once. Those that are in order are left as they stand, and
-/// take no memory.
+/// take no memory; of many the keys are compared only where the order of heads leaves it open.
 pub(crate) fn by_key(fields: Vec<SharedField>) -> Result<Ordered, NoMemory>
     ensures same { IfOk result (λ ordered. HoldSame (entries_of ordered) fields.items) }
     ensures order { IfOk result IsOrdered }
@@ -31,19 +31,18 @@ pub(crate) fn by_key(fields: Vec<SharedField>) -> Result<Ordered, NoMemory>
     if do_rise(&fields) {
         return Ok(Ordered::Whole(Fields::from_entries(fields)));
     }
-    let moved = by_heads(fields, |field| field.key())?;
-    settled(moved)
+    let moved = ordered_by_heads(fields, |field| field.key())?;
+    if moved.is_rising {
+        return Ok(Ordered::Whole(Fields::from_entries(moved.items)));
+    }
+    settled(moved.items)
 }
 
-/// The fields in order of their keys, each once. Where the order of heads is theirs, as it mostly is, they
-/// are left as they stand.
+/// The fields in order of their keys, each once.
 fn settled(fields: Vec<SharedField>) -> Result<Ordered, NoMemory>
     ensures same { IfOk result (λ ordered. HoldSame (entries_of ordered) fields.items) }
     ensures order { IfOk result IsOrdered }
 {
-    if do_rise(&fields) {
-        return Ok(Ordered::Whole(Fields::from_entries(fields)));
-    }
     let mut sorted = in_order(fields)?;
     sorted.dedup_by(|next, kept| is_same(next, kept));
     if do_rise(&sorted) {
