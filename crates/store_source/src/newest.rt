@@ -25,10 +25,7 @@ pub(crate) fn newest_of<'a>(changes: &'a [Item<Slot>], id: &str) -> Option<&'a S
 }
 
 /// Puts a change to the front.
-pub(crate) fn put_newest(
-    changes: &mut Vec<Item<Slot>>,
-    change: Item<Slot>,
-) -> Result<(), NoMemory>
+pub(crate) fn put_newest(changes: &mut Vec<Item<Slot>>, change: Item<Slot>) -> Result<(), NoMemory>
     ensures { OnOk result (changes.new.items ≡ change ∷ changes.old.items) }
 {
     changes.insert(0, change)?;
@@ -36,10 +33,7 @@ pub(crate) fn put_newest(
 }
 
 /// A list that shares the changes; takes no memory where there is none.
-pub(crate) fn copy_all(
-    alloc: Global,
-    changes: &[Item<Slot>],
-) -> Result<Vec<Item<Slot>>, NoMemory>
+pub(crate) fn copy_all(alloc: Global, changes: &[Item<Slot>]) -> Result<Vec<Item<Slot>>, NoMemory>
     ensures { IfOk result (λ copy. copy.items ≡ changes.now) }
 {
     let mut copy = Vec::new(alloc);
@@ -65,11 +59,7 @@ pub(crate) fn copy_without(
 }
 
 /// Puts a change to the end of a list, shared, unless it is of the id.
-fn put_other(
-    copy: &mut Vec<Item<Slot>>,
-    change: &Item<Slot>,
-    id: &str,
-) -> Result<(), NoMemory>
+fn put_other(copy: &mut Vec<Item<Slot>>, change: &Item<Slot>, id: &str) -> Result<(), NoMemory>
     ensures { OnOk result (copy.new.items ≡ copy.old.items ++ without_key id.now (change.now ∷ [])) }
 {
     if is_of(change, id) {
@@ -87,11 +77,7 @@ fn is_of(change: &Item<Slot>, id: &str) -> bool
 }
 
 /// The ids of the changes and those of the list, in byte order.
-pub(crate) fn ids_with(
-    alloc: Global,
-    changes: &[Item<Slot>],
-    ids: &Ids,
-) -> Result<Ids, NoMemory>
+pub(crate) fn ids_with(alloc: Global, changes: &[Item<Slot>], ids: &Ids) -> Result<Ids, NoMemory>
     ensures { IfOk result (AreSortedOf (keys_of changes.now ++ ids.now)) }
 {
     let mut all = Vec::new(alloc);
