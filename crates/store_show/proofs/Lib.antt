@@ -7,3 +7,4 @@ pub mod ShowReads
 pub mod ShowSteps
 pub mod ShowTokens
 pub mod ShownAlike
+pub mod StoodSteps

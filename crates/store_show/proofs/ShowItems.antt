@@ -11,23 +11,24 @@ use Rattle.plan_order.specs.Walk.{Span, field_met, field_shown, fields_met, fiel
 use Rattle.schema_types.specs.Environments.{Values, arguments_in_environment}
 use Rattle.store_model.specs.Items.{Asked, Form, Item, Pointer, asked, pointed}
 use Rattle.store_model.specs.Walks.{Fields, Next, Trace, join_traces, mark_members, pointer_at, still}
-use Rattle.store_read.proofs.MetSteps.{met_joined, met_still}
-use Rattle.store_read.specs.Meeting.{Meeting, met_onto}
+use Rattle.store_show.proofs.StoodSteps.{stood_joined, stood_still}
+use Rattle.store_read.specs.Meeting.{Meeting}
 use Rattle.store_show.specs.Showing.{has_pointed, identity, pairs_tokens}
 use Rattle.store_show.proofs.ShowTokens.{marks_written}
+use Rattle.store_show.specs.Stood.{stood_onto}
 use Rattle.store_record.specs.Keys.{Text}
 
 -- nothing behind a trace
-joined_still : (m : Meeting) (t : Trace) → met_onto m t ≡ met_onto m (join_traces t still)
-joined_still m t = sym (met_still (met_onto m t)) ∙ met_joined m t still
+joined_still : (m : Meeting) (t : Trace) → stood_onto m t ≡ stood_onto m (join_traces t still)
+joined_still m t = sym (stood_still (stood_onto m t)) ∙ stood_joined m t still
 
 -- ---- nothing
 
 pub nothing_written : (a x : List Token) → [] ≡ x → a ≡ a ++ x
 nothing_written a x is = sym (append-nil a) ∙ ap (λ ts. a ++ ts) is
 
-pub nothing_met : (m : Meeting) (t : Trace) → still ≡ t → m ≡ met_onto m t
-nothing_met m t is = sym (met_still m) ∙ ap (met_onto m) is
+pub nothing_met : (m : Meeting) (t : Trace) → still ≡ t → m ≡ stood_onto m t
+nothing_met m t is = sym (stood_still m) ∙ ap (stood_onto m) is
 
 -- ---- the field of a step of objects
 
@@ -51,8 +52,8 @@ module _ (span : Span) (next : Next ReaderPart) (T : Text) (fields : Fields) (it
     pub field_tokens : pairs_tokens (field_shown taken next T fields a) ≡ pairs_tokens (fields_shown span next T fields items)
     field_tokens = ap pairs_tokens (sym (append-nil (field_shown taken next T fields a))) ∙ ap (λ xs. pairs_tokens (fields_shown span next T fields xs)) is
 
-    pub field_trace : (m : Meeting) → met_onto m (field_met taken next T fields a) ≡ met_onto m (fields_met span next T fields items)
-    field_trace m = joined_still m (field_met taken next T fields a) ∙ ap (λ xs. met_onto m (fields_met span next T fields xs)) is
+    pub field_trace : (m : Meeting) → stood_onto m (field_met taken next T fields a) ≡ stood_onto m (fields_met span next T fields items)
+    field_trace m = joined_still m (field_met taken next T fields a) ∙ ap (λ xs. stood_onto m (fields_met span next T fields xs)) is
 
     pub field_stood : length (field_met taken next T fields a).seen ≡ length (fields_met span next T fields items).seen
     field_stood = ap length (sym (append-nil (field_met taken next T fields a).seen)) ∙ ap (λ xs. length (fields_met span next T fields xs).seen) is
@@ -64,8 +65,8 @@ module _ (next : Next ReaderPart) (T id : Text) (items : List (Item ReaderPart))
     pub pointer_tokens : pairs_tokens ((p.fragment, (pointer_at next T id p p.inline).0) ∷ []) ≡ pairs_tokens (pointers_shown next T id items)
     pointer_tokens = ap (λ xs. pairs_tokens (pointers_shown next T id xs)) is
 
-    pub pointer_trace : (m : Meeting) → met_onto m (pointer_at next T id p p.inline).1 ≡ met_onto m (pointers_met next T id items)
-    pointer_trace m = joined_still m (pointer_at next T id p p.inline).1 ∙ ap (λ xs. met_onto m (pointers_met next T id xs)) is
+    pub pointer_trace : (m : Meeting) → stood_onto m (pointer_at next T id p p.inline).1 ≡ stood_onto m (pointers_met next T id items)
+    pointer_trace m = joined_still m (pointer_at next T id p p.inline).1 ∙ ap (λ xs. stood_onto m (pointers_met next T id xs)) is
 
     pub pointer_stood : length (pointer_at next T id p p.inline).1.seen ≡ length (pointers_met next T id items).seen
     pointer_stood = ap length (sym (append-nil (pointer_at next T id p p.inline).1.seen)) ∙ ap (λ xs. length (pointers_met next T id xs).seen) is

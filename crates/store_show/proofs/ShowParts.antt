@@ -9,11 +9,12 @@ use Rattle.plan_order.specs.Responses.{fragments}
 use Rattle.plan_order.specs.Walk.{fields_alone, fields_around, is_none, object_in_order}
 use Rattle.schema_types.specs.Environments.{Values}
 use Rattle.store_model.specs.Walks.{Fields, Next, Shown, Trace, join_traces, shown_object}
-use Rattle.store_read.proofs.MetSteps.{met_twice}
-use Rattle.store_read.specs.Meeting.{Meeting, met_onto}
+use Rattle.store_show.proofs.StoodSteps.{stood_twice}
+use Rattle.store_read.specs.Meeting.{Meeting}
 use Rattle.store_read.specs.Walked.{if_possible}
 use Rattle.store_show.proofs.ShowTokens.{pairs-append, then_two}
 use Rattle.store_show.specs.Showing.{pairs_tokens}
+use Rattle.store_show.specs.Stood.{stood_onto}
 use Rattle.store_record.specs.Keys.{Text}
 
 -- ---- three parts
@@ -24,8 +25,8 @@ three_written a b c d xs ys zs first second third =
     (then_two b c d (pairs_tokens ys) (pairs_tokens zs) (pairs_tokens (ys ++ zs)) second third (sym (pairs-append ys zs)))
     (sym (pairs-append xs (ys ++ zs)))
 
-pub three_met : (m n o p : Meeting) (s t u : Trace) → n ≡ met_onto m s → o ≡ met_onto n t → p ≡ met_onto o u → p ≡ met_onto m (join_traces s (join_traces t u))
-three_met m n o p s t u first second third = met_twice m n p s (join_traces t u) first (met_twice n o p t u second third)
+pub three_met : (m n o p : Meeting) (s t u : Trace) → n ≡ stood_onto m s → o ≡ stood_onto n t → p ≡ stood_onto o u → p ≡ stood_onto m (join_traces s (join_traces t u))
+three_met m n o p s t u first second third = stood_twice m n p s (join_traces t u) first (stood_twice n o p t u second third)
 
 pub one_of_three : (old new : ℕ) (s t u : Trace) → new ≤ old + length s.seen → new ≤ old + length (join_traces s (join_traces t u)).seen
 one_of_three old new s t u first = omega (arith, first, length-append s.seen (join_traces t u).seen)

@@ -10,10 +10,11 @@ use Rattle.schema_types.specs.Environments.{Values}
 use Rattle.store_model.specs.Items.{Item, asked, pointed}
 use Rattle.store_model.specs.Walks.{Fields, Next, Trace, join_traces, pointer_at}
 use Rattle.store_read.proofs.GatherSteps.{steps_left}
-use Rattle.store_read.proofs.MetSteps.{met_joined}
-use Rattle.store_read.specs.Meeting.{Meeting, met_onto}
+use Rattle.store_show.proofs.StoodSteps.{stood_joined}
+use Rattle.store_read.specs.Meeting.{Meeting}
 use Rattle.store_show.proofs.ShowTokens.{pairs-append}
 use Rattle.store_show.specs.Showing.{pairs_tokens}
+use Rattle.store_show.specs.Stood.{stood_onto}
 use Rattle.store_record.specs.Keys.{Text}
 
 -- ---- traces
@@ -92,8 +93,8 @@ module _ (f : List (Item ReaderPart) → List Token) (t : List (Item ReaderPart)
   met_left : join_traces (t here) (t left) ≡ t all
   met_left = sym (t-append here left) ∙ ap t (steps_left env T xs i x h is)
 
-  pub step_met : (old new whole : Meeting) → new ≡ met_onto old (t here) → met_onto old (t all) ≡ whole → met_onto new (t left) ≡ whole
-  step_met old new whole e w = ap (λ m. met_onto m (t left)) e ∙ met_joined old (t here) (t left) ∙ ap (met_onto old) met_left ∙ w
+  pub step_met : (old new whole : Meeting) → new ≡ stood_onto old (t here) → stood_onto old (t all) ≡ whole → stood_onto new (t left) ≡ whole
+  step_met old new whole e w = ap (λ m. stood_onto m (t left)) e ∙ stood_joined old (t here) (t left) ∙ ap (stood_onto old) met_left ∙ w
 
   pub step_looks : (start old new : ℕ) → new ≤ old + length (t here).seen → old + length (t all).seen ≤ start → new + length (t left).seen ≤ start
   step_looks start old new e w = omega (arith, w, e, length-append (t here).seen (t left).seen, ap (λ (u : Trace). length u.seen) met_left)

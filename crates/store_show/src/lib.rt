@@ -5,7 +5,6 @@
 #![tactic(auto)]
 
 mod lead;
-mod near;
 mod row_at;
 mod showing;
 pub mod shown;

@@ -3,6 +3,7 @@ ghost use Rattle.std.specs.Prelude.{◌≡◌, ◌+◌, ◌≤◌, ◌++◌, ◌
 ghost use Rattle.gql_plain.specs.Order.{has_text};
 ghost use Rattle.gql_plain.specs.ToJson.{tree_tokens};
 ghost use Rattle.plan_groups.specs.FieldView.{form_at};
+ghost use Rattle.plan_ir.specs.Reader.{done, guarded};
 ghost use Rattle.plan_ir.specs.ReaderKeys.{keys_of};
 ghost use Rattle.plan_ir.specs.ReaderView.{step_of};
 ghost use Rattle.plan_order.specs.Responses.{fragments};
@@ -11,20 +12,19 @@ ghost use Rattle.store_model.specs.Walks as walks;
 ghost use Rattle.store_model.specs.Walks.{mark_members, shown_object};
 ghost use Rattle.store_record.specs.declared.record.Slot.TheVariants.{Alive};
 ghost use Rattle.store_read.specs.FieldView.{asked_at, part_at, spread_at, IsKept};
-ghost use Rattle.store_read.specs.Meeting.{met_onto};
 ghost use Rattle.store_show.specs.Showing.{around_at, below, elements_tokens, fields_of, has_pointed, identity, items_at, led, members_at, members_met_at, next_at, object_shown_at, pairs_tokens, pointers_at, pointers_met_at};
 ghost use Rattle.store_show.specs.Spans.{span_of};
+ghost use Rattle.store_show.specs.Stood.{stood_onto};
 ghost use Rattle.store_read.specs.Walked as walked;
 
 use crate::lead::Lead;
-use crate::near::field_near;
 use crate::row_at::RowAt;
 use crate::span::Span;
 use crate::standings::Standings;
 use gql_plain::{Id, Ids, NoMemory, Plain, SharedText, Words, write_plain};
 use json::Writer;
 use plan_groups::{Call, FormAt, connection_in, form_of_objects, guard_passes};
-use plan_ir::{ReaderStep, ReaderSteps};
+use plan_ir::{Guard, ReaderPlan, ReaderStep, ReaderSteps};
 use std::alloc::Global;
 use store_read::field::{FieldAt, PartAt};
 use store_read::spread::SpreadAt;
@@ -48,7 +48,7 @@ pub(crate) fn show_record<'p, S: RecordSource>(
 ) -> Result<(), NoMemory>
     ensures shown { OnOk result (out.new.tokens ≡ out.old.tokens ++ led lead.entry (below (S.records store.now.source.now) store.now.root.now store.now.owner.now levels types.now (part_at part.entry ∷ []) id.now).0) }
     ensures before { out.new.before ≡ out.old.before }
-    ensures met { OnOk result (met.new ≡ met_onto met.old (below (S.records store.now.source.now) store.now.root.now store.now.owner.now levels types.now (part_at part.entry ∷ []) id.now).1) }
+    ensures met { OnOk result (met.new ≡ stood_onto met.old (below (S.records store.now.source.now) store.now.root.now store.now.owner.now levels types.now (part_at part.entry ∷ []) id.now).1) }
     ensures looks { S.Count.looks steps.new ≤ S.Count.looks steps.old + length (below (S.records store.now.source.now) store.now.root.now store.now.owner.now levels types.now (part_at part.entry ∷ []) id.now).1.seen }
     ensures applies { S.Count.applies steps.new ≡ S.Count.applies steps.old }
 {
@@ -78,7 +78,7 @@ pub(crate) fn show_record<'p, S: RecordSource>(
 fn lost(lead: Lead<'_>, met: &mut Standings<'_>, out: &mut Writer) -> Result<(), NoMemory>
     ensures tokens { OnOk result (out.new.tokens ≡ out.old.tokens ++ led lead.entry None) }
     ensures before { out.new.before ≡ out.old.before }
-    ensures met { met.new ≡ met_onto met.old walks.missing_trace }
+    ensures met { met.new ≡ stood_onto met.old walks.missing_trace }
 {
     met.lose();
     lead.missing(out)
@@ -99,7 +99,7 @@ fn show_live<'p, S: RecordSource>(
 ) -> Result<(), NoMemory>
     ensures shown { OnOk result (out.new.tokens ≡ out.old.tokens ++ led lead.entry (walked.if_possible (has_text types.now at.entry.name.now) (object_shown_at (S.records store.now.source.now) store.now.root.now store.now.owner.now at.entry (part_at part.entry).steps)).0) }
     ensures before { out.new.before ≡ out.old.before }
-    ensures met { OnOk result (met.new ≡ met_onto met.old (walked.if_possible (has_text types.now at.entry.name.now) (object_shown_at (S.records store.now.source.now) store.now.root.now store.now.owner.now at.entry (part_at part.entry).steps)).1) }
+    ensures met { OnOk result (met.new ≡ stood_onto met.old (walked.if_possible (has_text types.now at.entry.name.now) (object_shown_at (S.records store.now.source.now) store.now.root.now store.now.owner.now at.entry (part_at part.entry).steps)).1) }
     ensures looks { S.Count.looks steps.new ≤ S.Count.looks steps.old + length (walked.if_possible (has_text types.now at.entry.name.now) (object_shown_at (S.records store.now.source.now) store.now.root.now store.now.owner.now at.entry (part_at part.entry).steps)).1.seen }
     ensures applies { S.Count.applies steps.new ≡ S.Count.applies steps.old }
 {
@@ -130,7 +130,7 @@ fn show_object<'p, S: RecordSource>(
 ) -> Result<(), NoMemory>
     ensures shown { OnOk result (out.new.tokens ≡ out.old.tokens ++ tree_tokens (shown_object (object_shown_at (S.records store.now.source.now) store.now.root.now store.now.owner.now at.entry plan.now).0)) }
     ensures before { out.new.before ≡ out.old.before }
-    ensures met { OnOk result (met.new ≡ met_onto met.old (object_shown_at (S.records store.now.source.now) store.now.root.now store.now.owner.now at.entry plan.now).1) }
+    ensures met { OnOk result (met.new ≡ stood_onto met.old (object_shown_at (S.records store.now.source.now) store.now.root.now store.now.owner.now at.entry plan.now).1) }
     ensures looks { S.Count.looks steps.new ≤ S.Count.looks steps.old + length (object_shown_at (S.records store.now.source.now) store.now.root.now store.now.owner.now at.entry plan.now).1.seen }
     ensures applies { S.Count.applies steps.new ≡ S.Count.applies steps.old }
 {
@@ -153,7 +153,7 @@ fn show_members<'p, S: RecordSource>(
 ) -> Result<(), NoMemory>
     ensures shown { OnOk result (out.new.tokens ≡ out.old.tokens ++ pairs_tokens (object_shown_at (S.records store.now.source.now) store.now.root.now store.now.owner.now at.entry plan.now).0) }
     ensures before { out.new.before ≡ out.old.before }
-    ensures met { OnOk result (met.new ≡ met_onto met.old (object_shown_at (S.records store.now.source.now) store.now.root.now store.now.owner.now at.entry plan.now).1) }
+    ensures met { OnOk result (met.new ≡ stood_onto met.old (object_shown_at (S.records store.now.source.now) store.now.root.now store.now.owner.now at.entry plan.now).1) }
     ensures looks { S.Count.looks steps.new ≤ S.Count.looks steps.old + length (object_shown_at (S.records store.now.source.now) store.now.root.now store.now.owner.now at.entry plan.now).1.seen }
     ensures applies { S.Count.applies steps.new ≡ S.Count.applies steps.old }
 {
@@ -187,7 +187,7 @@ fn show_around<'p, S: RecordSource>(
 ) -> Result<(), NoMemory>
     ensures shown { OnOk result (out.new.tokens ≡ out.old.tokens ++ pairs_tokens (around_at (S.records store.now.source.now) store.now.root.now store.now.owner.now at.entry plan.now).0) }
     ensures before { out.new.before ≡ out.old.before }
-    ensures met { OnOk result (met.new ≡ met_onto met.old (around_at (S.records store.now.source.now) store.now.root.now store.now.owner.now at.entry plan.now).1) }
+    ensures met { OnOk result (met.new ≡ stood_onto met.old (around_at (S.records store.now.source.now) store.now.root.now store.now.owner.now at.entry plan.now).1) }
     ensures looks { S.Count.looks steps.new ≤ S.Count.looks steps.old + length (around_at (S.records store.now.source.now) store.now.root.now store.now.owner.now at.entry plan.now).1.seen }
     ensures applies { S.Count.applies steps.new ≡ S.Count.applies steps.old }
 {
@@ -259,7 +259,7 @@ fn show_fields<'p, S: RecordSource>(
 ) -> Result<(), NoMemory>
     ensures shown { OnOk result (out.new.tokens ≡ out.old.tokens ++ pairs_tokens (members_at (S.records store.now.source.now) store.now.root.now store.now.owner.now at.entry (span_of span) plan.now)) }
     ensures before { out.new.before ≡ out.old.before }
-    ensures met { OnOk result (met.new ≡ met_onto met.old (members_met_at (S.records store.now.source.now) store.now.root.now store.now.owner.now at.entry (span_of span) plan.now)) }
+    ensures met { OnOk result (met.new ≡ stood_onto met.old (members_met_at (S.records store.now.source.now) store.now.root.now store.now.owner.now at.entry (span_of span) plan.now)) }
     ensures looks { S.Count.looks steps.new ≤ S.Count.looks steps.old + length (members_met_at (S.records store.now.source.now) store.now.root.now store.now.owner.now at.entry (span_of span) plan.now).seen }
     ensures applies { S.Count.applies steps.new ≡ S.Count.applies steps.old }
 {
@@ -300,7 +300,7 @@ fn show_step<'p, S: RecordSource>(
     requires key { key.now ∷ [] ≡ keys_of (step_of step.now) }
     ensures shown { OnOk result (out.new.tokens ≡ out.old.tokens ++ pairs_tokens (members_at (S.records store.now.source.now) store.now.root.now store.now.owner.now at.entry (span_of span) (step_of step.now))) }
     ensures before { out.new.before ≡ out.old.before }
-    ensures met { OnOk result (met.new ≡ met_onto met.old (members_met_at (S.records store.now.source.now) store.now.root.now store.now.owner.now at.entry (span_of span) (step_of step.now))) }
+    ensures met { OnOk result (met.new ≡ stood_onto met.old (members_met_at (S.records store.now.source.now) store.now.root.now store.now.owner.now at.entry (span_of span) (step_of step.now))) }
     ensures looks { S.Count.looks steps.new ≤ S.Count.looks steps.old + length (members_met_at (S.records store.now.source.now) store.now.root.now store.now.owner.now at.entry (span_of span) (step_of step.now)).seen }
     ensures applies { S.Count.applies steps.new ≡ S.Count.applies steps.old }
 {
@@ -338,15 +338,38 @@ fn show_step<'p, S: RecordSource>(
             };
             show_field(alloc, store, at, span, field, near, met, out, steps)
         }
-        ReaderStep::Guarded { guard, child } => {
-            let passes = guard_passes(alloc, at.env, at.name, guard)?;
-            if !passes {
-                return Ok(());
-            }
-            show_fields(alloc, store, at, span, &child.steps, near, met, out, steps)
-        }
+        ReaderStep::Guarded { guard, child } => show_guarded(
+            alloc, store, at, span, guard, child, near, met, out, steps,
+        ),
         ReaderStep::Pointer { .. } => Ok(()),
     }
+}
+
+/// Writes the fields behind a guard, where it lets them.
+#[cycle(show)]
+fn show_guarded<'p, S: RecordSource>(
+    alloc: Global,
+    store: &Store<'p, S>,
+    at: RowAt<'p>,
+    span: Span,
+    guard: &'p Guard,
+    child: &'p ReaderPlan,
+    near: &mut usize,
+    met: &mut Standings<'p>,
+    out: &mut Writer,
+    steps: &mut S::Count,
+) -> Result<(), NoMemory>
+    ensures shown { OnOk result (out.new.tokens ≡ out.old.tokens ++ pairs_tokens (members_at (S.records store.now.source.now) store.now.root.now store.now.owner.now at.entry (span_of span) (guarded guard.now child.now.steps done))) }
+    ensures before { out.new.before ≡ out.old.before }
+    ensures met { OnOk result (met.new ≡ stood_onto met.old (members_met_at (S.records store.now.source.now) store.now.root.now store.now.owner.now at.entry (span_of span) (guarded guard.now child.now.steps done))) }
+    ensures looks { S.Count.looks steps.new ≤ S.Count.looks steps.old + length (members_met_at (S.records store.now.source.now) store.now.root.now store.now.owner.now at.entry (span_of span) (guarded guard.now child.now.steps done)).seen }
+    ensures applies { S.Count.applies steps.new ≡ S.Count.applies steps.old }
+{
+    let passes = guard_passes(alloc, at.env, at.name, guard)?;
+    if !passes {
+        return Ok(());
+    }
+    show_fields(alloc, store, at, span, &child.steps, near, met, out, steps)
 }
 
 /// Writes a field, where it is taken.
@@ -365,7 +388,7 @@ fn show_field<'p, S: RecordSource>(
     requires { IsKept field }
     ensures shown { OnOk result (out.new.tokens ≡ out.old.tokens ++ pairs_tokens (field_shown (is_taken (span_of span) field.entry.response.now) (next_at (S.records store.now.source.now) store.now.root.now store.now.owner.now at.entry) at.entry.name.now (fields_of at.entry) (asked_at field.entry))) }
     ensures before { out.new.before ≡ out.old.before }
-    ensures met { OnOk result (met.new ≡ met_onto met.old (field_met (is_taken (span_of span) field.entry.response.now) (next_at (S.records store.now.source.now) store.now.root.now store.now.owner.now at.entry) at.entry.name.now (fields_of at.entry) (asked_at field.entry))) }
+    ensures met { OnOk result (met.new ≡ stood_onto met.old (field_met (is_taken (span_of span) field.entry.response.now) (next_at (S.records store.now.source.now) store.now.root.now store.now.owner.now at.entry) at.entry.name.now (fields_of at.entry) (asked_at field.entry))) }
     ensures looks { S.Count.looks steps.new ≤ S.Count.looks steps.old + length (field_met (is_taken (span_of span) field.entry.response.now) (next_at (S.records store.now.source.now) store.now.root.now store.now.owner.now at.entry) at.entry.name.now (fields_of at.entry) (asked_at field.entry)).seen }
     ensures applies { S.Count.applies steps.new ≡ S.Count.applies steps.old }
 {
@@ -374,7 +397,7 @@ fn show_field<'p, S: RecordSource>(
     }
     let key = field.read_key(alloc)?;
     let lead = Lead::Member(field.response.as_str());
-    let value = field_near(&at.row.fields, key.as_str(), near);
+    let value = at.row.fields.near(key.as_str(), near);
     show_value(
         alloc, store, at, field.form, field.part, value, lead, met, out, steps,
     )
@@ -396,7 +419,7 @@ fn show_value<'p, S: RecordSource>(
 ) -> Result<(), NoMemory>
     ensures shown { OnOk result (out.new.tokens ≡ out.old.tokens ++ led lead.entry (walks.value_at (next_at (S.records store.now.source.now) store.now.root.now store.now.owner.now at.entry) at.entry.name.now (part_at part.entry ∷ []) (form_at form.entry) (option_copied field.entry)).0) }
     ensures before { out.new.before ≡ out.old.before }
-    ensures met { OnOk result (met.new ≡ met_onto met.old (walks.value_at (next_at (S.records store.now.source.now) store.now.root.now store.now.owner.now at.entry) at.entry.name.now (part_at part.entry ∷ []) (form_at form.entry) (option_copied field.entry)).1) }
+    ensures met { OnOk result (met.new ≡ stood_onto met.old (walks.value_at (next_at (S.records store.now.source.now) store.now.root.now store.now.owner.now at.entry) at.entry.name.now (part_at part.entry ∷ []) (form_at form.entry) (option_copied field.entry)).1) }
     ensures looks { S.Count.looks steps.new ≤ S.Count.looks steps.old + length (walks.value_at (next_at (S.records store.now.source.now) store.now.root.now store.now.owner.now at.entry) at.entry.name.now (part_at part.entry ∷ []) (form_at form.entry) (option_copied field.entry)).1.seen }
     ensures applies { S.Count.applies steps.new ≡ S.Count.applies steps.old }
 {
@@ -425,7 +448,7 @@ fn show_leaf(
 ) -> Result<(), NoMemory>
     ensures shown { OnOk result (out.new.tokens ≡ out.old.tokens ++ led lead.entry (walks.leaf_at (option_copied field.entry)).0) }
     ensures before { out.new.before ≡ out.old.before }
-    ensures met { OnOk result (met.new ≡ met_onto met.old (walks.leaf_at (option_copied field.entry)).1) }
+    ensures met { OnOk result (met.new ≡ stood_onto met.old (walks.leaf_at (option_copied field.entry)).1) }
 {
     match field {
         Some(Field::Leaf(value)) => {
@@ -447,7 +470,7 @@ fn show_null(
 ) -> Result<(), NoMemory>
     ensures shown { OnOk result (out.new.tokens ≡ out.old.tokens ++ led lead.entry (walks.null_alone value.now).0) }
     ensures before { out.new.before ≡ out.old.before }
-    ensures met { OnOk result (met.new ≡ met_onto met.old (walks.null_alone value.now).1) }
+    ensures met { OnOk result (met.new ≡ stood_onto met.old (walks.null_alone value.now).1) }
 {
     match value {
         Plain::Null => lead.null(out),
@@ -475,7 +498,7 @@ fn show_one<'p, S: RecordSource>(
 ) -> Result<(), NoMemory>
     ensures shown { OnOk result (out.new.tokens ≡ out.old.tokens ++ led lead.entry (walks.one_at (below (S.records store.now.source.now) store.now.root.now store.now.owner.now levels) types.now (part_at part.entry ∷ []) (option_copied field.entry)).0) }
     ensures before { out.new.before ≡ out.old.before }
-    ensures met { OnOk result (met.new ≡ met_onto met.old (walks.one_at (below (S.records store.now.source.now) store.now.root.now store.now.owner.now levels) types.now (part_at part.entry ∷ []) (option_copied field.entry)).1) }
+    ensures met { OnOk result (met.new ≡ stood_onto met.old (walks.one_at (below (S.records store.now.source.now) store.now.root.now store.now.owner.now levels) types.now (part_at part.entry ∷ []) (option_copied field.entry)).1) }
     ensures looks { S.Count.looks steps.new ≤ S.Count.looks steps.old + length (walks.one_at (below (S.records store.now.source.now) store.now.root.now store.now.owner.now levels) types.now (part_at part.entry ∷ []) (option_copied field.entry)).1.seen }
     ensures applies { S.Count.applies steps.new ≡ S.Count.applies steps.old }
 {
@@ -514,7 +537,7 @@ fn show_many<'p, S: RecordSource>(
 ) -> Result<(), NoMemory>
     ensures shown { OnOk result (out.new.tokens ≡ out.old.tokens ++ led lead.entry (walks.many_at (below (S.records store.now.source.now) store.now.root.now store.now.owner.now levels) types.now (part_at part.entry ∷ []) (option_copied field.entry)).0) }
     ensures before { out.new.before ≡ out.old.before }
-    ensures met { OnOk result (met.new ≡ met_onto met.old (walks.many_at (below (S.records store.now.source.now) store.now.root.now store.now.owner.now levels) types.now (part_at part.entry ∷ []) (option_copied field.entry)).1) }
+    ensures met { OnOk result (met.new ≡ stood_onto met.old (walks.many_at (below (S.records store.now.source.now) store.now.root.now store.now.owner.now levels) types.now (part_at part.entry ∷ []) (option_copied field.entry)).1) }
     ensures looks { S.Count.looks steps.new ≤ S.Count.looks steps.old + length (walks.many_at (below (S.records store.now.source.now) store.now.root.now store.now.owner.now levels) types.now (part_at part.entry ∷ []) (option_copied field.entry)).1.seen }
     ensures applies { S.Count.applies steps.new ≡ S.Count.applies steps.old }
 {
@@ -557,7 +580,7 @@ fn show_elements<'p, S: RecordSource>(
 ) -> Result<(), NoMemory>
     ensures shown { OnOk result (out.new.tokens ≡ out.old.tokens ++ elements_tokens (walks.elements_at (below (S.records store.now.source.now) store.now.root.now store.now.owner.now levels) types.now (part_at part.entry ∷ []) ids.now).0) }
     ensures before { out.new.before ≡ out.old.before }
-    ensures met { OnOk result (met.new ≡ met_onto met.old (walks.elements_at (below (S.records store.now.source.now) store.now.root.now store.now.owner.now levels) types.now (part_at part.entry ∷ []) ids.now).1) }
+    ensures met { OnOk result (met.new ≡ stood_onto met.old (walks.elements_at (below (S.records store.now.source.now) store.now.root.now store.now.owner.now levels) types.now (part_at part.entry ∷ []) ids.now).1) }
     ensures looks { S.Count.looks steps.new ≤ S.Count.looks steps.old + length (walks.elements_at (below (S.records store.now.source.now) store.now.root.now store.now.owner.now levels) types.now (part_at part.entry ∷ []) ids.now).1.seen }
     ensures applies { S.Count.applies steps.new ≡ S.Count.applies steps.old }
 {
@@ -582,7 +605,7 @@ fn show_element<'p, S: RecordSource>(
 ) -> Result<(), NoMemory>
     ensures shown { OnOk result (out.new.tokens ≡ out.old.tokens ++ tree_tokens (walks.element_at (below (S.records store.now.source.now) store.now.root.now store.now.owner.now levels) types.now (part_at part.entry ∷ []) element.now).0) }
     ensures before { out.new.before ≡ out.old.before }
-    ensures met { OnOk result (met.new ≡ met_onto met.old (walks.element_at (below (S.records store.now.source.now) store.now.root.now store.now.owner.now levels) types.now (part_at part.entry ∷ []) element.now).1) }
+    ensures met { OnOk result (met.new ≡ stood_onto met.old (walks.element_at (below (S.records store.now.source.now) store.now.root.now store.now.owner.now levels) types.now (part_at part.entry ∷ []) element.now).1) }
     ensures looks { S.Count.looks steps.new ≤ S.Count.looks steps.old + length (walks.element_at (below (S.records store.now.source.now) store.now.root.now store.now.owner.now levels) types.now (part_at part.entry ∷ []) element.now).1.seen }
     ensures applies { S.Count.applies steps.new ≡ S.Count.applies steps.old }
 {
@@ -619,7 +642,7 @@ fn show_marks<'p, S: RecordSource>(
 ) -> Result<(), NoMemory>
     ensures shown { OnOk result (out.new.tokens ≡ out.old.tokens ++ pairs_tokens (mark_members store.now.owner.now at.entry.id.now (pointers_at (S.records store.now.source.now) store.now.root.now store.now.owner.now at.entry plan.now))) }
     ensures before { out.new.before ≡ out.old.before }
-    ensures met { OnOk result (met.new ≡ met_onto met.old (pointers_met_at (S.records store.now.source.now) store.now.root.now store.now.owner.now at.entry plan.now)) }
+    ensures met { OnOk result (met.new ≡ stood_onto met.old (pointers_met_at (S.records store.now.source.now) store.now.root.now store.now.owner.now at.entry plan.now)) }
     ensures looks { S.Count.looks steps.new ≤ S.Count.looks steps.old + length (pointers_met_at (S.records store.now.source.now) store.now.root.now store.now.owner.now at.entry plan.now).seen }
     ensures applies { S.Count.applies steps.new ≡ S.Count.applies steps.old }
 {
@@ -693,7 +716,7 @@ fn show_pointers<'p, S: RecordSource>(
 ) -> Result<(), NoMemory>
     ensures shown { OnOk result (out.new.tokens ≡ out.old.tokens ++ pairs_tokens (pointers_at (S.records store.now.source.now) store.now.root.now store.now.owner.now at.entry plan.now)) }
     ensures before { out.new.before ≡ out.old.before }
-    ensures met { OnOk result (met.new ≡ met_onto met.old (pointers_met_at (S.records store.now.source.now) store.now.root.now store.now.owner.now at.entry plan.now)) }
+    ensures met { OnOk result (met.new ≡ stood_onto met.old (pointers_met_at (S.records store.now.source.now) store.now.root.now store.now.owner.now at.entry plan.now)) }
     ensures looks { S.Count.looks steps.new ≤ S.Count.looks steps.old + length (pointers_met_at (S.records store.now.source.now) store.now.root.now store.now.owner.now at.entry plan.now).seen }
     ensures applies { S.Count.applies steps.new ≡ S.Count.applies steps.old }
 {
@@ -716,7 +739,7 @@ fn show_pointers_of_step<'p, S: RecordSource>(
 ) -> Result<(), NoMemory>
     ensures shown { OnOk result (out.new.tokens ≡ out.old.tokens ++ pairs_tokens (pointers_at (S.records store.now.source.now) store.now.root.now store.now.owner.now at.entry (step_of step.now))) }
     ensures before { out.new.before ≡ out.old.before }
-    ensures met { OnOk result (met.new ≡ met_onto met.old (pointers_met_at (S.records store.now.source.now) store.now.root.now store.now.owner.now at.entry (step_of step.now))) }
+    ensures met { OnOk result (met.new ≡ stood_onto met.old (pointers_met_at (S.records store.now.source.now) store.now.root.now store.now.owner.now at.entry (step_of step.now))) }
     ensures looks { S.Count.looks steps.new ≤ S.Count.looks steps.old + length (pointers_met_at (S.records store.now.source.now) store.now.root.now store.now.owner.now at.entry (step_of step.now)).seen }
     ensures applies { S.Count.applies steps.new ≡ S.Count.applies steps.old }
 {
@@ -755,7 +778,7 @@ fn show_pointer<'p, S: RecordSource>(
 ) -> Result<(), NoMemory>
     ensures shown { OnOk result (out.new.tokens ≡ out.old.tokens ++ pairs_tokens ((spread.entry.fragment.now, (walks.pointer_at (next_at (S.records store.now.source.now) store.now.root.now store.now.owner.now at.entry) at.entry.name.now at.entry.id.now (spread_at spread.entry) spread.entry.inline).0) ∷ [])) }
     ensures before { out.new.before ≡ out.old.before }
-    ensures met { OnOk result (met.new ≡ met_onto met.old (walks.pointer_at (next_at (S.records store.now.source.now) store.now.root.now store.now.owner.now at.entry) at.entry.name.now at.entry.id.now (spread_at spread.entry) spread.entry.inline).1) }
+    ensures met { OnOk result (met.new ≡ stood_onto met.old (walks.pointer_at (next_at (S.records store.now.source.now) store.now.root.now store.now.owner.now at.entry) at.entry.name.now at.entry.id.now (spread_at spread.entry) spread.entry.inline).1) }
     ensures looks { S.Count.looks steps.new ≤ S.Count.looks steps.old + length (walks.pointer_at (next_at (S.records store.now.source.now) store.now.root.now store.now.owner.now at.entry) at.entry.name.now at.entry.id.now (spread_at spread.entry) spread.entry.inline).1.seen }
     ensures applies { S.Count.applies steps.new ≡ S.Count.applies steps.old }
 {

@@ -1,13 +1,14 @@
 //! Where a walk that writes stood.
 ghost use Rattle.std.specs.Prelude.{◌≡◌, false, [], OnOk};
 ghost use Rattle.store_model.specs.Walks.{missing_trace, trace_at};
-ghost use Rattle.store_read.specs.Meeting.{met_onto};
+ghost use Rattle.store_show.specs.Stood.{ends_with, stood_onto};
 
 use gql_plain::NoMemory;
 use std::alloc::Global;
 use std::marker::Model;
 
-/// Whether something was missing, and the ids that a walk stood at, each as often as it stood there.
+/// Whether something was missing, and the ids that a walk stood at, one after another: where it stands at
+/// the same id again and again, as in a cycle of records, that is kept once.
 #[derive(Drop)]
 pub(crate) struct Standings<'p> {
     pub(crate) missing: bool,
@@ -39,15 +40,27 @@ impl<'p> Standings<'p> {
 
     /// Notes that the walk stands at an id.
     pub(crate) fn stand(&mut self, id: &'p str) -> Result<(), NoMemory>
-        ensures { OnOk result (self.new ≡ met_onto self.old (trace_at id.now)) }
+        ensures { OnOk result (self.new ≡ stood_onto self.old (trace_at id.now)) }
     {
-        self.seen.push(id)?;
+        if !self.ends_with(id) {
+            self.seen.push(id)?;
+        }
         Ok(())
+    }
+
+    /// Whether an id is the last one that is kept; takes no memory.
+    fn ends_with(&self, id: &str) -> bool
+        ensures { result ≡ ends_with self.now.seen id.now }
+    {
+        match self.seen.last() {
+            Some(last) => *last == id,
+            None => false,
+        }
     }
 
     /// Notes that something is missing; takes no memory.
     pub(crate) fn lose(&mut self)
-        ensures { self.new ≡ met_onto self.old missing_trace }
+        ensures { self.new ≡ stood_onto self.old missing_trace }
     {
         self.missing = true;
     }

@@ -19,10 +19,9 @@ use Rattle.plan_order.specs.Walk.{alone, before, behind, field_met, field_shown,
 use Rattle.store_model.specs.Items.{asked, pointed}
 use Rattle.store_model.specs.Walks.{Found, Shown, Trace, element_at, elements_at, field_of, group_at, join_traces, mark_members, or_null, pointer_at, read_key, shown_object, value_at}
 use Rattle.store_read.proofs.GatherSteps.{collect_pointer, guarded_deep}
-use Rattle.store_read.proofs.LoopSteps.{drop_at, looks_here, looks_next, met_next, shown_next}
-use Rattle.store_read.proofs.ReadSteps.{live_looks, live_met}
+use Rattle.store_read.proofs.LoopSteps.{drop_at, looks_here, looks_next, shown_next}
+use Rattle.store_read.proofs.ReadSteps.{live_looks}
 use Rattle.store_read.specs.FieldView.{ask_at, asked_at, part_at, spread_at, steps_or_done}
-use Rattle.store_read.specs.Meeting.{met_onto}
 use Rattle.store_read.specs.Reading.{slots}
 use Rattle.store_read.specs.Walked.{if_possible}
 use Rattle.store_record.specs.declared.record.Slot.TheVariants.{Alive}
@@ -32,9 +31,11 @@ use Rattle.store_show.proofs.ShowParts.{object_around, one_of_three, possible_sh
 use Rattle.store_show.proofs.ShowReads.{walks_live}
 use Rattle.store_show.proofs.ShowSteps.{fields_met-append, fields_tokens-append, pointers_met-append, pointers_tokens-append, step_looks, step_looks_here, step_met, step_shown}
 use Rattle.store_show.proofs.ShowTokens.{led_alone, led_member, list_written, member_written, object_written, then_two}
+use Rattle.store_show.proofs.StoodSteps.{stood_live, stood_next}
 use Rattle.store_show.specs.Showing.{below, elements_tokens, fields_of, has_pointed, identity, items_at, lead_of, led, members_at, members_met_at, next_at, object_shown_at, pairs_tokens, pointers_at, pointers_met_at, walks}
 use Rattle.store_show.specs.Spans.{span_of}
 use Rattle.store_show.specs.declared.lead.Lead.TheVariants.{Member, Alone}
+use Rattle.store_show.specs.Stood.{stood_onto}
 use Rattle.store_show.proofs.showing.+show.Goals as goal
 
 -- ---- elements of a list
@@ -56,7 +57,7 @@ show_elements-ids-preserved g t c =
     record {
       shown = shown_next (λ a. tree_tokens (one a).0) (λ bs. elements_tokens (all bs).0) (λ a. (one a).1) (λ bs. (all bs).1) (λ a bs. refl) (λ a bs. refl) es c.ids.id-index e is _ _ _ c.ids.invariant.shown c.in_ok-show_element.ensures.shown;
       before = c.show_element.ensures.before ∙ c.ids.invariant.before;
-      met = met_next (λ a. tree_tokens (one a).0) (λ bs. elements_tokens (all bs).0) (λ a. (one a).1) (λ bs. (all bs).1) (λ a bs. refl) (λ a bs. refl) es c.ids.id-index e is _ _ _ c.ids.invariant.met c.in_ok-show_element.ensures.met;
+      met = stood_next (λ a. (one a).1) (λ bs. (all bs).1) (λ a bs. refl) es c.ids.id-index e is _ _ _ c.ids.invariant.met c.in_ok-show_element.ensures.met;
       looks = looks_next (λ a. tree_tokens (one a).0) (λ bs. elements_tokens (all bs).0) (λ a. (one a).1) (λ bs. (all bs).1) (λ a bs. refl) (λ a bs. refl) es c.ids.id-index e is _ _ _ c.ids.invariant.looks c.show_element.ensures.looks;
       applies = c.show_element.ensures.applies ∙ c.ids.invariant.applies;
     }
@@ -254,10 +255,14 @@ show_step-returns-in-Object-clause-looks g t c =
     let is : asked _ ∷ [] ≡ items = (object_items at.env.now.values T _ _ c.in-Object.arguments _ _ _ _ _ c.in-Object.child.steps (part_at c.new.result) _ _ c.new.ensures c.connection_in.ensures c.form_of_objects.ensures ∙ sym (ap (λ (y : ReaderStep). collect_reading at.env.now.values T (step_of y)) c.in-Object.is)) in
     subst (λ n. g.S.Count.Steps.looks c.show_field-in-Object.new.steps ≤ g.S.Count.Steps.looks c.args.steps.now + n) (field_stood span next T fields items _ is) c.show_field-in-Object.ensures.looks
 
-pub show_step-show_fields-requires : goal.show_step-show_fields-requires
-show_step-show_fields-requires g t c =
+pub show_step-show_guarded-requires : goal.show_step-show_guarded-requires
+show_step-show_guarded-requires g t c =
     let less : depth c.in-Guarded.child.steps < depth (step_of c.args.step.now) = guarded_deep _ _ _ c.in-Guarded.is in
     λ k h. (omega (arith, less, c.decreases), h)
+
+pub show_guarded-show_fields-requires : goal.show_guarded-show_fields-requires
+show_guarded-show_fields-requires g t c =
+    λ k h. (omega (arith, c.decreases), h)
 
 pub show_step-returns-in-Pointer-clause-shown : goal.show_step-returns-in-Pointer-clause-shown
 show_step-returns-in-Pointer-clause-shown g t c =
@@ -422,7 +427,7 @@ show_record-returns-in-Some-Alive-clause-met g t c =
     let is = walks_live m root owner part.environment c.args.types.now part.steps c.args.id.now c.args.levels c.in-Some.levels row c.type_of.result.now less there c.type_of.ensures in
     let whole = walks m root owner part.environment c.args.levels c.args.types.now part.steps c.args.id.now in
     let under = if_possible (has_text c.args.types.now c.type_of.result.now) (object_in_order owner (below m root owner c.in-Some.levels) c.type_of.result.now part.environment part.steps c.args.id.now (field_of (Some (Alive row)))) in
-    let after : c.show_live.new.met ≡ met_onto c.stand.new.self under.1 → c.show_live.new.met ≡ met_onto c.args.met.now whole.1 = λ e. live_met c.args.id.now whole under c.args.met.now c.stand.new.self c.show_live.new.met is c.in_ok-stand.ensures e in
+    let after : c.show_live.new.met ≡ stood_onto c.stand.new.self under.1 → c.show_live.new.met ≡ stood_onto c.args.met.now whole.1 = λ e. stood_live c.args.id.now whole under c.args.met.now c.stand.new.self c.show_live.new.met is c.in_ok-stand.ensures e in
     on_ok_weaker c.show_live.result after c.show_live.ensures.met
 
 pub show_record-returns-in-Some-Alive-clause-looks : goal.show_record-returns-in-Some-Alive-clause-looks
@@ -465,7 +470,7 @@ show_live-returns-in-Some-clause-met g t c =
     let plan = object_shown_at m root owner at c.in-Some.plan.now in
     let all = object_shown_at m root owner at (part_at c.args.part).steps in
     let is = possible_shown (has_text c.args.types.now at.name.now) all plan (sym c.contains.ensures ∙ found) (ap (object_shown_at m root owner at) (sym steps)) in
-    subst (λ (r : Found). OnOk c.show_object.result (c.show_object.new.met ≡ met_onto c.args.met.now r.1)) is c.show_object.ensures.met
+    subst (λ (r : Found). OnOk c.show_object.result (c.show_object.new.met ≡ stood_onto c.args.met.now r.1)) is c.show_object.ensures.met
 
 pub show_live-returns-in-Some-clause-looks : goal.show_live-returns-in-Some-clause-looks
 show_live-returns-in-Some-clause-looks g t c =
@@ -514,7 +519,7 @@ show_members-returns-clause-met g t c =
     let at = c.args.at in
     let plan = c.args.plan.now in
     let is = object_around owner (next_at m root owner at) at.name.now at.env.now.values plan at.id.now (fields_of at) (sym c.has_no_pointer.ensures ∙ search rules) in
-    subst (λ (r : Shown × Trace). OnOk c.show_around.result (c.show_around.new.met ≡ met_onto c.args.met.now r.1)) is c.show_around.ensures.met
+    subst (λ (r : Shown × Trace). OnOk c.show_around.result (c.show_around.new.met ≡ stood_onto c.args.met.now r.1)) is c.show_around.ensures.met
 
 pub show_members-returns-clause-looks : goal.show_members-returns-clause-looks
 show_members-returns-clause-looks g t c =
@@ -551,7 +556,7 @@ show_around-returns-clause-met g t c =
     let s = members_met_at m root owner at before plan in
     let t = pointers_met_at m root owner at plan in
     let u = members_met_at m root owner at behind plan in
-    let after : c.show_fields-2.new.met ≡ met_onto c.show_marks.new.met u → c.show_fields-2.new.met ≡ met_onto c.args.met.now (join_traces s (join_traces t u)) = three_met c.args.met.now c.show_fields.new.met c.show_marks.new.met c.show_fields-2.new.met s t u c.in_ok-show_fields.ensures.met c.in_ok-show_marks.ensures.met in
+    let after : c.show_fields-2.new.met ≡ stood_onto c.show_marks.new.met u → c.show_fields-2.new.met ≡ stood_onto c.args.met.now (join_traces s (join_traces t u)) = three_met c.args.met.now c.show_fields.new.met c.show_marks.new.met c.show_fields-2.new.met s t u c.in_ok-show_fields.ensures.met c.in_ok-show_marks.ensures.met in
     on_ok_weaker c.show_fields-2.result after c.show_fields-2.ensures.met
 
 pub show_around-returns-clause-looks : goal.show_around-returns-clause-looks
@@ -641,9 +646,9 @@ show_field-returns-clause-shown g t c =
     let asks = asked_at field in
     let taken : c.takes.result ≡ true = search rules in
     let is : true ≡ is_taken (span_of c.args.span) field.response.now = sym taken ∙ c.takes.ensures ∙ ap (is_taken (span_of c.args.span)) c.as_str.ensures in
-    let value : option_copied c.field_near-value.result ≡ fields (read_key (ask_at field)) = c.field_near-value.ensures ∙ ap fields (c.as_str-3.ensures ∙ c.in_ok-key.ensures) in
-    let found : value_at next T (part_at field.part ∷ []) (form_at field.form) (option_copied c.field_near-value.result) ≡ group_at next T fields (alone asks) = ap (value_at next T (part_at field.part ∷ []) (form_at field.form)) value in
-    let tokens : led (Member c.as_str-2.result) (value_at next T (part_at field.part ∷ []) (form_at field.form) (option_copied c.field_near-value.result)).0 ≡ pairs_tokens (field_shown (is_taken (span_of c.args.span) field.response.now) next T fields asks) =
+    let value : option_copied c.near-value.result ≡ fields (read_key (ask_at field)) = c.near-value.ensures ∙ ap fields (c.as_str-3.ensures ∙ c.in_ok-key.ensures) in
+    let found : value_at next T (part_at field.part ∷ []) (form_at field.form) (option_copied c.near-value.result) ≡ group_at next T fields (alone asks) = ap (value_at next T (part_at field.part ∷ []) (form_at field.form)) value in
+    let tokens : led (Member c.as_str-2.result) (value_at next T (part_at field.part ∷ []) (form_at field.form) (option_copied c.near-value.result)).0 ≡ pairs_tokens (field_shown (is_taken (span_of c.args.span) field.response.now) next T fields asks) =
     ap (λ (r : Found). led (Member c.as_str-2.result) r.0) found ∙ led_member (Member c.as_str-2.result) field.response.now (group_at next T fields (alone asks)).0 (ap (λ k. key k ∷ []) c.as_str-2.ensures) ∙ ap (λ b. pairs_tokens (field_shown b next T fields asks)) is in
     subst (λ ts. OnOk c.show_value.result (c.show_value.new.out.tokens ≡ c.args.out.now.tokens ++ ts)) tokens c.show_value.ensures.shown
 
@@ -657,9 +662,9 @@ show_field-returns-clause-met g t c =
     let asks = asked_at field in
     let taken : c.takes.result ≡ true = search rules in
     let is : true ≡ is_taken (span_of c.args.span) field.response.now = sym taken ∙ c.takes.ensures ∙ ap (is_taken (span_of c.args.span)) c.as_str.ensures in
-    let value : option_copied c.field_near-value.result ≡ fields (read_key (ask_at field)) = c.field_near-value.ensures ∙ ap fields (c.as_str-3.ensures ∙ c.in_ok-key.ensures) in
-    let found : value_at next T (part_at field.part ∷ []) (form_at field.form) (option_copied c.field_near-value.result) ≡ group_at next T fields (alone asks) = ap (value_at next T (part_at field.part ∷ []) (form_at field.form)) value in
-    subst (λ n. OnOk c.show_value.result (c.show_value.new.met ≡ n)) (ap (λ (r : Found). met_onto c.args.met.now r.1) found ∙ ap (λ b. met_onto c.args.met.now (field_met b next T fields asks)) is) c.show_value.ensures.met
+    let value : option_copied c.near-value.result ≡ fields (read_key (ask_at field)) = c.near-value.ensures ∙ ap fields (c.as_str-3.ensures ∙ c.in_ok-key.ensures) in
+    let found : value_at next T (part_at field.part ∷ []) (form_at field.form) (option_copied c.near-value.result) ≡ group_at next T fields (alone asks) = ap (value_at next T (part_at field.part ∷ []) (form_at field.form)) value in
+    subst (λ n. OnOk c.show_value.result (c.show_value.new.met ≡ n)) (ap (λ (r : Found). stood_onto c.args.met.now r.1) found ∙ ap (λ b. stood_onto c.args.met.now (field_met b next T fields asks)) is) c.show_value.ensures.met
 
 pub show_field-returns-clause-looks : goal.show_field-returns-clause-looks
 show_field-returns-clause-looks g t c =
@@ -671,8 +676,8 @@ show_field-returns-clause-looks g t c =
     let asks = asked_at field in
     let taken : c.takes.result ≡ true = search rules in
     let is : true ≡ is_taken (span_of c.args.span) field.response.now = sym taken ∙ c.takes.ensures ∙ ap (is_taken (span_of c.args.span)) c.as_str.ensures in
-    let value : option_copied c.field_near-value.result ≡ fields (read_key (ask_at field)) = c.field_near-value.ensures ∙ ap fields (c.as_str-3.ensures ∙ c.in_ok-key.ensures) in
-    let found : value_at next T (part_at field.part ∷ []) (form_at field.form) (option_copied c.field_near-value.result) ≡ group_at next T fields (alone asks) = ap (value_at next T (part_at field.part ∷ []) (form_at field.form)) value in
+    let value : option_copied c.near-value.result ≡ fields (read_key (ask_at field)) = c.near-value.ensures ∙ ap fields (c.as_str-3.ensures ∙ c.in_ok-key.ensures) in
+    let found : value_at next T (part_at field.part ∷ []) (form_at field.form) (option_copied c.near-value.result) ≡ group_at next T fields (alone asks) = ap (value_at next T (part_at field.part ∷ []) (form_at field.form)) value in
     subst (λ n. g.S.Count.Steps.looks c.show_value.new.steps ≤ g.S.Count.Steps.looks c.args.steps.now + n) (ap (λ (r : Found). length r.1.seen) found ∙ ap (λ b. length (field_met b next T fields asks).seen) is) c.show_value.ensures.looks
 
 -- ---- a list
@@ -708,7 +713,7 @@ show_pointer-returns-clause-met g t c =
     let p = spread_at c.args.spread in
     let inline : true ≡ c.args.spread.inline = search rules in
     let types : c.in_ok-itself.itself ≡ at.name.now ∷ [] = c.in_ok-itself.ensures in
-    subst (λ n. OnOk c.show_record.result (c.show_record.new.met ≡ n)) (ap (λ ts. met_onto c.args.met.now (next ts (p.body ∷ []) at.id.now).1) types ∙ ap (λ b. met_onto c.args.met.now (pointer_at next at.name.now at.id.now p b).1) inline) c.show_record.ensures.met
+    subst (λ n. OnOk c.show_record.result (c.show_record.new.met ≡ n)) (ap (λ ts. stood_onto c.args.met.now (next ts (p.body ∷ []) at.id.now).1) types ∙ ap (λ b. stood_onto c.args.met.now (pointer_at next at.name.now at.id.now p b).1) inline) c.show_record.ensures.met
 
 pub show_pointer-returns-clause-looks : goal.show_pointer-returns-clause-looks
 show_pointer-returns-clause-looks g t c =

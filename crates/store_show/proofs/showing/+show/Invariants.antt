@@ -5,8 +5,8 @@ use Rattle.plan_ir.specs.ReaderView.{step_of, steps_of}
 use Rattle.store_model.specs.Walks.{elements_at}
 use Rattle.store_show.proofs.showing.+show.Given as goal
 use Rattle.store_read.specs.FieldView.{part_at}
-use Rattle.store_read.specs.Meeting.{met_onto}
 use Rattle.store_show.specs.Showing.{below, elements_tokens, members_at, members_met_at, pairs_tokens, pointers_at, pointers_met_at}
+use Rattle.store_show.specs.Stood.{stood_onto}
 use Rattle.store_show.specs.Spans.{span_of}
 
 abbrev pub decreases-show_record : goal.decreases-show_record
@@ -39,6 +39,9 @@ decreases-show_fields g l = 30 * depth l.plan.now + 7
 abbrev pub decreases-show_step : goal.decreases-show_step
 decreases-show_step g l = 30 * depth (step_of l.step.now) + 6
 
+abbrev pub decreases-show_guarded : goal.decreases-show_guarded
+decreases-show_guarded g l = 30 * depth l.child.now.steps + 8
+
 abbrev pub decreases-show_field : goal.decreases-show_field
 decreases-show_field g l = 30 * depth (part_at l.field.part).steps + 22
 
@@ -66,8 +69,8 @@ invariant-show_fields-steps g l = record {
   shown : l.out.tokens ++ pairs_tokens (members_at (g.S.RecordSource.records l.store.source.now) l.store.root.now l.store.owner.now l.at (span_of l.span) (steps_of (drop l.place l.items)))
       ≡ l.initial.out.tokens ++ pairs_tokens (members_at (g.S.RecordSource.records l.store.source.now) l.store.root.now l.store.owner.now l.at (span_of l.span) l.plan);
   before : l.out.before ≡ l.initial.out.before;
-  met : met_onto l.met (members_met_at (g.S.RecordSource.records l.store.source.now) l.store.root.now l.store.owner.now l.at (span_of l.span) (steps_of (drop l.place l.items)))
-      ≡ met_onto l.initial.met (members_met_at (g.S.RecordSource.records l.store.source.now) l.store.root.now l.store.owner.now l.at (span_of l.span) l.plan);
+  met : stood_onto l.met (members_met_at (g.S.RecordSource.records l.store.source.now) l.store.root.now l.store.owner.now l.at (span_of l.span) (steps_of (drop l.place l.items)))
+      ≡ stood_onto l.initial.met (members_met_at (g.S.RecordSource.records l.store.source.now) l.store.root.now l.store.owner.now l.at (span_of l.span) l.plan);
   looks : g.S.Count.Steps.looks l.steps + length (members_met_at (g.S.RecordSource.records l.store.source.now) l.store.root.now l.store.owner.now l.at (span_of l.span) (steps_of (drop l.place l.items))).seen
       ≤ g.S.Count.Steps.looks l.initial.steps + length (members_met_at (g.S.RecordSource.records l.store.source.now) l.store.root.now l.store.owner.now l.at (span_of l.span) l.plan).seen;
   applies : g.S.Count.Steps.applies l.steps ≡ g.S.Count.Steps.applies l.initial.steps;
@@ -79,8 +82,8 @@ invariant-show_pointers-steps g l = record {
   shown : l.out.tokens ++ pairs_tokens (pointers_at (g.S.RecordSource.records l.store.source.now) l.store.root.now l.store.owner.now l.at (steps_of (drop l.step-index l.step-items)))
       ≡ l.initial.out.tokens ++ pairs_tokens (pointers_at (g.S.RecordSource.records l.store.source.now) l.store.root.now l.store.owner.now l.at l.plan);
   before : l.out.before ≡ l.initial.out.before;
-  met : met_onto l.met (pointers_met_at (g.S.RecordSource.records l.store.source.now) l.store.root.now l.store.owner.now l.at (steps_of (drop l.step-index l.step-items)))
-      ≡ met_onto l.initial.met (pointers_met_at (g.S.RecordSource.records l.store.source.now) l.store.root.now l.store.owner.now l.at l.plan);
+  met : stood_onto l.met (pointers_met_at (g.S.RecordSource.records l.store.source.now) l.store.root.now l.store.owner.now l.at (steps_of (drop l.step-index l.step-items)))
+      ≡ stood_onto l.initial.met (pointers_met_at (g.S.RecordSource.records l.store.source.now) l.store.root.now l.store.owner.now l.at l.plan);
   looks : g.S.Count.Steps.looks l.steps + length (pointers_met_at (g.S.RecordSource.records l.store.source.now) l.store.root.now l.store.owner.now l.at (steps_of (drop l.step-index l.step-items))).seen
       ≤ g.S.Count.Steps.looks l.initial.steps + length (pointers_met_at (g.S.RecordSource.records l.store.source.now) l.store.root.now l.store.owner.now l.at l.plan).seen;
   applies : g.S.Count.Steps.applies l.steps ≡ g.S.Count.Steps.applies l.initial.steps;
@@ -91,8 +94,8 @@ invariant-show_elements-ids g l = record {
   shown : l.out.tokens ++ elements_tokens (elements_at (below (g.S.RecordSource.records l.store.source.now) l.store.root.now l.store.owner.now l.levels) l.types (part_at l.part ∷ []) (drop l.id-index l.ids)).0
       ≡ l.initial.out.tokens ++ elements_tokens (elements_at (below (g.S.RecordSource.records l.store.source.now) l.store.root.now l.store.owner.now l.levels) l.types (part_at l.part ∷ []) l.ids).0;
   before : l.out.before ≡ l.initial.out.before;
-  met : met_onto l.met (elements_at (below (g.S.RecordSource.records l.store.source.now) l.store.root.now l.store.owner.now l.levels) l.types (part_at l.part ∷ []) (drop l.id-index l.ids)).1
-      ≡ met_onto l.initial.met (elements_at (below (g.S.RecordSource.records l.store.source.now) l.store.root.now l.store.owner.now l.levels) l.types (part_at l.part ∷ []) l.ids).1;
+  met : stood_onto l.met (elements_at (below (g.S.RecordSource.records l.store.source.now) l.store.root.now l.store.owner.now l.levels) l.types (part_at l.part ∷ []) (drop l.id-index l.ids)).1
+      ≡ stood_onto l.initial.met (elements_at (below (g.S.RecordSource.records l.store.source.now) l.store.root.now l.store.owner.now l.levels) l.types (part_at l.part ∷ []) l.ids).1;
   looks : g.S.Count.Steps.looks l.steps + length (elements_at (below (g.S.RecordSource.records l.store.source.now) l.store.root.now l.store.owner.now l.levels) l.types (part_at l.part ∷ []) (drop l.id-index l.ids)).1.seen
       ≤ g.S.Count.Steps.looks l.initial.steps + length (elements_at (below (g.S.RecordSource.records l.store.source.now) l.store.root.now l.store.owner.now l.levels) l.types (part_at l.part ∷ []) l.ids).1.seen;
   applies : g.S.Count.Steps.applies l.steps ≡ g.S.Count.Steps.applies l.initial.steps;

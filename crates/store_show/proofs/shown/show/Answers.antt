@@ -4,11 +4,12 @@ use Rattle.gql_plain.specs.Order.{AreSortedOf}
 use Rattle.plan_ir.specs.ReaderMeaning.{plan_reads, records_below}
 use Rattle.store_model.specs.Walks.{Found, type_of_record}
 use Rattle.store_read.specs.FieldView.{part_at}
-use Rattle.store_read.specs.Meeting.{Meeting, met_onto}
+use Rattle.store_read.specs.Meeting.{Meeting}
 use Rattle.store_read.specs.Reading.{slots}
 use Rattle.store_show.proofs.ShownAlike.{alike_looks, alike_missing, alike_seen, alike_tokens, shown_alike}
 use Rattle.store_show.proofs.shown.show.Goals as goal
 use Rattle.store_show.specs.Showing.{below, led, walks}
+use Rattle.store_show.specs.Stood.{stood_onto}
 use Rattle.store_show.specs.declared.lead.Lead.TheVariants.{Alone}
 
 pub returns-clause-shown : goal.returns-clause-shown
@@ -44,7 +45,7 @@ returns-clause-missing g c =
     let found = walks m env.root owner env.values levels types plan id in
     let shows = plan_reads (type_of_record env.root) owner (slots m) env.values plan types id in
     let alike = shown_alike m env.root owner env.values types plan id c.requires levels deep in
-    let met = c.in_ok-show_record.ensures.met ∙ ap (λ (r : Found). met_onto c.new-met.result r.1) whole in
+    let met = c.in_ok-show_record.ensures.met ∙ ap (λ (r : Found). stood_onto c.new-met.result r.1) whole in
     ap (λ (x : Meeting). x.missing) c.met.view_is ∙ alike_missing found shows alike c.new-met.result c.show_record.new.met c.new-met.ensures met
 
 pub returns-clause-seen : goal.returns-clause-seen
@@ -62,7 +63,7 @@ returns-clause-seen g c =
     let found = walks m env.root owner env.values levels types plan id in
     let shows = plan_reads (type_of_record env.root) owner (slots m) env.values plan types id in
     let alike = shown_alike m env.root owner env.values types plan id c.requires levels deep in
-    let met = c.in_ok-show_record.ensures.met ∙ ap (λ (r : Found). met_onto c.new-met.result r.1) whole in
+    let met = c.in_ok-show_record.ensures.met ∙ ap (λ (r : Found). stood_onto c.new-met.result r.1) whole in
     alike_seen found shows alike c.new-met.result c.show_record.new.met (map (λ t. t.now) c.in_ok-sorted_texts.field-0.items) c.new-met.ensures met (subst (λ (x : Meeting). AreSortedOf x.seen (map (λ t. t.now) c.in_ok-sorted_texts.field-0.items)) c.met.view_is c.in_ok-sorted_texts.ensures)
 
 pub returns-clause-looks : goal.returns-clause-looks
