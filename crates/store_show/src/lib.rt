@@ -10,5 +10,6 @@ mod showing;
 pub mod shown;
 mod span;
 mod standings;
+mod values;
 
 pub use shown::{Seen, show};

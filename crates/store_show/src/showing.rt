@@ -1,5 +1,5 @@
 //! The walk along records that writes what it shows.
-ghost use Rattle.std.specs.Prelude.{◌≡◌, ◌+◌, ◌≤◌, ◌++◌, ◌∷◌, [], None, Some, length, option_copied, IfOk, OnOk};
+ghost use Rattle.std.specs.Prelude.{◌≡◌, ◌+◌, ◌≤◌, ◌++◌, ◌∷◌, [], Some, length, option_copied, IfOk, OnOk};
 ghost use Rattle.gql_plain.specs.Order.{has_text};
 ghost use Rattle.gql_plain.specs.ToJson.{tree_tokens};
 ghost use Rattle.plan_groups.specs.FieldView.{form_at};
@@ -21,6 +21,7 @@ use crate::lead::Lead;
 use crate::row_at::RowAt;
 use crate::span::Span;
 use crate::standings::Standings;
+use crate::values::{lost, show_leaf, show_null};
 use gql_plain::{Id, Ids, NoMemory, Plain, SharedText, Words, write_plain};
 use json::Writer;
 use plan_groups::{Call, FormAt, connection_in, form_of_objects, guard_passes};
@@ -72,16 +73,6 @@ pub(crate) fn show_record<'p, S: RecordSource>(
         Some(Slot::Deleted) => lead.null(out),
         None => lost(lead, met, out),
     }
-}
-
-/// Notes that a value is missing, and writes what stands for it.
-fn lost(lead: Lead<'_>, met: &mut Standings<'_>, out: &mut Writer) -> Result<(), NoMemory>
-    ensures tokens { OnOk result (out.new.tokens ≡ out.old.tokens ++ led lead.entry None) }
-    ensures before { out.new.before ≡ out.old.before }
-    ensures met { met.new ≡ stood_onto met.old walks.missing_trace }
-{
-    met.lose();
-    lead.missing(out)
 }
 
 /// Writes a live record, which is missing where it is of another type.
@@ -436,49 +427,6 @@ fn show_value<'p, S: RecordSource>(
         FormAt::Many(to) => show_many(
             alloc, store, at.levels, to.types, part, field, lead, met, out, steps,
         ),
-    }
-}
-
-/// Writes a leaf.
-fn show_leaf(
-    field: Option<&Field>,
-    lead: Lead<'_>,
-    met: &mut Standings<'_>,
-    out: &mut Writer,
-) -> Result<(), NoMemory>
-    ensures shown { OnOk result (out.new.tokens ≡ out.old.tokens ++ led lead.entry (walks.leaf_at (option_copied field.entry)).0) }
-    ensures before { out.new.before ≡ out.old.before }
-    ensures met { OnOk result (met.new ≡ stood_onto met.old (walks.leaf_at (option_copied field.entry)).1) }
-{
-    match field {
-        Some(Field::Leaf(value)) => {
-            lead.begin(out)?;
-            write_plain(out, value)
-        }
-        Some(Field::Link(_)) => lost(lead, met, out),
-        Some(Field::Links(_)) => lost(lead, met, out),
-        None => lost(lead, met, out),
-    }
-}
-
-/// Writes a leaf under a field of objects: only null is not missing.
-fn show_null(
-    value: &Plain,
-    lead: Lead<'_>,
-    met: &mut Standings<'_>,
-    out: &mut Writer,
-) -> Result<(), NoMemory>
-    ensures shown { OnOk result (out.new.tokens ≡ out.old.tokens ++ led lead.entry (walks.null_alone value.now).0) }
-    ensures before { out.new.before ≡ out.old.before }
-    ensures met { OnOk result (met.new ≡ stood_onto met.old (walks.null_alone value.now).1) }
-{
-    match value {
-        Plain::Null => lead.null(out),
-        Plain::Bool(_) => lost(lead, met, out),
-        Plain::Int(_) => lost(lead, met, out),
-        Plain::Text(_) => lost(lead, met, out),
-        Plain::List(_) => lost(lead, met, out),
-        Plain::Tree(_) => lost(lead, met, out),
     }
 }
 
