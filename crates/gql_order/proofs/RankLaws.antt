@@ -10,8 +10,7 @@ use Rattle.std.specs.Ordering.{MatchOrdering, ordering_then}
 use Rattle.gql_plain.specs.Order.{AreInOrder}
 use Rattle.gql_order.proofs.HeadLaws.{less_by_heads, less_number, order, same_number}
 use Rattle.gql_order.specs.Heads.{IsHead}
-use Rattle.gql_order.specs.Ranks.{AllRanked, HasStart, IsBefore, IsBehind, IsRank, RanksRise, rank_lt}
-use Rattle.gql_order.specs.declared.heads.Rank.{Rank}
+use Rattle.gql_order.specs.Ranks.{AllRanked, HasStart, IsBefore, IsBehind, IsRank, RanksRise}
 use Rattle.gql_order.specs.declared.heads.Ranked.{Ranked}
 
 -- ---- texts beside what they may begin with
@@ -51,35 +50,20 @@ same_start (a ∷ start) one other less = ap (λ o. ordering_then o (order (star
 
 -- ---- ranks
 
-lt_cases : (a b h k : ℕ) → (nat_lt a b || (nat_eq a b && nat_lt h k)) ≡ true → (a < b) ⊎ ((a ≡ b) × (h < k))
-lt_cases a b h k less = on (nat_lt a b) (nat_eq a b) (nat_lt h k) refl refl refl less
-  where
-    on : (p q r : Bool) → nat_lt a b ≡ p → nat_eq a b ≡ q → nat_lt h k ≡ r → (p || (q && r)) ≡ true → (a < b) ⊎ ((a ≡ b) × (h < k))
-    on true q r e f g all = inl (ltb-true a b e)
-    on false true true e f g all = inr (eqb-true a b f, ltb-true h k g)
-    on false true false e f g all = absurd (true≢false (sym all))
-    on false false r e f g all = absurd (true≢false (sym all))
+never : {A : Type 0} → Greater ≡ Less → A
+never e = absurd (true≢false (sym (ap is_lt e)))
 
-pub less_by_ranks : (start one other : List ℕ) (r s : Rank) → IsRank start one r → IsRank start other s → rank_lt r s ≡ true → order one other ≡ Less
-less_by_ranks start one other r s is also less = on is also (lt_cases r.class s.class r.head s.head less)
-  where
-    on : IsRank start one r → IsRank start other s → (r.class < s.class) ⊎ ((r.class ≡ s.class) × (r.head < s.head)) → order one other ≡ Less
-    on (inl a) (inl b) (inl lt) = absurd (omega (arith, a.0, b.0, lt))
-    on (inl a) (inl b) (inr lt) = less_by_heads one other r.head s.head a.2 b.2 lt.1
-    on (inl a) (inr (inl b)) lt = subst (λ t. order one t ≡ Less) (sym b.2.is) (a.1.less b.0)
-    on (inl a) (inr (inr b)) lt = nat_list_cmp_total.trans one (start ++ []) other (a.1.less []) (b.1.less [])
-    on (inr (inl a)) (inl b) (inl lt) = absurd (omega (arith, a.1, b.0, lt))
-    on (inr (inl a)) (inl b) (inr lt) = absurd (omega (arith, a.1, b.0, lt.0))
-    on (inr (inl a)) (inr (inl b)) (inl lt) = absurd (omega (arith, a.1, b.1, lt))
-    on (inr (inl a)) (inr (inl b)) (inr lt) =
-        subst₂ (λ t u. order t u ≡ Less) (sym a.2.is) (sym b.2.is) (same_start start a.0 b.0 (less_by_heads a.0 b.0 r.head s.head a.3 b.3 lt.1))
-    on (inr (inl a)) (inr (inr b)) lt = subst (λ t. order t other ≡ Less) (sym a.2.is) (b.1.less a.0)
-    on (inr (inr a)) (inl b) (inl lt) = absurd (omega (arith, a.0, b.0, lt))
-    on (inr (inr a)) (inl b) (inr lt) = absurd (omega (arith, a.0, b.0, lt.0))
-    on (inr (inr a)) (inr (inl b)) (inl lt) = absurd (omega (arith, a.0, b.1, lt))
-    on (inr (inr a)) (inr (inl b)) (inr lt) = absurd (omega (arith, a.0, b.1, lt.0))
-    on (inr (inr a)) (inr (inr b)) (inl lt) = absurd (omega (arith, a.0, b.0, lt))
-    on (inr (inr a)) (inr (inr b)) (inr lt) = less_by_heads one other r.head s.head a.2 b.2 lt.1
+pub less_by_ranks : (start one other : List ℕ) (r s : ℕ) → IsRank start one r → IsRank start other s → r < s → order one other ≡ Less
+less_by_ranks start one other r s (inl a) (inl b) lt = less_by_heads (0 ∷ one) (0 ∷ other) r s a.1 b.1 lt
+less_by_ranks start one other r s (inl a) (inr (inl b)) lt = subst (λ t. order one t ≡ Less) (sym b.1.is) (a.0.less b.0)
+less_by_ranks start one other r s (inl a) (inr (inr b)) lt = nat_list_cmp_total.trans one (start ++ []) other (a.0.less []) (b.0.less [])
+less_by_ranks start one other r s (inr (inl a)) (inl b) lt = never (less_by_heads (1 ∷ a.0) (0 ∷ other) r s a.2 b.1 lt)
+less_by_ranks start one other r s (inr (inl a)) (inr (inl b)) lt =
+    subst₂ (λ t u. order t u ≡ Less) (sym a.1.is) (sym b.1.is) (same_start start a.0 b.0 (less_by_heads (1 ∷ a.0) (1 ∷ b.0) r s a.2 b.2 lt))
+less_by_ranks start one other r s (inr (inl a)) (inr (inr b)) lt = subst (λ t. order t other ≡ Less) (sym a.1.is) (b.0.less a.0)
+less_by_ranks start one other r s (inr (inr a)) (inl b) lt = never (less_by_heads (2 ∷ one) (0 ∷ other) r s a.1 b.1 lt)
+less_by_ranks start one other r s (inr (inr a)) (inr (inl b)) lt = never (less_by_heads (2 ∷ one) (1 ∷ b.0) r s a.1 b.2 lt)
+less_by_ranks start one other r s (inr (inr a)) (inr (inr b)) lt = less_by_heads (2 ∷ one) (2 ∷ other) r s a.1 b.1 lt
 
 -- ---- the rank of a text
 
@@ -88,19 +72,17 @@ less_of Less e = refl
 less_of Equal e = absurd (true≢false (sym e))
 less_of Greater e = absurd (true≢false (sym e))
 
-pub start_rank : (start text rest : List ℕ) (head : ℕ) → pointwise nat_eq (take (length start) text) start ≡ true → rest ≡ drop (length start) text → IsHead rest head
-    → IsRank start text (record { class = 1; head = head })
-start_rank start text rest head same left is =
+pub start_rank : (start text rest : List ℕ) (rank : ℕ) → pointwise nat_eq (take (length start) text) start ≡ true → rest ≡ drop (length start) text → IsHead (1 ∷ rest) rank → IsRank start text rank
+start_rank start text rest rank same left is =
     let begins : take (length start) text ≡ start = (bytes_decides (take (length start) text) start).0 same in
-    inr (inl (rest, refl, record { is = sym (take-append-drop (length start) text) ∙ ap (λ t. t ++ drop (length start) text) begins ∙ ap (λ t. start ++ t) (sym left) }, is))
+    inr (inl (rest, record { is = sym (take-append-drop (length start) text) ∙ ap (λ t. t ++ drop (length start) text) begins ∙ ap (λ t. start ++ t) (sym left) }, is))
 
-pub side_rank : (start text : List ℕ) (class head : ℕ) → pointwise nat_eq (take (length start) text) start ≡ false → class ≡ (if is_lt (order text start) then 0 else 2) → IsHead text head
-    → IsRank start text (record { class = class; head = head })
-side_rank start text class head other side is = on (is_lt (order text start)) refl side
+pub side_rank : (start text : List ℕ) (class rank : ℕ) → pointwise nat_eq (take (length start) text) start ≡ false → class ≡ (if is_lt (order text start) then 0 else 2) → IsHead (class ∷ text) rank → IsRank start text rank
+side_rank start text class rank other side is = on (is_lt (order text start)) refl side
   where
-    on : (b : Bool) → is_lt (order text start) ≡ b → class ≡ (if b then 0 else 2) → IsRank start text (record { class = class; head = head })
-    on true e c = inl (c, record { less = λ rest. before_start start text rest (less_of (order text start) e) }, is)
-    on false e c = inr (inr (c, record { less = λ rest. behind_start start text rest other e }, is))
+    on : (b : Bool) → is_lt (order text start) ≡ b → class ≡ (if b then 0 else 2) → IsRank start text rank
+    on true e c = inl (record { less = λ rest. before_start start text rest (less_of (order text start) e) }, subst (λ x. IsHead (x ∷ text) rank) c is)
+    on false e c = inr (inr (record { less = λ rest. behind_start start text rest other e }, subst (λ x. IsHead (x ∷ text) rank) c is))
 
 -- ---- lists
 
@@ -117,7 +99,7 @@ module _ {T : Type 0} (key : T → List ℕ) where
       let within : k + 1 < length (r ∷ ranked) = rw length-map at lt in
       rw (get_or-map (λ q. key q.item) (r ∷ ranked) k r [] (omega (arith, within)), get_or-map (λ q. key q.item) (r ∷ ranked) (k + 1) r [] within)
       (less_by_ranks start (key (get_or (r ∷ ranked) k r).item) (key (get_or (r ∷ ranked) (k + 1) r).item) (get_or (r ∷ ranked) k r).rank (get_or (r ∷ ranked) (k + 1) r).rank
-      (all k r (omega (arith, within))) (all (k + 1) r within) (sym (rise k r within))))
+      (all k r (omega (arith, within))) (all (k + 1) r within) (ltb-true (get_or (r ∷ ranked) k r).rank (get_or (r ∷ ranked) (k + 1) r).rank (sym (rise k r within)))))
 
   pub texts_rise : (start : List ℕ) (ranked : List (Ranked T)) → AllRanked key start ranked → RanksRise ranked → AreInOrder (map key (map (λ r. r.item) ranked))
   texts_rise start ranked all rise = subst AreInOrder (sym (map_twice ranked)) (rise_by start ranked all rise)

@@ -1,15 +1,14 @@
 //! The first bytes of texts, as numbers.
 ghost use Rattle.std.specs.List.Sorted.{IsPermutation};
-ghost use Rattle.std.specs.Prelude.{◌≡◌, ℕ, List, true, IfOk, get_or, if◌then◌else◌, map};
+ghost use Rattle.std.specs.Prelude.{◌≡◌, ◌∷◌, ℕ, List, true, IfOk, get_or, if◌then◌else◌, map};
 ghost use Rattle.gql_order.specs.Heads.{IsHead, ReadsText};
-ghost use Rattle.gql_order.specs.Ranks.{AllRanked, IsRank, RanksRise, rank_lt};
+ghost use Rattle.gql_order.specs.Ranks.{AllRanked, IsRank, RanksRise};
 ghost use Rattle.std.specs.Cmp.Lexicographic.{slice_cmp};
 ghost use Rattle.std.specs.Ordering.{is_lt, nat_cmp};
 ghost use Rattle.gql_plain.specs.Order.{AreInOrder};
 
 use gql_plain::NoMemory;
 use std::alloc::Global;
-use std::cmp::Ordering;
 
 /// The most items that are left as they stand.
 const FEW: usize = 20;
@@ -26,23 +25,17 @@ pub struct HeadOrder<T> {
     pub is_rising: bool,
 }
 
-/// Where the text of an item stands, as far as a few bytes tell.
-#[derive(Clone, Copy)]
-struct Rank {
-    /// 1 where the text begins with what texts mostly begin with, 0 where it stands before that, 2 behind.
-    class: u8,
-    /// Eight bytes of the text as one number: of class 1 those behind what texts mostly begin with.
-    head: u64,
-}
-
 /// An item and its rank.
 #[derive(Drop)]
 struct Ranked<T> {
-    rank: Rank,
+    /// Where its text stands, as far as a few bytes tell: eight bytes as one number. The first is 1 where the
+    /// text begins with what texts mostly begin with, 0 where it stands before that, 2 behind. Then come the
+    /// first seven bytes of the text, of the first kind those behind what texts mostly begin with.
+    rank: u64,
     item: T,
 }
 
-/// The items in the order of eight bytes of their texts, behind those that texts mostly begin with, where
+/// The items in the order of seven bytes of their texts, behind those that texts mostly begin with, where
 /// they are many: numbers are compared sooner than texts. A sort that follows finds nearly all in order. n
 /// items take about n * log n steps, and memory for n numbers.
 pub fn by_heads<T: Drop, F: Fn(&T) -> &str>(items: Vec<T>, text: F) -> Result<Vec<T>, NoMemory>
@@ -54,7 +47,7 @@ pub fn by_heads<T: Drop, F: Fn(&T) -> &str>(items: Vec<T>, text: F) -> Result<Ve
 }
 
 /// The items in the order of `by_heads`, and whether that is known to be the byte order of their texts, each
-/// once: where no two of the eight bytes are equal no text is read again. Of few items, which are left as
+/// once: where no two of these bytes are equal no text is read again. Of few items, which are left as
 /// they stand, it is not known.
 pub fn ordered_by_heads<T: Drop, F: Fn(&T) -> &str>(
     items: Vec<T>,
@@ -72,7 +65,7 @@ pub fn ordered_by_heads<T: Drop, F: Fn(&T) -> &str>(
     }
     let start = start_of(*items.allocator(), &items, &text)?;
     let mut ranked = ranked_of(items, &text, &start)?;
-    ranked.sort_by(|one, other| one.rank.compare(other.rank))?;
+    ranked.sort_by(|one, other| one.rank.cmp(&other.rank))?;
     let is_rising = do_rise(&ranked);
     Ok(HeadOrder {
         items: items_of(ranked)?,
@@ -113,39 +106,17 @@ fn items_of<T: Drop>(ranked: Vec<Ranked<T>>) -> Result<Vec<T>, NoMemory>
 fn do_rise<T>(ranked: &[Ranked<T>]) -> bool
     ensures { result ≡ true → RanksRise ranked.now }
 {
-    ranked.is_sorted_by(|one, other| one.rank.is_before(other.rank))
-}
-
-impl Rank {
-    /// The order of two ranks; takes no memory.
-    fn compare(self, other: Rank) -> Ordering {
-        self.class
-            .cmp(&other.class)
-            .then(self.head.cmp(&other.head))
-    }
-
-    /// Whether a rank stands before another; takes no memory.
-    fn is_before(self, other: Rank) -> bool
-        ensures { result ≡ rank_lt self other }
-    {
-        self.class < other.class || self.class == other.class && self.head < other.head
-    }
+    ranked.is_sorted_by(|one, other| one.rank < other.rank)
 }
 
 /// The rank of a text among those that mostly begin with some bytes; takes no memory.
-fn rank_of(text: &str, start: &[u8]) -> Rank
+fn rank_of(text: &str, start: &[u8]) -> u64
     ensures { IsRank start.now text.now result }
 {
     let bytes = text.as_bytes();
     match bytes.strip_prefix(start) {
-        Some(rest) => Rank {
-            class: 1,
-            head: head_of(rest),
-        },
-        None => Rank {
-            class: side_of(bytes, start),
-            head: head_of(bytes),
-        },
+        Some(rest) => head_of(1, rest),
+        None => head_of(side_of(bytes, start), bytes),
     }
 }
 
@@ -159,12 +130,13 @@ fn side_of(bytes: &[u8], start: &[u8]) -> u8
     2
 }
 
-/// The first eight bytes as one number, of which the first counts most, with zeros behind the end; takes no
-/// memory.
-fn head_of(bytes: &[u8]) -> u64
-    ensures { IsHead bytes.now result }
+/// A byte and the first seven of some bytes as one number, of which the first counts most, with zeros behind
+/// the end; takes no memory.
+fn head_of(first: u8, bytes: &[u8]) -> u64
+    ensures { IsHead (first ∷ bytes.now) result }
 {
     u64::from_be_bytes([
+        first,
         byte_at(bytes, 0),
         byte_at(bytes, 1),
         byte_at(bytes, 2),
@@ -172,7 +144,6 @@ fn head_of(bytes: &[u8]) -> u64
         byte_at(bytes, 4),
         byte_at(bytes, 5),
         byte_at(bytes, 6),
-        byte_at(bytes, 7),
     ])
 }
 
