@@ -13,15 +13,22 @@ const MOST: u64 = 31;
 
 const FACTOR: u64 = 11_400_714_819_323_198_485;
 
+/// The number of bytes at the end of a key that stand in its digest as they are.
+const LAST: usize = 4;
+
 /// The number by which a tree orders a key first.
 #[tactic(auto, unfolding(store_tree::specs::KeyOrder::digest_of))]
 fn digest(key: &str) -> u64
     ensures { result ≡ digest_of key.now }
 {
-    let mut digest: u64 = 0;
     let bytes = key.as_bytes();
-    'bytes: for byte in bytes {
+    let (front, last) = bytes.split_at(bytes.len().saturating_sub(LAST));
+    let mut digest: u64 = 0;
+    'front: for byte in front {
         digest = digest.wrapping_add(u64::from(*byte)).wrapping_mul(FACTOR);
+    }
+    'last: for byte in last {
+        digest = digest.wrapping_mul(256).wrapping_add(u64::from(*byte));
     }
     digest
 }
@@ -320,8 +327,8 @@ fn puts_make_no_node_where_no_version_holds_it(rt: HostRuntime) -> Result<(), Fa
     Ok(())
 }
 
-/// Two texts of 1,024 bytes that have one digest: each is `a` or `b`, ten times followed by the
-/// other one.
+/// Two texts of 1,028 bytes that have one digest: each is `a` or `b`, ten times followed by the
+/// other one, and the same four bytes.
 fn twins(alloc: Global) -> Result<(String, String), NoMemory> {
     let mut one = String::from_str(alloc, "a")?;
     let mut other = String::from_str(alloc, "b")?;
@@ -330,6 +337,8 @@ fn twins(alloc: Global) -> Result<(String, String), NoMemory> {
         one.push_str(other.as_str())?;
         other.push_str(before.as_str())?;
     }
+    one.push_str("last")?;
+    other.push_str("last")?;
     Ok((one, other))
 }
 

@@ -1,7 +1,6 @@
 -- The newest changes over a tree: what a look-up, a change, the number of nodes and the keys are there.
-use Rattle.std.proofs.Common.{◌≡◌, ℕ, zero, suc, ◌+◌, ◌*◌, ◌/◌, ◌<◌, ◌≤◌, Bool, true, false, cond, List, [], ◌∷◌, ◌++◌, map, Option, Some, None, nat_cmp, length, drop, get_or, append_assoc, add-one, drop-cons, refl, sym, ap, subst, ◌∙◌, arith}
-use Rattle.std.specs.Prelude.{not, nat_eq}
-use Rattle.std.proofs.lemmas.Bool.{eqb-true, eqb-false}
+use Rattle.std.proofs.Common.{◌≡◌, ℕ, ◌+◌, ◌*◌, ◌<◌, ◌≤◌, Bool, true, false, cond, List, [], ◌∷◌, ◌++◌, map, Option, Some, None, nat_cmp, length, drop, get_or, append_assoc, add-one, drop-cons, refl, sym, ap, subst, ◌∙◌, arith}
+use Rattle.std.specs.Prelude.{not}
 use Rattle.std.specs.Cmp.{alike_right, eq_by_cmp_equiv}
 use Rattle.std.specs.Cmp.Lexicographic.{slice_cmp, nat_list_cmp_total}
 use Rattle.std.specs.FinMap.{find, put, get, insert, remove, keys, len, contains_key, from_sorted, from_entries, get-from_sorted, get-from_entries, get-insert, get-remove, len-insert, same_map, slice_cmp-IsAntisymmetric, nat_cmp-IsAntisymmetric}
@@ -9,9 +8,10 @@ use Rattle.std.specs.FinMap.Entries.{find-where_key}
 use Rattle.std.specs.Ordering.{eq_by_cmp, is_eq}
 use Rattle.gql_plain.specs.Order.{AreSortedOf}
 use Rattle.store_record.specs.declared.record.Slot.{Slot}
-use Rattle.store_tree.specs.Contents.{KeysRise, binary_digits, halvings, keys_of, without_key}
+use Rattle.store_tree.specs.Contents.{KeysRise, binary_digits, keys_of, without_key}
 use Rattle.store_tree.proofs.AsMap.{from_sorted-put, from_sorted-without_key}
 use Rattle.store_tree.proofs.ByBytes.{sorted_keys}
+use Rattle.store_tree.proofs.Low.{binary_digits-rise}
 use Rattle.store_source.proofs.InMemory.{entries_made}
 use Rattle.store_source.proofs.InTree.{tree_keys, tree_nodes}
 use Rattle.store_source.specs.Newest.{laid}
@@ -116,24 +116,6 @@ laid_removed changes left pairs after seen is rise id e f =
     ∙ ap (λ m. remove m id) is
 
 -- ---- the number of nodes
-
-halvings-rise : (k l m n : ℕ) → k ≤ l → m ≤ n → halvings k m ≤ halvings l n
-halvings-rise zero l m n p q = omega arith
-halvings-rise (suc k) zero m n p q = absurd (omega arith)
-halvings-rise (suc k) (suc l) m n p q =
-    let rest : halvings k (m / 2) ≤ halvings l (n / 2) = halvings-rise k l (m / 2) (n / 2) (omega arith) (omega arith) in
-    elim (nat_eq m 0) as (λ b. nat_eq m 0 ≡ b → elim b as (λ _. ℕ) [ true ↦ 0 | false ↦ halvings k (m / 2) + 1 ] ≤ elim (nat_eq n 0) as (λ _. ℕ) [ true ↦ 0 | false ↦ halvings l (n / 2) + 1 ]) [
-      | true ↦ λ e. omega arith
-      | false ↦ λ e.
-          elim (nat_eq n 0) as (λ b. nat_eq n 0 ≡ b → halvings k (m / 2) + 1 ≤ elim b as (λ _. ℕ) [ true ↦ 0 | false ↦ halvings l (n / 2) + 1 ]) [
-            | true ↦ λ f. let z = eqb-true n 0 f in let w = eqb-false m 0 e in absurd (omega arith)
-            | false ↦ λ f. omega (arith, rest)
-          ] refl
-    ] refl
-
-binary_digits-rise : (m n : ℕ) → m ≤ n → binary_digits m ≤ binary_digits n
-unfolding binary_digits
-binary_digits-rise m n p = halvings-rise m n m n p p
 
 one_more : (b : Bool) (n : ℕ) → n ≤ cond b n (n + 1)
 one_more true n = omega arith

@@ -62,6 +62,25 @@ pub below-binary_digits : (n : ℕ) → n < 2 ^ binary_digits n
 unfolding binary_digits
 below-binary_digits n = enough_halvings n n (omega arith)
 
+halvings-rise : (k l m n : ℕ) → k ≤ l → m ≤ n → halvings k m ≤ halvings l n
+halvings-rise zero l m n p q = omega arith
+halvings-rise (suc k) zero m n p q = absurd (omega arith)
+halvings-rise (suc k) (suc l) m n p q =
+    let rest : halvings k (m / 2) ≤ halvings l (n / 2) = halvings-rise k l (m / 2) (n / 2) (omega arith) (omega arith) in
+    elim (nat_eq m 0) as (λ b. nat_eq m 0 ≡ b → elim b as (λ _. ℕ) [ true ↦ 0 | false ↦ halvings k (m / 2) + 1 ] ≤ elim (nat_eq n 0) as (λ _. ℕ) [ true ↦ 0 | false ↦ halvings l (n / 2) + 1 ]) [
+      | true ↦ λ e. omega arith
+      | false ↦ λ e.
+          elim (nat_eq n 0) as (λ b. nat_eq n 0 ≡ b → halvings k (m / 2) + 1 ≤ elim b as (λ _. ℕ) [ true ↦ 0 | false ↦ halvings l (n / 2) + 1 ]) [
+            | true ↦ λ f. let z = eqb-true n 0 f in let w = eqb-false m 0 e in absurd (omega arith)
+            | false ↦ λ f. omega (arith, rest)
+          ] refl
+    ] refl
+
+-- more entries, no fewer digits
+pub binary_digits-rise : (m n : ℕ) → m ≤ n → binary_digits m ≤ binary_digits n
+unfolding binary_digits
+binary_digits-rise m n p = halvings-rise m n m n p p
+
 pub low-opened : {V : Type 0} (link : Link V) (d : Contents V) → IsBalanced link → contents_of link ≡ d → d.height ≤ 2 * binary_digits (length d.pairs)
 low-opened Empty d p q = subst (λ x. x.height ≤ 2 * binary_digits (length x.pairs)) q (omega arith)
 low-opened (Leaf leaf) d p q =

@@ -12,6 +12,10 @@ use Rattle.store_tree.proofs.Order as order
 abbrev key_of : {V : Type 0} → Node V → List ℕ
 key_of n = n.item.0
 
+-- an entry is the pair of its parts
+pub whole : {V : Type 0} (l r : List (List ℕ × V)) (e : List ℕ × V) (ps : List (List ℕ × V)) → l ++ (e.0, e.1) ∷ r ≡ ps → l ++ e ∷ r ≡ ps
+whole l r e ps h = h
+
 module _ {V : Type 0} (pairs : List (List ℕ × V)) (n : Node V) (is : pairs ≡ pairs_of n) where
   pub shorter : (length n.left.pairs < length pairs) × (length n.right.pairs < length pairs)
   shorter = let e = ap length is ∙ length-append n.left.pairs (n.item ∷ n.right.pairs) in (omega arith, omega arith)

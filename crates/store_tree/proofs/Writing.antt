@@ -23,9 +23,6 @@ length-put_most R key v (e ∷ es) = at (length-put_most R key v es) (R key e.0)
     at more Equal = omega arith
     at more Greater = omega (arith, more)
 
-whole : {V : Type 0} (l r : List (List ℕ × V)) (e : List ℕ × V) (ps : List (List ℕ × V)) → l ++ (e.0, e.1) ∷ r ≡ ps → l ++ e ∷ r ≡ ps
-whole l r e ps h = h
-
 module _ {V : Type 0} (n : Node V) (even : IsEven n) (in_order : T (is_sorted key_cmp (pairs_of n))) (e : List ℕ × V) where
   pub written-left : (side : Contents V) (count : ℕ) → n.count + 1 < 2 ^ 64 → key_cmp e.0 n.item.0 ≡ Less
       → side.pairs ≡ put key_cmp e.0 e.1 n.left.pairs → side.height ≡ n.left.height
@@ -49,7 +46,7 @@ module _ {V : Type 0} (n : Node V) (even : IsEven n) (in_order : T (is_sorted ke
 
   pub written-middle : key_cmp e.0 n.item.0 ≡ Equal
       → IsNodeWritten e n (record { left = n.left; item = e; right = n.right; count = n.count; height = n.height }) None
-  written-middle p = (whole n.left.pairs n.right.pairs e _ (sides.put-equal (pairs_of n) n refl in_order e.0 e.1 p), refl, even-middle n e even)
+  written-middle p = (sides.whole n.left.pairs n.right.pairs e _ (sides.put-equal (pairs_of n) n refl in_order e.0 e.1 p), refl, even-middle n e even)
 
 -- what holds of a branch in either case
 module _ {V : Type 0} (item : List ℕ × V) (before after : Contents V) where

@@ -10,15 +10,23 @@ use std::rc::Rc;
 
 const FACTOR: u64 = 11_400_714_819_323_198_485;
 
-/// The number by which a key is ordered first; takes no memory.
+/// The number of bytes at the end of a key that stand in its digest as they are.
+const LAST: usize = 4;
+
+/// The number by which a key is ordered first; takes no memory. Keys that differ in their last four bytes alone
+/// stand side by side, in byte order, so what goes through them in turn stays in few leaves.
 #[tactic(auto, unfolding(crate::specs::KeyOrder::digest_of))]
 pub(crate) fn digest(key: &str) -> u64
     ensures { result ≡ digest_of key.now }
 {
-    let mut digest: u64 = 0;
     let bytes = key.as_bytes();
-    'bytes: for byte in bytes {
+    let (front, last) = bytes.split_at(bytes.len().saturating_sub(LAST));
+    let mut digest: u64 = 0;
+    'front: for byte in front {
         digest = digest.wrapping_add(u64::from(*byte)).wrapping_mul(FACTOR);
+    }
+    'last: for byte in last {
+        digest = digest.wrapping_mul(256).wrapping_add(u64::from(*byte));
     }
     digest
 }

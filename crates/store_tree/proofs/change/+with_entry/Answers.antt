@@ -8,9 +8,6 @@ use Rattle.store_tree.proofs.Opened.{pairs-opened, leaf-opened}
 use Rattle.store_tree.proofs.Sides as sides
 use Rattle.store_tree.proofs.change.+with_entry.Goals as goal
 
-whole : {V : Type 0} (l r : List (List ℕ × V)) (e : List ℕ × V) (ps : List (List ℕ × V)) → l ++ (e.0, e.1) ∷ r ≡ ps → l ++ e ∷ r ≡ ps
-whole l r e ps h = h
-
 pub with_in_leaf-requires-clause-in_order : goal.with_in_leaf-requires-clause-in_order
 with_in_leaf-requires-clause-in_order g t c =
     let is = leaf-opened _ _ c.branch.view_is _ c.in-Leaf.is in
@@ -56,7 +53,7 @@ returns-in_ok-share-in-Equal-2-clause-pairs g t c =
     let high : c.in_ok-share-in-Equal-2.field-0 ≡ n.right = cc (c.in_ok-share-in-Equal-2.ensures) in
     let middle = c.item.view_is in
     subst (λ ps. IfOk c.fork-in-Equal.result (λ b. b.pairs ≡ ps))
-    ((λ i. (low i).pairs ++ middle i ∷ (high i).pairs) ∙ whole n.left.pairs n.right.pairs e _ (sides.put-equal c.args.branch.now.pairs n is s e.0 e.1 p)) c.fork-in-Equal.ensures.pairs
+    ((λ i. (low i).pairs ++ middle i ∷ (high i).pairs) ∙ sides.whole n.left.pairs n.right.pairs e _ (sides.put-equal c.args.branch.now.pairs n is s e.0 e.1 p)) c.fork-in-Equal.ensures.pairs
 
 pub returns-in_ok-share-in-Greater-2-clause-pairs : goal.returns-in_ok-share-in-Greater-2-clause-pairs
 returns-in_ok-share-in-Greater-2-clause-pairs g t c =

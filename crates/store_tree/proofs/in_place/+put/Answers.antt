@@ -7,9 +7,6 @@ use Rattle.store_tree.proofs.Made.{length-put_least, made-again, even-left, even
 use Rattle.store_tree.proofs.Sides as sides
 use Rattle.store_tree.proofs.in_place.+put.Goals as goal
 
-whole : {V : Type 0} (l r : List (List ℕ × V)) (e : List ℕ × V) (ps : List (List ℕ × V)) → l ++ (e.0, e.1) ∷ r ≡ ps → l ++ e ∷ r ≡ ps
-whole l r e ps h = h
-
 pub put_beside-put_entry-requires : goal.put_beside-put_entry-requires
 put_beside-put_entry-requires g t c κs within =
     let n = c.args.place.now in
@@ -43,7 +40,7 @@ put_beside-returns-in-Equal-clause-made g t c =
     let n = c.args.place.now in
     let e = c.args.item in
     let p : key_cmp e.0 n.item.0 ≡ Equal = cc in
-    (even-middle n e c.requires.even, whole n.left.pairs n.right.pairs e _ (sides.put-equal (pairs_of n) n refl c.requires.in_order e.0 e.1 p), (omega arith, omega arith))
+    (even-middle n e c.requires.even, sides.whole n.left.pairs n.right.pairs e _ (sides.put-equal (pairs_of n) n refl c.requires.in_order e.0 e.1 p), (omega arith, omega arith))
 
 pub put_beside-put_entry-requires-in-Greater : goal.put_beside-put_entry-requires-in-Greater
 put_beside-put_entry-requires-in-Greater g t c κs within =
