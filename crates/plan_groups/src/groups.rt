@@ -34,7 +34,8 @@ impl<'p> Model for Groups<'p> {
 
 impl<'p> Groups<'p> {
     /// The groups that plans ask of an object of that type. Fields are found by their response keys,
-    /// so n fields take about n * log n steps.
+    /// so n fields take about n * log n steps; but distinct keys of connections under one response key
+    /// are put into their places one by one, so k of them take about k * k moves.
     pub fn of(alloc: Global, object: &str, parts: &[PlanAt<'p>]) -> Result<Groups<'p>, NoMemory>
         ensures { IfOk result (λ groups. groups ≡ groups_at collect_plan object.now (map plan_at parts.now)) }
     {
