@@ -261,25 +261,31 @@ fn round(rt: &HostRuntime, count: u64, times: &mut Times) -> io::Result<bool> {
     Ok(committed.is_ok() && changed.is_ok() && agree(&layers, &map, &keys))
 }
 
+/// Prints the least times of three rounds.
+fn print_times(rt: &HostRuntime, count: u64) -> io::Result<()> {
+    let mut times = Times {
+        commit: u64::MAX,
+        map: u64::MAX,
+    };
+    for _ in 0..3 {
+        if !round(rt, count, &mut times)? {
+            return println!(rt; "{count}: no memory, or the two differ");
+        }
+    }
+    let Times { commit, map } = times;
+    let ratio = commit.saturating_mul(100) / map.max(1);
+    println!(rt; "{count:>7}  {commit:>9}  {map:>6}  {}.{:02}", ratio / 100, ratio % 100)
+}
+
+/// Measures, or does nothing where a word is given, as when the program is made.
 fn main(rt: HostRuntime) -> io::Result<()> {
-    let rounds = env::args(&rt)?.count().min(2);
+    let mut words = env::args(&rt)?.skip(1);
+    if words.next().is_some() {
+        return Ok(());
+    }
     println!(rt; "records  commit ns  map ns  commit / map")?;
     for count in [8_192, 131_072, 524_288] {
-        let mut times = Times {
-            commit: u64::MAX,
-            map: u64::MAX,
-        };
-        for _ in 0..3 {
-            if rounds > 1 {
-                break;
-            }
-            if !round(&rt, count, &mut times)? {
-                println!(rt; "{count}: no memory, or the two differ")?;
-                return Ok(());
-            }
-        }
-        let ratio = times.commit.saturating_mul(100) / times.map.max(1);
-        println!(rt; "{count:>7}  {:>9}  {:>6}  {}.{:02}", times.commit, times.map, ratio / 100, ratio % 100)?;
+        print_times(&rt, count)?;
     }
     Ok(())
 }
