@@ -176,7 +176,7 @@ fn age_of(row: &Record) -> i64 {
     }
 }
 
-fn change(
+fn make_change(
     alloc: Global,
     map: &mut BTreeMap<String, Rc<Record>>,
     change: Change,
@@ -200,7 +200,7 @@ fn change_all(
     changes: Vec<Change>,
 ) -> Result<(), NoMemory> {
     for it in changes {
-        change(alloc, map, it)?;
+        make_change(alloc, map, it)?;
     }
     Ok(())
 }
