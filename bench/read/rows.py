@@ -1,4 +1,4 @@
-"""Reads, five to a script: lists of links, masked and inline fragments in them, a wide record, and a cycle of records 60 deep.
+"""Reads, five to a script, and fifty of a wide record: lists of links, masked and inline fragments in them, and a cycle of records 60 deep.
 
 The script without reads is taken off. What is left is held against a program that prints the data of the same line so often by serde_json
 alone; the reading of it is taken off. It prints ten times as often, and takes a tenth of the time for it, so that short times are told
@@ -8,9 +8,9 @@ from scripts import Row, answer, payload, read, retain, shown
 
 READS, TIMES = 5, 10
 
-def with_reads(documents, before, data, seen, handle="h"):
-    """The lines before, and then the reads, of which the last shows this."""
-    return documents, before + [read(handle)] * READS, shown(len(before) + READS, data, seen)
+def with_reads(reads, documents, before, data, seen, handle="h"):
+    """The lines before, and then so many reads, of which the last shows this."""
+    return documents, before + [read(handle)] * reads, shown(len(before) + reads, data, seen)
 
 def before_reads(documents, before, *_):
     """The lines before the reads alone."""
@@ -55,17 +55,16 @@ def deep(count):
               retain("C", "i"), payload({"me": {"id": "c", "friend": {"id": "c"}}}, "i"), retain("Q", "j")]
     return documents, before, {"team": [below] * count}, ["c", "client:root"] + [f"u{n}" for n in range(count)], "j"
 
-def printing(count):
-    """The words that print the data of the last line, and those that read it alone."""
-    return ["./printer", "{count}/due", str(READS * TIMES)], ["./printer", "{count}/due", "0"]
-
-def row(name, counts, make):
-    return Row(name, counts, lambda count: with_reads(*make(count)), without=lambda count: before_reads(*make(count)), beside=printing, beside_times=TIMES)
+def row(name, counts, make, reads=READS):
+    def printing(count):
+        """The words that print the data of the last line, and those that read it alone."""
+        return ["./printer", "{count}/due", str(reads * TIMES)], ["./printer", "{count}/due", "0"]
+    return Row(name, counts, lambda count: with_reads(reads, *make(count)), without=lambda count: before_reads(*make(count)), beside=printing, beside_times=TIMES)
 
 ROWS = [
     row("a list of links", (25_000, 50_000, 100_000), links),
     row("masked fragments in a list", (25_000, 50_000, 100_000), pointers),
     row("inline fragments in a list", (25_000, 50_000, 100_000), inline),
-    row("a record of many fields", (5_000, 10_000, 20_000), wide),
+    row("a record of many fields", (5_000, 10_000, 20_000), wide, reads=50),
     row("sixty deep, in a cycle", (500, 1_000, 2_000), deep),
 ]
