@@ -1,5 +1,6 @@
 #!/usr/bin/env python3
-"""try.py CRATE..: tries the edits of crates of the copy of the repository in this folder, each on the functions that it changes alone.
+"""try.py CRATE|EDIT..: tries edits of the copy of the repository in this folder, all of a crate or the file crates/NAME/edits/WHICH.edit, each on
+the functions that it changes alone.
 
 `run.sh` has the whole crate checked for each edit. This takes a tenth of that time, over libraries where bench/gate/give.py gave the copy some,
 and over sources else. An edit that changes definitions alone is tried on the whole crate. It writes a line an edit, whether the prover refused
@@ -89,13 +90,19 @@ def attempt(crate, edit):
         return True, f"refused ({' '.join(found)}): {told[:160]}"
     return False, f"NOT REFUSED ({' '.join(found)}, status {[status for status, _ in ran]}): {told[:160]}"
 
+def edits_of(word):
+    """The files of the edits that a word names."""
+    if word.endswith(".edit"):
+        return [word]
+    return sorted(glob.glob(f"crates/{word}/edits/*.edit") + glob.glob(f"crates/{word}/must-fail/*.edit"))
+
 def main():
     all_refused = True
-    for crate in sys.argv[1:]:
-        for edit in sorted(glob.glob(f"crates/{crate}/edits/*.edit") + glob.glob(f"crates/{crate}/must-fail/*.edit")):
-            is_refused, said = attempt(crate, edit)
-            all_refused = all_refused and is_refused
-            print(f"{crate}/{os.path.basename(edit)}: {said}", flush=True)
+    for edit in [it for word in sys.argv[1:] for it in edits_of(word)]:
+        crate = edit.split("/")[1]
+        is_refused, said = attempt(crate, edit)
+        all_refused = all_refused and is_refused
+        print(f"{crate}/{os.path.basename(edit)}: {said}", flush=True)
     sys.exit(0 if all_refused else 1)
 
 main()
