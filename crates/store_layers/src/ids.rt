@@ -8,6 +8,22 @@ use std::alloc::Global;
 use store_source::RecordSource;
 use store_update::Changed;
 
+/// The ids that an entry changes, and those that versions change before and after, in byte order. Where no version is
+/// live, the list itself is shared.
+pub(crate) fn ids_confirmed<S: RecordSource>(
+    alloc: Global,
+    first: &Ids,
+    before: &[Changed<S>],
+    after: &[Changed<S>],
+) -> Result<Ids, NoMemory>
+    ensures { IfOk result (λ ids. (id : List ℕ) → has_text ids id ≡ (has_text first.now id || is_noted (shown S.records before.now) id || is_noted (shown S.records after.now) id)) }
+{
+    if before.is_empty() && after.is_empty() {
+        return first.copy();
+    }
+    ids_changed(alloc, first.as_slice(), before, after)
+}
+
 /// The ids of a list, and those that versions change before and after, in byte order.
 pub(crate) fn ids_changed<S: RecordSource>(
     alloc: Global,

@@ -11,7 +11,7 @@ ghost use Rattle.store_layers.specs.Work.{counted, weights};
 
 use crate::drafts::{Draft, Placing};
 use crate::fold::{Entries, newest, put_versions};
-use crate::ids::ids_changed;
+use crate::ids::{ids_changed, ids_confirmed};
 use gql_plain::{NoMemory, Words};
 use std::alloc::Global;
 use store_model::Entry;
@@ -69,7 +69,7 @@ pub(crate) fn confirm<S: RecordSource>(
     let mut after = Vec::new(alloc);
     let count = entries.len();
     put_versions(&changed.source, &mut after, entries, 0, count, steps)?;
-    let touched = ids_changed(alloc, changed.touched.as_slice(), versions, &after)?;
+    let touched = ids_confirmed(alloc, &changed.touched, versions, &after)?;
     let view = newest(&changed.source, &after).version()?;
     Ok(Draft {
         view,
@@ -105,7 +105,7 @@ pub(crate) fn finish<S: RecordSource>(
     let count = entries.len();
     put_versions(&changed.source, &mut after, entries, 0, at, steps)?;
     put_versions(&changed.source, &mut after, entries, at + 1, count, steps)?;
-    let touched = ids_changed(alloc, changed.touched.as_slice(), versions, &after)?;
+    let touched = ids_confirmed(alloc, &changed.touched, versions, &after)?;
     let view = newest(&changed.source, &after).version()?;
     Ok(Draft {
         view,

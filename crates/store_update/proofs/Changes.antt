@@ -25,7 +25,7 @@ same_key : (id q : Text) → eq_by_cmp (slice_cmp nat_cmp) q id ≡ true → q �
 same_key id q e = (bytes_eq-Decides q id).0 (sym (is_eq-slice_cmp q id) ∙ e)
 
 -- to put the slot that stands there changes nothing
-stays : (id : Text) (m : Records) (s : Slot) → slot_at id m ≡ Some s → with_slot id s m ≡ m
+pub stays : (id : Text) (m : Records) (s : Slot) → slot_at id m ≡ Some s → with_slot id s m ≡ m
 stays id m s e =
     finmap.same_map nat_list_cmp_total (finmap.slice_cmp-IsAntisymmetric finmap.nat_cmp-IsAntisymmetric) (with_slot id s m) m (λ q.
     finmap.get-insert nat_list_cmp_total m id s q ∙ at q (eq_by_cmp (slice_cmp nat_cmp) q id) refl)

@@ -17,7 +17,7 @@ use Rattle.store_model.specs.declared.facts.FactRow.{FactRow}
 use Rattle.store_model.specs.declared.facts.HandleFact.{HandleFact}
 use Rattle.store_update.specs.Touched.{most_looks, most_noted}
 
-weights-append : (xs ys : List Looks) → weights (xs ++ ys) ≡ weights xs + weights ys
+pub weights-append : (xs ys : List Looks) → weights (xs ++ ys) ≡ weights xs + weights ys
 weights-append [] ys = omega arith
 weights-append (x ∷ xs) ys = omega (arith, weights-append xs ys)
 

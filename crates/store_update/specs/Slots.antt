@@ -1,5 +1,5 @@
 -- What a row and a command make of the slot of their id.
-use Rattle.std.specs.Prelude.{Bool, true, false, [], Option, Some, None, option_and_then, unwrap_or}
+use Rattle.std.specs.Prelude.{Bool, true, false, List, [], ◌∷◌, Option, Some, None, option_and_then, unwrap_or}
 use Rattle.store_record.specs.Equal.{record_eq}
 use Rattle.store_record.specs.Keys.{Text, field_key}
 use Rattle.store_record.specs.declared.field.Field.TheVariants.{Leaf, Links}
@@ -12,6 +12,8 @@ use Rattle.store_model.specs.Updates.{add_to_field, link_or_null}
 use Rattle.store_model.specs.declared.command.Command.{Command}
 use Rattle.store_model.specs.declared.command.Command.TheVariants as C
 use Rattle.store_model.specs.declared.facts.FactRow.{FactRow}
+use Rattle.store_update.specs.declared.command.Effect.{Effect}
+use Rattle.store_update.specs.declared.command.Effect.TheVariants.{Stays, Deletes, Puts}
 
 -- ---- a slot, None where an id is absent
 
@@ -72,6 +74,17 @@ slot_by_command (C.Delete id) s = slot_deleted s
 slot_by_command (C.AppendNode e) s = s
 slot_by_command (C.PrependNode e) s = s
 slot_by_command (C.DeleteEdge e) s = s
+
+-- commands one after another
+abbrev pub slot_by_commands : List Command → Option Slot → Option Slot
+slot_by_commands [] s = s
+slot_by_commands (c ∷ cs) s = slot_by_commands cs (slot_by_command c s)
+
+-- a live record with what a command asks of it
+abbrev pub slot_with : Effect → Record → Slot
+slot_with Stays r = Alive r
+slot_with Deletes r = Deleted
+slot_with (Puts key field) r = Alive (with_field key field r)
 
 -- the id whose slot a command looks at
 abbrev pub id_of : Command → Text

@@ -1,5 +1,7 @@
 -- The ids whose slot an entry changes.
-use Rattle.std.specs.Prelude.{◌≡◌, ◌↔◌, ◌+◌, ◌*◌, ◌≤◌, ℕ, Bool, true, false, not, List, [], ◌∷◌, ◌++◌, map, length, Option, Some, None}
+use Rattle.std.specs.Prelude.{◌≡◌, ◌↔◌, ◌&&◌, ◌+◌, ◌*◌, ◌≤◌, ℕ, Bool, true, false, not, List, [], ◌∷◌, ◌++◌, map, length, Option, Some, None}
+use Rattle.std.specs.List.{list_all}
+use Rattle.std.specs.Str.{bytes_eq}
 use Rattle.gql_plain.specs.Order.{has_text}
 use Rattle.store_record.specs.Keys.{Text}
 use Rattle.store_record.specs.declared.record.Slot.{Slot}
@@ -8,7 +10,7 @@ use Rattle.store_model.specs.Records.{Records, slot_at}
 use Rattle.store_model.specs.declared.command.Command.{Command}
 use Rattle.store_model.specs.declared.command.Command.TheVariants as C
 use Rattle.store_conn.specs.declared.changes.Change.{Change}
-use Rattle.store_update.specs.Slots.{slot_eq}
+use Rattle.store_update.specs.Slots.{slot_eq, id_of}
 
 -- the ids whose slot differs: an id is not among them exactly if it has the same slot in both maps
 abbrev pub AreTouched : Records → Records → List Text → Type 0
@@ -25,6 +27,14 @@ is_of_record (C.Delete id) = true
 is_of_record (C.AppendNode e) = false
 is_of_record (C.PrependNode e) = false
 is_of_record (C.DeleteEdge e) = false
+
+-- whether a command changes the slot of that id alone
+abbrev pub goes_with : Text → Command → Bool
+goes_with id c = is_of_record c && bytes_eq (id_of c) id
+
+-- commands that change the slot of one id alone
+abbrev pub AreOf : Text → List Command → Type 0
+AreOf id commands = list_all (goes_with id) commands ≡ true
 
 -- ---- what may be touched, while an entry is applied
 

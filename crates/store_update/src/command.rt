@@ -11,10 +11,11 @@ ghost use Rattle.store_update.specs.Slots as spec;
 
 use crate::row::{has_field, in_order};
 use crate::slot::live_slot;
-use gql_plain::{Id, Name, NoMemory, OptIds, Pairs, Plain, Words};
+use gql_plain::{Id, Name, NoMemory, Pairs, Plain, Words};
 use std::alloc::Global;
+use std::rc::Rc;
 use store_model::Command;
-use store_record::{Field, Fields, Record, Slot, field_key};
+use store_record::{Field, Fields, Record, Shared, Slot, field_key};
 
 /// The id whose slot a command looks at; takes no memory.
 pub(crate) fn id_of(command: &Command) -> &Id
@@ -69,9 +70,69 @@ fn created(alloc: Global, command: &Command) -> Result<Option<Slot>, NoMemory>
     }
 }
 
+/// What a command asks of a live record.
+#[derive(Drop)]
+enum Effect {
+    Stays,
+    Deletes,
+    /// The field comes to stand under the key.
+    Puts(Words, Field),
+}
+
 /// The new slot of a live record, or None where it stays.
 fn by_command_on(alloc: Global, row: &Record, command: &Command) -> Result<Option<Slot>, NoMemory>
     ensures { IfOk result (λ change. spec.slot_after change (Some (Alive row.now)) ≡ spec.slot_by_command command.now (Some (Alive row.now))) }
+{
+    match effect_on(alloc, row, command)? {
+        Effect::Stays => Ok(None),
+        Effect::Deletes => Ok(Some(Slot::Deleted)),
+        Effect::Puts(key, field) => put_field(alloc, row, key, field),
+    }
+}
+
+/// A new slot after a command, in place where nobody else holds its record.
+pub(crate) fn edit(alloc: Global, slot: Slot, command: &Command) -> Result<Slot, NoMemory>
+    ensures { IfOk result (λ after. Some after ≡ spec.slot_by_command command.now (Some slot)) }
+{
+    match slot {
+        Slot::Alive(shared) => edit_live(alloc, shared, command),
+        Slot::Deleted => match created(alloc, command)? {
+            Some(slot) => Ok(slot),
+            None => Ok(Slot::Deleted),
+        },
+    }
+}
+
+/// The slot of a live record after a command.
+fn edit_live(alloc: Global, shared: Shared, command: &Command) -> Result<Slot, NoMemory>
+    ensures { IfOk result (λ after. Some after ≡ spec.slot_by_command command.now (Some (Alive shared))) }
+{
+    match effect_on(alloc, shared.get(), command)? {
+        Effect::Stays => Ok(Slot::Alive(shared)),
+        Effect::Deletes => Ok(Slot::Deleted),
+        Effect::Puts(key, field) => Ok(Slot::Alive(put_in(alloc, shared, key, field)?)),
+    }
+}
+
+/// The record with a field put under a key, in place where nobody else holds it.
+fn put_in(alloc: Global, shared: Shared, key: Words, field: Field) -> Result<Shared, NoMemory>
+    ensures { IfOk result (λ after. after ≡ with_field key field shared) }
+{
+    let mut shared = shared;
+    if let Some(row) = Rc::get_mut(&mut shared.row) {
+        row.fields.put(key, field)?;
+        return Ok(shared);
+    }
+    let row = shared.get();
+    let mut fields = row.fields.copy()?;
+    fields.put(key, field)?;
+    let type_name = row.type_name.copy()?;
+    Shared::new(alloc, Record { type_name, fields })
+}
+
+/// What a command asks of a live record.
+fn effect_on(alloc: Global, row: &Record, command: &Command) -> Result<Effect, NoMemory>
+    ensures { IfOk result (λ effect. Some (spec.slot_with effect row.now) ≡ spec.slot_by_command command.now (Some (Alive row.now))) }
 {
     match command {
         Command::Set {
@@ -79,7 +140,10 @@ fn by_command_on(alloc: Global, row: &Record, command: &Command) -> Result<Optio
             args,
             value,
             ..
-        } => set(alloc, row, field, args, value),
+        } => {
+            let key = field_key(alloc, field, args)?;
+            Ok(Effect::Puts(key, Field::Leaf(value.copy()?)))
+        }
         Command::Add {
             field,
             args,
@@ -91,49 +155,25 @@ fn by_command_on(alloc: Global, row: &Record, command: &Command) -> Result<Optio
             args,
             to,
             ..
-        } => link(alloc, row, field, args, to),
+        } => {
+            let key = field_key(alloc, field, args)?;
+            Ok(Effect::Puts(key, link_or_null(to)?))
+        }
         Command::Links {
             field,
             args,
             to,
             ..
-        } => links(alloc, row, field, args, to),
-        Command::Create { .. } => Ok(None),
-        Command::Delete { .. } => Ok(Some(Slot::Deleted)),
-        Command::AppendNode(_) => Ok(None),
-        Command::PrependNode(_) => Ok(None),
-        Command::DeleteEdge(_) => Ok(None),
+        } => {
+            let key = field_key(alloc, field, args)?;
+            Ok(Effect::Puts(key, Field::Links(to.copy()?)))
+        }
+        Command::Create { .. } => Ok(Effect::Stays),
+        Command::Delete { .. } => Ok(Effect::Deletes),
+        Command::AppendNode(_) => Ok(Effect::Stays),
+        Command::PrependNode(_) => Ok(Effect::Stays),
+        Command::DeleteEdge(_) => Ok(Effect::Stays),
     }
-}
-
-/// The slot of a record whose field becomes a value, or None where it has that value.
-fn set(
-    alloc: Global,
-    row: &Record,
-    field: &Name,
-    args: &Pairs,
-    value: &Plain,
-) -> Result<Option<Slot>, NoMemory>
-    ensures { IfOk result (λ change. spec.slot_after change (Some (Alive row.now)) ≡ Some (Alive (with_field (field_key field.now args.now) (Leaf value.now) row.now))) }
-{
-    let key = field_key(alloc, field, args)?;
-    let value = value.copy()?;
-    put_field(alloc, row, key, Field::Leaf(value))
-}
-
-/// The slot of a record whose field becomes a link or null, or None where it is that already.
-fn link(
-    alloc: Global,
-    row: &Record,
-    field: &Name,
-    args: &Pairs,
-    to: &Option<Id>,
-) -> Result<Option<Slot>, NoMemory>
-    ensures { IfOk result (λ change. spec.slot_after change (Some (Alive row.now)) ≡ Some (Alive (with_field (field_key field.now args.now) (link_or_null to.now) row.now))) }
-{
-    let key = field_key(alloc, field, args)?;
-    let link = link_or_null(to)?;
-    put_field(alloc, row, key, link)
 }
 
 /// A link, or null where there is none.
@@ -146,40 +186,25 @@ fn link_or_null(to: &Option<Id>) -> Result<Field, NoMemory>
     }
 }
 
-/// The slot of a record whose field becomes a list of links and nulls, or None where it is that
-/// already.
-fn links(
-    alloc: Global,
-    row: &Record,
-    field: &Name,
-    args: &Pairs,
-    to: &OptIds,
-) -> Result<Option<Slot>, NoMemory>
-    ensures { IfOk result (λ change. spec.slot_after change (Some (Alive row.now)) ≡ Some (Alive (with_field (field_key field.now args.now) (Links to.now) row.now))) }
-{
-    let key = field_key(alloc, field, args)?;
-    let ids = to.copy()?;
-    put_field(alloc, row, key, Field::Links(ids))
-}
-
-/// The slot of a record with a number added to a field, or None where the field stays.
+/// A number that is added to a field of a record; the field stays where it holds no whole number, or where the
+/// sum is not within 64 bits.
 fn add(
     alloc: Global,
     row: &Record,
     field: &Name,
     args: &Pairs,
     by: i64,
-) -> Result<Option<Slot>, NoMemory>
-    ensures { IfOk result (λ change. spec.slot_after change (Some (Alive row.now)) ≡ Some (Alive (add_to_field (field_key field.now args.now) by row.now))) }
+) -> Result<Effect, NoMemory>
+    ensures { IfOk result (λ effect. spec.slot_with effect row.now ≡ Alive (add_to_field (field_key field.now args.now) by row.now)) }
 {
     in_order(&row.fields);
     let key = field_key(alloc, field, args)?;
     match row.fields.get(key.as_str()) {
         Some(old) => match sum(old, by) {
-            Some(number) => put_field(alloc, row, key, Field::Leaf(Plain::Int(number))),
-            None => Ok(None),
+            Some(number) => Ok(Effect::Puts(key, Field::Leaf(Plain::Int(number)))),
+            None => Ok(Effect::Stays),
         },
-        None => Ok(None),
+        None => Ok(Effect::Stays),
     }
 }
 

@@ -1,18 +1,21 @@
 //! Commands that act on a record map.
-ghost use Rattle.std.specs.Prelude.{◌≡◌, ◌+◌, ◌*◌, ◌≤◌, true, IfOk};
+ghost use Rattle.std.specs.Prelude.{◌≡◌, ◌+◌, ◌*◌, ◌≤◌, [], ◌∷◌, true, false, IfOk};
 ghost use Rattle.store_model.specs.Entries as entries;
 ghost use Rattle.store_model.specs.Updates as updates;
-ghost use Rattle.store_update.specs.Touched.{AreNoted, is_of_record, most_looks, most_noted};
+ghost use Rattle.store_update.specs.Slots.{id_of};
+ghost use Rattle.store_update.specs.Touched.{AreNoted, AreOf, is_of_record, most_looks, most_noted};
 
-use crate::command::{id_of, slot_by_command};
+use crate::command::id_of;
 use crate::draft::{Draft, change_slot, put_changes};
+use crate::run::{run_behind, slot_by_run};
 use gql_plain::NoMemory;
 use std::alloc::Global;
 use store_conn::{changes_of_deletion, changes_of_insertion};
 use store_model::{Command, EdgeEdit};
 use store_source::RecordSource;
 
-/// The map after commands, one after another.
+/// The map after commands, one after another. Those of records that name one id in a row take one look and at most
+/// one new record.
 pub(crate) fn act_all<S: RecordSource>(
     alloc: Global,
     draft: Draft<S>,
@@ -25,53 +28,61 @@ pub(crate) fn act_all<S: RecordSource>(
     ensures applies { S.Count.applies steps.new ≡ S.Count.applies steps.old }
 {
     let mut current = draft;
-    'commands: for command in commands {
-        current = act(alloc, current, command, steps)?;
+    let mut rest = commands;
+    'runs: while let Some((first, later)) = rest.split_first() {
+        let (behind, after) = later.split_at(run_behind(first, later));
+        current = act_run(alloc, current, first, behind, steps)?;
+        rest = after;
     }
     Ok(current)
 }
 
-/// The map after a command.
-fn act<S: RecordSource>(
+/// The map after a command and those behind it, which are of the same record; none is behind one of edges.
+fn act_run<S: RecordSource>(
     alloc: Global,
     draft: Draft<S>,
-    command: &Command,
+    first: &Command,
+    behind: &[Command],
     steps: &mut S::Count,
 ) -> Result<Draft<S>, NoMemory>
-    ensures records { IfOk result (λ d. S.records d.source ≡ updates.act command.now (S.records draft.source)) }
-    ensures changed { IfOk result (λ d. AreNoted (most_noted (entries.asked_by_command command.now (S.records draft.source))) (S.records draft.source) (S.records d.source) draft.changed.items d.changed.items) }
-    ensures looks { S.Count.looks steps.new ≤ S.Count.looks steps.old + most_looks (entries.asked_by_command command.now (S.records draft.source)) }
+    requires run { AreOf (id_of first.now) behind.now }
+    requires alone { is_of_record first.now ≡ false → behind.now ≡ [] }
+    ensures records { IfOk result (λ d. S.records d.source ≡ updates.act_all (first.now ∷ behind.now) (S.records draft.source)) }
+    ensures changed { IfOk result (λ d. AreNoted (2 * entries.weights (entries.asked_by_commands (first.now ∷ behind.now) (S.records draft.source))) (S.records draft.source) (S.records d.source) draft.changed.items d.changed.items) }
+    ensures looks { S.Count.looks steps.new ≤ S.Count.looks steps.old + 4 * entries.weights (entries.asked_by_commands (first.now ∷ behind.now) (S.records draft.source)) }
     ensures applies { S.Count.applies steps.new ≡ S.Count.applies steps.old }
 {
-    match command {
-        Command::Set { .. } => act_on_record(alloc, draft, command, steps),
-        Command::Add { .. } => act_on_record(alloc, draft, command, steps),
-        Command::Link { .. } => act_on_record(alloc, draft, command, steps),
-        Command::Links { .. } => act_on_record(alloc, draft, command, steps),
-        Command::Create { .. } => act_on_record(alloc, draft, command, steps),
-        Command::Delete { .. } => act_on_record(alloc, draft, command, steps),
+    match first {
         Command::AppendNode(edit) => put_edge(draft, edit, false, steps),
         Command::PrependNode(edit) => put_edge(draft, edit, true, steps),
         Command::DeleteEdge(edit) => remove_edge(draft, edit, steps),
+        Command::Set { .. } => act_on_record(alloc, draft, first, behind, steps),
+        Command::Add { .. } => act_on_record(alloc, draft, first, behind, steps),
+        Command::Link { .. } => act_on_record(alloc, draft, first, behind, steps),
+        Command::Links { .. } => act_on_record(alloc, draft, first, behind, steps),
+        Command::Create { .. } => act_on_record(alloc, draft, first, behind, steps),
+        Command::Delete { .. } => act_on_record(alloc, draft, first, behind, steps),
     }
 }
 
-/// The map after a command that changes a record alone; takes one look.
+/// The map after commands that change one record alone; takes one look.
 fn act_on_record<S: RecordSource>(
     alloc: Global,
     draft: Draft<S>,
-    command: &Command,
+    first: &Command,
+    behind: &[Command],
     steps: &mut S::Count,
 ) -> Result<Draft<S>, NoMemory>
-    requires { is_of_record command.now ≡ true }
-    ensures records { IfOk result (λ d. S.records d.source ≡ updates.act command.now (S.records draft.source)) }
-    ensures changed { IfOk result (λ d. AreNoted (most_noted (entries.asked_by_command command.now (S.records draft.source))) (S.records draft.source) (S.records d.source) draft.changed.items d.changed.items) }
-    ensures looks { S.Count.looks steps.new ≤ S.Count.looks steps.old + most_looks (entries.asked_by_command command.now (S.records draft.source)) }
+    requires record { is_of_record first.now ≡ true }
+    requires run { AreOf (id_of first.now) behind.now }
+    ensures records { IfOk result (λ d. S.records d.source ≡ updates.act_all (first.now ∷ behind.now) (S.records draft.source)) }
+    ensures changed { IfOk result (λ d. AreNoted 1 (S.records draft.source) (S.records d.source) draft.changed.items d.changed.items) }
+    ensures looks { S.Count.looks steps.new ≤ S.Count.looks steps.old + 1 }
     ensures applies { S.Count.applies steps.new ≡ S.Count.applies steps.old }
 {
-    let id = id_of(command);
+    let id = id_of(first);
     let found = draft.source.get(id.as_str(), steps);
-    let change = slot_by_command(alloc, found, command)?;
+    let change = slot_by_run(alloc, found, first, behind)?;
     let after = change_slot(draft, id, change, steps)?;
     Ok(after)
 }

@@ -8,6 +8,7 @@ pub mod entry;
 mod facts;
 mod pages;
 mod row;
+mod run;
 mod slot;
 
 pub use entry::{Changed, apply};

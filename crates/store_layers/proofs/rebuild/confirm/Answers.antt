@@ -81,7 +81,7 @@ returns-clause-ids g c =
     let olds = shown r c.args.versions.now in
     let touched : AreTouched m (apply e m) c.in_ok-changed.changed.touched = subst (λ x. AreTouched m x c.in_ok-changed.changed.touched) made c.in_ok-changed.ensures.touched in
     confirmed_ids m e (entries_of (layers_of named)) (entries_of (layers_of named)) olds news c.in_ok-changed.changed.touched c.in_ok-touched.touched c.requires.kept.versions touched new
-    (λ id. c.in_ok-touched.ensures id ∙ (λ i. has_text (c.as_slice.ensures i) id || is_noted olds id || is_noted (shown r (c.deref.ensures.value i)) id))
+    (λ id. c.in_ok-touched.ensures id ∙ (λ i. has_text c.in_ok-changed.changed.touched id || is_noted olds id || is_noted (shown r (c.deref.ensures.value i)) id))
 
 pub returns-clause-fits : goal.returns-clause-fits
 returns-clause-fits g c =

@@ -1,6 +1,7 @@
-use Rattle.std.proofs.Common.{◌≡◌, Some, ap, ◌∙◌, w64}
+use Rattle.std.proofs.Common.{◌≡◌, ap, ◌∙◌, w64}
 use Rattle.std.proofs.lemmas.Int.{to_z-of_z}
 use Rattle.gql_plain.specs.Order.{member_at}
+use Rattle.store_record.specs.declared.record.Record.{Record}
 use Rattle.store_record.specs.declared.record.Slot.TheVariants.{Alive}
 use Rattle.store_record.specs.Keys.{field_key}
 use Rattle.store_model.specs.Updates.{field_plus}
@@ -13,4 +14,4 @@ returns-in-None-sum c =
     let found = c.in-Some.ensures ∙ ap (member_at row.fields) (c.as_str.ensures ∙ c.in_ok-key.ensures) in
     let old = c.in-Some.old.now in
     let stays : old ≡ field_plus c.args.by old = c.in-None-sum.ensures ∙ ap (λ by. field_plus by old) (to_z-of_z w64 c.args.by c.ranges.by) in
-    ap (λ r. Some (Alive r)) (sum_kept (field_key c.args.field.now c.args.args.now) c.args.by row old c.in_order.ensures found stays)
+    ap (λ (r : Record). Alive r) (sum_kept (field_key c.args.field.now c.args.args.now) c.args.by row old c.in_order.ensures found stays)

@@ -1,33 +1,35 @@
-use Rattle.std.proofs.Common.{◌+◌, drop, ap, ◌∙◌, arith}
+use Rattle.std.proofs.Common.{◌≡◌, ◌∷◌, ◌++◌, sym, ap, ◌∙◌, arith}
 use Rattle.store_model.specs.Entries.{asked_by_commands, weights}
 use Rattle.store_model.specs.Updates.{act_all}
 use Rattle.store_update.proofs.Noted.{stayed_more}
-use Rattle.store_update.proofs.Walks.{acts_next, acts_weigh}
+use Rattle.store_update.proofs.Runs.{run_acts, run_weighs}
 use Rattle.store_update.proofs.commands.act_all.Goals as goal
 
-pub commands-preserved : goal.commands-preserved
-commands-preserved g c =
-    let items = c.args.commands.now in
-    let i = c.commands.command-index in
-    let item = c.command-item.result in
-    let before = g.S.RecordSource.records c.commands.current.source in
-    let weighs = acts_weigh items i item before c.commands-test.true c.command-item.is in
-    let rest = ap (λ m. weights (asked_by_commands (drop (i + 1) items) m)) c.in_ok-current.ensures.records in
+pub runs-preserved : goal.runs-preserved
+runs-preserved g c =
+    let first = c.in-Some.first.now in
+    let behind = c.split_at.result.0.now in
+    let after = c.split_at.result.1.now in
+    let before = g.S.RecordSource.records c.runs.current.source in
+    let whole : c.runs.rest.now ≡ first ∷ c.in-Some.later.now = c.in-Some.ensures.cases.0 in
+    let parted : c.in-Some.later.now ≡ behind ++ after = c.split_at.ensures.by_index.0 in
+    let made = c.in_ok-current.ensures.records in
+    let weighs = run_weighs first behind after c.in-Some.later.now before parted in
+    let rest = ap (λ m. weights (asked_by_commands after m)) made in
+    let all = ap (λ cs. weights (asked_by_commands cs before)) whole in
     record {
-      records = ap (act_all (drop (i + 1) items)) c.in_ok-current.ensures.records ∙ acts_next items i item before c.commands-test.true c.command-item.is ∙ c.commands.invariant.records;
-      few = omega (arith, c.commands.invariant.few, c.in_ok-current.ensures.changed.few, weighs, rest);
-      kept = stayed_more _ _ _ _ _ _ c.commands.invariant.kept c.in_ok-current.ensures.changed.kept;
-      looks = omega (arith, c.commands.invariant.looks, c.act.ensures.looks, weighs, rest);
-      applies = c.act.ensures.applies ∙ c.commands.invariant.applies;
+      records = ap (act_all after) made ∙ run_acts first behind after c.in-Some.later.now before parted ∙ ap (λ cs. act_all cs before) (sym whole) ∙ c.runs.invariant.records;
+      few = omega (arith, c.runs.invariant.few, c.in_ok-current.ensures.changed.few, weighs, rest, all);
+      kept = stayed_more _ _ _ _ _ _ c.runs.invariant.kept c.in_ok-current.ensures.changed.kept;
+      looks = omega (arith, c.runs.invariant.looks, c.act_run.ensures.looks, weighs, rest, all);
+      applies = c.act_run.ensures.applies ∙ c.runs.invariant.applies;
     }
-
-pub returns-clause-changed : goal.returns-clause-changed
-returns-clause-changed g c = record { few = omega (arith, c.commands.invariant.few); kept = c.commands.invariant.kept }
-
-pub returns-clause-looks : goal.returns-clause-looks
-returns-clause-looks g c = omega (arith, c.commands.invariant.looks)
 
 pub returns-in_err-current-clause-looks : goal.returns-in_err-current-clause-looks
 returns-in_err-current-clause-looks g c =
-    let weighs = acts_weigh c.args.commands.now c.commands.command-index c.command-item.result (g.S.RecordSource.records c.commands.current.source) c.commands-test.true c.command-item.is in
-    omega (arith, c.commands.invariant.looks, c.act.ensures.looks, weighs)
+    let first = c.in-Some.first.now in
+    let before = g.S.RecordSource.records c.runs.current.source in
+    let whole : c.runs.rest.now ≡ first ∷ c.in-Some.later.now = c.in-Some.ensures.cases.0 in
+    let weighs = run_weighs first c.split_at.result.0.now c.split_at.result.1.now c.in-Some.later.now before c.split_at.ensures.by_index.0 in
+    let all = ap (λ cs. weights (asked_by_commands cs before)) whole in
+    omega (arith, c.runs.invariant.looks, c.act_run.ensures.looks, weighs, all)

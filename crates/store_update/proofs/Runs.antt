@@ -1,0 +1,136 @@
+-- Commands of one id, one after another, are one change of its slot.
+use Rattle.std.proofs.Common.{◌≡◌, ◌+◌, Bool, true, false, true≢false, cond, ◌&&◌, List, [], ◌∷◌, ◌++◌, Option, Some, None, refl, sym, ap, ◌∙◌, subst, nat_cmp, arith}
+use Rattle.std.proofs.lemmas.Map.Text.{is_eq-slice_cmp}
+use Rattle.std.proofs.lemmas.Slice.Eq.{bytes_eq-Decides}
+use Rattle.std.specs.Cmp.Lexicographic.{slice_cmp, nat_list_cmp_total}
+use Rattle.std.specs.FinMap as finmap
+use Rattle.std.specs.List.{list_all}
+use Rattle.std.specs.Ordering.{eq_by_cmp}
+use Rattle.std.specs.Prelude.{is_some}
+use Rattle.std.specs.Str.{bytes_eq}
+use Rattle.store_record.specs.Keys.{Text}
+use Rattle.store_record.specs.declared.record.Slot.{Slot}
+use Rattle.store_record.specs.declared.record.Slot.TheVariants.{Deleted, Alive}
+use Rattle.store_model.specs.Entries.{asked_by_commands, weights}
+use Rattle.store_model.specs.Records.{Records, slot_at, with_slot}
+use Rattle.store_model.specs.Updates.{act, act_all}
+use Rattle.store_model.specs.declared.command.Command.{Command}
+use Rattle.store_model.specs.declared.command.Command.TheVariants as C
+use Rattle.store_update.proofs.Changes.{command_is, stays}
+use Rattle.store_update.specs.Slots.{id_of, slot_after, slot_by_command, slot_by_commands, with_change}
+use Rattle.store_update.specs.Touched.{goes_with, is_of_record}
+
+-- ---- a slot that is there stays there
+
+kept : (c : Command) (s : Slot) → is_some (slot_by_command c (Some s)) ≡ true
+kept (C.Set id field args value) Deleted = refl
+kept (C.Set id field args value) (Alive r) = refl
+kept (C.Add id field args by) Deleted = refl
+kept (C.Add id field args by) (Alive r) = refl
+kept (C.Link id field args to) Deleted = refl
+kept (C.Link id field args to) (Alive r) = refl
+kept (C.Links id field args to) Deleted = refl
+kept (C.Links id field args to) (Alive r) = refl
+kept (C.Create id of) Deleted = refl
+kept (C.Create id of) (Alive r) = refl
+kept (C.Delete id) Deleted = refl
+kept (C.Delete id) (Alive r) = refl
+kept (C.AppendNode e) s = refl
+kept (C.PrependNode e) s = refl
+kept (C.DeleteEdge e) s = refl
+
+absent : (c : Command) (o : Option Slot) → slot_by_command c o ≡ None → o ≡ None
+absent c None e = refl
+absent c (Some s) e = absurd (true≢false (sym (kept c s) ∙ ap is_some e))
+
+all_absent : (cs : List Command) (o : Option Slot) → slot_by_commands cs o ≡ None → o ≡ None
+all_absent [] o e = e
+all_absent (c ∷ cs) o e = absent c o (all_absent cs (slot_by_command c o) e)
+
+after_own : (new old : Option Slot) → (new ≡ None → old ≡ None) → slot_after new old ≡ new
+after_own None old h = h refl
+after_own (Some s) old h = refl
+
+-- ---- the slot of one id
+
+module _ (id : Text) (m : Records) where
+  put_again : (a b : Slot) → with_slot id b (with_slot id a m) ≡ with_slot id b m
+  put_again a b =
+      finmap.same_map nat_list_cmp_total (finmap.slice_cmp-IsAntisymmetric finmap.nat_cmp-IsAntisymmetric) (with_slot id b (with_slot id a m)) (with_slot id b m) (λ q.
+      finmap.get-insert nat_list_cmp_total (with_slot id a m) id b q
+      ∙ ap (λ o. cond (eq_by_cmp (slice_cmp nat_cmp) q id) (Some b) o) (finmap.get-insert nat_list_cmp_total m id a q)
+      ∙ once (eq_by_cmp (slice_cmp nat_cmp) q id) (finmap.get m q)
+      ∙ sym (finmap.get-insert nat_list_cmp_total m id b q))
+    where
+      once : (c : Bool) (o : Option Slot) → cond c (Some b) (cond c (Some a) o) ≡ cond c (Some b) o
+      once true o = refl
+      once false o = refl
+
+  changed_again : (new old : Option Slot) → (new ≡ None → old ≡ None) → with_change id new (with_change id old m) ≡ with_change id new m
+  changed_again None old h = ap (λ o. with_change id o m) (h refl)
+  changed_again (Some s) None h = refl
+  changed_again (Some s) (Some t) h = put_again t s
+
+  stands : (new : Option Slot) → (new ≡ None → slot_at id m ≡ None) → slot_at id (with_change id new m) ≡ new
+  stands None h = h refl
+  stands (Some s) h =
+      finmap.get-insert nat_list_cmp_total m id s id ∙ ap (λ c. cond c (Some s) (finmap.get m id)) (is_eq-slice_cmp id id ∙ (bytes_eq-Decides id id).1 refl)
+
+  whole : (o : Option Slot) → slot_at id m ≡ o → with_change id o m ≡ m
+  whole None e = refl
+  whole (Some s) e = stays id m s e
+
+-- ---- commands
+
+both : (a b : Bool) → (a && b) ≡ true → (a ≡ true) × (b ≡ true)
+both true b e = (refl, e)
+both false b e = absurd (true≢false (sym e))
+
+one : (c : Command) (id : Text) (m : Records) → is_of_record c ≡ true → id_of c ≡ id → with_change id (slot_by_command c (slot_at id m)) m ≡ act c m
+one c id m h same =
+    subst (λ x. with_change x (slot_by_command c (slot_at x m)) m ≡ act c m) same
+    (command_is c m (slot_at (id_of c) m) (slot_by_command c (slot_at (id_of c) m)) h refl (after_own _ _ (absent c (slot_at (id_of c) m))))
+
+runs : (cs : List Command) (id : Text) (m : Records) → list_all (goes_with id) cs ≡ true → with_change id (slot_by_commands cs (slot_at id m)) m ≡ act_all cs m
+runs [] id m h = whole id m (slot_at id m) refl
+runs (c ∷ cs) id m h =
+    let parts = both (goes_with id c) (list_all (goes_with id) cs) h in
+    let own = both (is_of_record c) (bytes_eq (id_of c) id) parts.0 in
+    let o = slot_at id m in
+    let first : with_change id (slot_by_command c o) m ≡ act c m = one c id m own.0 ((bytes_eq-Decides (id_of c) id).0 own.1) in
+    let there : slot_at id (act c m) ≡ slot_by_command c o = ap (slot_at id) (sym first) ∙ stands id m (slot_by_command c o) (absent c o) in
+    sym (changed_again id m (slot_by_commands cs (slot_by_command c o)) (slot_by_command c o) (all_absent cs (slot_by_command c o)))
+    ∙ ap (with_change id (slot_by_commands cs (slot_by_command c o))) first
+    ∙ ap (λ x. with_change id (slot_by_commands cs x) (act c m)) (sym there)
+    ∙ runs cs id (act c m) parts.1
+
+settled : (id : Text) (m : Records) (change final : Option Slot) → slot_after change (slot_at id m) ≡ final → with_change id change m ≡ with_change id final m
+settled id m None final e = sym (ap (λ o. with_change id o m) (sym e) ∙ whole id m (slot_at id m) refl)
+settled id m (Some s) final e = ap (λ o. with_change id o m) e
+
+module _ (first : Command) (behind : List Command) (m : Records) where
+  pub run_is : (found change : Option Slot) → is_of_record first ≡ true → list_all (goes_with (id_of first)) behind ≡ true → found ≡ slot_at (id_of first) m
+      → slot_after change found ≡ slot_by_commands (first ∷ behind) found → with_change (id_of first) change m ≡ act_all (first ∷ behind) m
+  run_is found change h others same e =
+      let id = id_of first in
+      let all : list_all (goes_with id) (first ∷ behind) ≡ true =
+      ap (λ b. (b && bytes_eq id id) && list_all (goes_with id) behind) h ∙ ap (λ b. b && list_all (goes_with id) behind) ((bytes_eq-Decides id id).1 refl) ∙ others in
+      settled id m change (slot_by_commands (first ∷ behind) (slot_at id m)) (subst (λ x. slot_after change x ≡ slot_by_commands (first ∷ behind) x) same e)
+      ∙ runs (first ∷ behind) id m all
+
+-- ---- a run, and what stands behind it
+
+pub acts_append : (cs ds : List Command) (m : Records) → act_all (cs ++ ds) m ≡ act_all ds (act_all cs m)
+acts_append [] ds m = refl
+acts_append (c ∷ cs) ds m = acts_append cs ds (act c m)
+
+asked_append : (cs ds : List Command) (m : Records) → weights (asked_by_commands (cs ++ ds) m) ≡ weights (asked_by_commands cs m) + weights (asked_by_commands ds (act_all cs m))
+asked_append [] ds m = omega arith
+asked_append (c ∷ cs) ds m = omega (arith, asked_append cs ds (act c m))
+
+module _ (first : Command) (behind after later : List Command) (m : Records) (is : later ≡ behind ++ after) where
+  pub run_acts : act_all after (act_all (first ∷ behind) m) ≡ act_all (first ∷ later) m
+  run_acts = sym (ap (λ cs. act_all (first ∷ cs) m) is ∙ acts_append (first ∷ behind) after m)
+
+  pub run_weighs : weights (asked_by_commands (first ∷ later) m) ≡ weights (asked_by_commands (first ∷ behind) m) + weights (asked_by_commands after (act_all (first ∷ behind) m))
+  run_weighs = ap (λ cs. weights (asked_by_commands (first ∷ cs) m)) is ∙ asked_append (first ∷ behind) after m
