@@ -1,5 +1,5 @@
 -- Numbers of the first bytes are in the order of the texts.
-use Rattle.std.proofs.Common.{◌≡◌, ◌+◌, ◌*◌, ◌^◌, ◌<◌, ◌≤◌, ◌⊎◌, ℕ, zero, suc, List, [], ◌∷◌, Ordering, Less, Equal, Greater, get_or, nat_cmp, inl, inr, refl, sym, ap, ◌∙◌, subst, pow-suc, arith}
+use Rattle.std.proofs.Common.{◌≡◌, ◌+◌, ◌*◌, ◌^◌, ◌<◌, ◌⊎◌, ℕ, zero, suc, List, [], ◌∷◌, Ordering, Less, Equal, Greater, get_or, nat_cmp, inl, inr, refl, sym, ap, ◌∙◌, subst, pow-suc, arith}
 use Rattle.std.proofs.lemmas.Nat.{mul-le}
 use Rattle.std.specs.Cmp.{nat_cmp_is, ranks}
 use Rattle.std.specs.Cmp.Lexicographic.{slice_cmp}

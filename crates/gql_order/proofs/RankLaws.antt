@@ -1,5 +1,5 @@
 -- Where ranks rise, the texts do.
-use Rattle.std.proofs.Common.{◌≡◌, ◌+◌, ◌<◌, ◌⊎◌, ◌++◌, ◌&&◌, ◌||◌, ℕ, zero, suc, Bool, true, false, true≢false, List, [], ◌∷◌, Ordering, Less, Equal, Greater, All, get_or, is_lt, length, map, nat_cmp, nat_eq, nat_lt, take, drop, take-append-drop, if◌then◌else◌, eq-eqb, eqb-true, ltb-true, inl, inr, refl, sym, ap, ◌∙◌, subst, subst₂, arith}
+use Rattle.std.proofs.Common.{◌≡◌, ◌+◌, ◌<◌, ◌++◌, ◌&&◌, ℕ, Bool, true, false, true≢false, List, [], ◌∷◌, Ordering, Less, Equal, Greater, All, get_or, is_lt, length, map, nat_cmp, nat_eq, take, drop, take-append-drop, if◌then◌else◌, eq-eqb, ltb-true, inl, inr, refl, sym, ap, ◌∙◌, subst, subst₂, arith}
 use Rattle.std.proofs.lemmas.Cmp.{nat_list_cmp_total}
 use Rattle.std.proofs.lemmas.List.{get_or-map, length-map}
 use Rattle.std.proofs.lemmas.Map.Keys.{sorted_from_all_adjacent}
@@ -10,7 +10,7 @@ use Rattle.std.specs.Ordering.{MatchOrdering, ordering_then}
 use Rattle.gql_plain.specs.Order.{AreInOrder}
 use Rattle.gql_order.proofs.HeadLaws.{less_by_heads, less_number, order, same_number}
 use Rattle.gql_order.specs.Heads.{IsHead}
-use Rattle.gql_order.specs.Ranks.{AllRanked, HasStart, IsBefore, IsBehind, IsRank, RanksRise}
+use Rattle.gql_order.specs.Ranks.{AllRanked, IsRank, RanksRise}
 use Rattle.gql_order.specs.declared.heads.Ranked.{Ranked}
 
 -- ---- texts beside what they may begin with
