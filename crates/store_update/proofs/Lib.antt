@@ -1,5 +1,6 @@
 pub mod Changes
 pub mod Equal
+pub mod Exact
 pub mod Kept
 pub mod Noted
 pub mod Runs

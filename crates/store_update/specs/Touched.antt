@@ -1,5 +1,5 @@
 -- The ids whose slot an entry changes.
-use Rattle.std.specs.Prelude.{◌≡◌, ◌↔◌, ◌&&◌, ◌+◌, ◌*◌, ◌≤◌, ℕ, Bool, true, false, not, List, [], ◌∷◌, ◌++◌, map, length, Option, Some, None}
+use Rattle.std.specs.Prelude.{◌≡◌, ◌↔◌, ◌⊎◌, ◌&&◌, ◌+◌, ◌*◌, ◌≤◌, ℕ, Bool, true, false, not, List, [], ◌∷◌, ◌++◌, map, length, Option, Some, None}
 use Rattle.std.specs.List.{list_all}
 use Rattle.std.specs.Str.{bytes_eq}
 use Rattle.gql_plain.specs.Order.{has_text}
@@ -9,8 +9,9 @@ use Rattle.store_model.specs.Entries.{Looks, number_asked}
 use Rattle.store_model.specs.Records.{Records, slot_at}
 use Rattle.store_model.specs.declared.command.Command.{Command}
 use Rattle.store_model.specs.declared.command.Command.TheVariants as C
+use Rattle.store_model.specs.declared.entry.Entry.{Entry}
 use Rattle.store_conn.specs.declared.changes.Change.{Change}
-use Rattle.store_update.specs.Slots.{slot_eq, id_of}
+use Rattle.store_update.specs.Slots.{slot_eq, slot_after, id_of}
 
 -- the ids whose slot differs: an id is not among them exactly if it has the same slot in both maps
 abbrev pub AreTouched : Records → Records → List Text → Type 0
@@ -35,6 +36,28 @@ goes_with id c = is_of_record c && bytes_eq (id_of c) id
 -- commands that change the slot of one id alone
 abbrev pub AreOf : Text → List Command → Type 0
 AreOf id commands = list_all (goes_with id) commands ≡ true
+
+-- an entry of these commands alone, which change the slot of one id alone
+pub record IsRunAlone (e : Entry) (first : Command) (behind : List Command) : Type 0 where
+  pub facts : e.facts.facts ≡ []
+  pub handles : e.facts.handles ≡ []
+  pub commands : e.commands ≡ first ∷ behind
+  pub record_first : is_of_record first ≡ true
+  pub run : AreOf (id_of first) behind
+
+-- ---- what is touched, where no id is changed twice
+
+-- a new slot is another one than the one before
+abbrev pub IsNew : Option Slot → Option Slot → Type 0
+IsNew before change = slot_after change before ≡ before → change ≡ None
+
+-- where the ids are those whose slot differs from the ones before, and the id is not among them, so are the new ids
+abbrev pub StaysTouched : Text → Records → Records → List Text → List Text → Type 0
+StaysTouched id m after old new = (before : Records) → AreTouched before m old → has_text old id ≡ false → AreTouched before after new
+
+-- the ids, or these and one more
+abbrev pub IsGrown : Text → List Text → List Text → Type 0
+IsGrown id old new = (new ≡ old) ⊎ (new ≡ old ++ id ∷ [])
 
 -- ---- what may be touched, while an entry is applied
 

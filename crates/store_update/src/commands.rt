@@ -3,11 +3,12 @@ ghost use Rattle.std.specs.Prelude.{◌≡◌, ◌+◌, ◌*◌, ◌≤◌, [], 
 ghost use Rattle.store_model.specs.Entries as entries;
 ghost use Rattle.store_model.specs.Updates as updates;
 ghost use Rattle.store_update.specs.Slots.{id_of};
-ghost use Rattle.store_update.specs.Touched.{AreNoted, AreOf, is_of_record, most_looks, most_noted};
+ghost use Rattle.store_update.specs.Touched.{AreNoted, AreOf, IsGrown, StaysTouched, is_of_record, most_looks, most_noted};
 
 use crate::command::id_of;
 use crate::draft::{Draft, change_slot, put_changes};
 use crate::run::{run_behind, slot_by_run};
+use crate::slot::new_slot_of;
 use gql_plain::NoMemory;
 use std::alloc::Global;
 use store_conn::{changes_of_deletion, changes_of_insertion};
@@ -66,7 +67,7 @@ fn act_run<S: RecordSource>(
 }
 
 /// The map after commands that change one record alone; takes one look.
-fn act_on_record<S: RecordSource>(
+pub(crate) fn act_on_record<S: RecordSource>(
     alloc: Global,
     draft: Draft<S>,
     first: &Command,
@@ -77,12 +78,15 @@ fn act_on_record<S: RecordSource>(
     requires run { AreOf (id_of first.now) behind.now }
     ensures records { IfOk result (λ d. S.records d.source ≡ updates.act_all (first.now ∷ behind.now) (S.records draft.source)) }
     ensures changed { IfOk result (λ d. AreNoted 1 (S.records draft.source) (S.records d.source) draft.changed.items d.changed.items) }
+    ensures touched { IfOk result (λ d. StaysTouched (id_of first.now) (S.records draft.source) (S.records d.source) draft.changed.items d.changed.items) }
+    ensures grown { IfOk result (λ d. IsGrown (id_of first.now) draft.changed.items d.changed.items) }
     ensures looks { S.Count.looks steps.new ≤ S.Count.looks steps.old + 1 }
     ensures applies { S.Count.applies steps.new ≡ S.Count.applies steps.old }
 {
     let id = id_of(first);
     let found = draft.source.get(id.as_str(), steps);
-    let change = slot_by_run(alloc, found, first, behind)?;
+    let made = slot_by_run(alloc, found, first, behind)?;
+    let change = new_slot_of(found, made);
     let after = change_slot(draft, id, change, steps)?;
     Ok(after)
 }

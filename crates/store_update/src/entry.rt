@@ -6,6 +6,7 @@ ghost use Rattle.gql_plain.specs.Order.{AreSortedOf};
 ghost use Rattle.store_model.specs.Entries as entries;
 ghost use Rattle.store_update.specs.Touched.{AreTouched, AreNoted, is_changed};
 
+use crate::alone::{apply_facts, apply_run, is_of_facts, run_alone};
 use crate::commands::act_all;
 use crate::draft::Draft;
 use crate::facts::put_facts;
@@ -28,7 +29,8 @@ pub struct Changed<S: RecordSource> {
 /// The facts of one id take one look and at most one new record, and so does a command on a record.
 /// What is there already gives no new record. A page or a command on edges takes one look for each
 /// edge that it asks for and at most five more, and puts at most three records beside its new edges.
-/// Each id that had a new record is looked up twice more.
+/// An entry of facts alone, or of commands on one record alone, takes no more looks; in others each id
+/// that had a new record is looked up twice more.
 pub fn apply<S: RecordSource>(
     source: &S,
     entry: &Entry,
@@ -40,6 +42,27 @@ pub fn apply<S: RecordSource>(
     ensures looks { S.Count.looks steps.new ≤ S.Count.looks steps.old + 8 * entries.weight entry.now (S.records source.now) }
 {
     steps.apply();
+    let alloc = *entry.commands.items.allocator();
+    if is_of_facts(entry) {
+        return apply_facts(alloc, source, &entry.facts.facts, steps);
+    }
+    if let Some((first, behind)) = run_alone(entry) {
+        return apply_run(alloc, source, first, behind, steps);
+    }
+    apply_all(source, entry, steps)
+}
+
+/// Applies an entry of any kind; looks twice more at each id that had a new record.
+fn apply_all<S: RecordSource>(
+    source: &S,
+    entry: &Entry,
+    steps: &mut S::Count,
+) -> Result<Changed<S>, NoMemory>
+    ensures records { IfOk result (λ changed. S.records changed.source ≡ entries.apply entry.now (S.records source.now)) }
+    ensures touched { IfOk result (λ changed. AreTouched (S.records source.now) (S.records changed.source) changed.touched) }
+    ensures applies { S.Count.applies steps.new ≡ S.Count.applies steps.old }
+    ensures looks { S.Count.looks steps.new ≤ S.Count.looks steps.old + 8 * entries.weight entry.now (S.records source.now) }
+{
     let draft = draft_of(source, entry, steps)?;
     let Draft {
         source: after,

@@ -1,6 +1,7 @@
 //! What an entry makes of a record map, and the ids whose slot it changes.
 #![tactic(auto)]
 
+mod alone;
 mod command;
 mod commands;
 mod draft;

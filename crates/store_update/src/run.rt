@@ -70,7 +70,7 @@ fn goes_with(id: &str, command: &Command) -> bool
 }
 
 /// Whether a command changes the slot of its own id alone; takes no memory.
-fn is_of_record(command: &Command) -> bool
+pub(crate) fn is_of_record(command: &Command) -> bool
     ensures { result ≡ is_of_record command.now }
 {
     match command {

@@ -2,7 +2,8 @@
 ghost use Rattle.std.specs.Prelude.{◌≡◌, Some, IfOk};
 ghost use Rattle.std.specs.Option.{option_copied};
 ghost use Rattle.store_record.specs.declared.record.Slot.TheVariants.{Alive};
-ghost use Rattle.store_update.specs.Slots.{slot_eq};
+ghost use Rattle.store_update.specs.Slots.{slot_after, slot_eq};
+ghost use Rattle.store_update.specs.Touched.{IsNew};
 
 use gql_plain::{Name, NoMemory};
 use std::alloc::Global;
@@ -18,6 +19,28 @@ pub(crate) fn live_slot(
 {
     let shared = Shared::new(alloc, Record { type_name, fields })?;
     Ok(Some(Slot::Alive(shared)))
+}
+
+/// A new slot, where it is not equal to the one before; takes no memory.
+pub(crate) fn new_slot_of(before: Option<&Slot>, change: Option<Slot>) -> Option<Slot>
+    ensures same { slot_after result (option_copied before.entry) ≡ slot_after change (option_copied before.entry) }
+    ensures new { IsNew (option_copied before.entry) result }
+{
+    match change {
+        Some(slot) => other_slot(before, slot),
+        None => None,
+    }
+}
+
+/// A slot, where it is not equal to the one before; takes no memory.
+fn other_slot(before: Option<&Slot>, slot: Slot) -> Option<Slot>
+    ensures same { slot_after result (option_copied before.entry) ≡ Some slot }
+    ensures new { IsNew (option_copied before.entry) result }
+{
+    if are_equal(before, Some(&slot)) {
+        return None;
+    }
+    Some(slot)
 }
 
 /// Whether two ids have equal slots; None stands for an absent one.

@@ -5,7 +5,7 @@ use Rattle.store_model.specs.Records.{put}
 use Rattle.store_update.proofs.Noted.{noted_within}
 use Rattle.store_update.proofs.Weights.{rows_few}
 use Rattle.store_update.proofs.facts.put_facts.Goals as goal
-use Rattle.store_update.specs.Touched.{AreNoted}
+use Rattle.store_update.specs.Touched.{AreNoted, AreTouched}
 
 pub returns-clause-records : goal.returns-clause-records
 returns-clause-records g c =
@@ -33,3 +33,7 @@ returns-in_err-after-clause-looks g c =
     let rows = c.rows.result.now in
     let few : length rows ≤ length c.args.facts.now = subst (λ facts. length rows ≤ length facts) c.rows.ensures.facts (rows_few rows) in
     omega (arith, few, c.put_rows.ensures.looks)
+
+pub returns-clause-touched : goal.returns-clause-touched
+returns-clause-touched g c =
+    subst (λ m. AreTouched m (g.S.RecordSource.records c.in_ok-after.after.source) c.in_ok-after.after.changed.items) c.in_ok-version.ensures c.in_ok-after.ensures.touched
