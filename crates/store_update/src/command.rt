@@ -188,13 +188,7 @@ fn link_or_null(to: &Option<Id>) -> Result<Field, NoMemory>
 
 /// A number that is added to a field of a record; the field stays where it holds no whole number, or where the
 /// sum is not within 64 bits.
-fn add(
-    alloc: Global,
-    row: &Record,
-    field: &Name,
-    args: &Pairs,
-    by: i64,
-) -> Result<Effect, NoMemory>
+fn add(alloc: Global, row: &Record, field: &Name, args: &Pairs, by: i64) -> Result<Effect, NoMemory>
     ensures { IfOk result (λ effect. spec.slot_with effect row.now ≡ Alive (add_to_field (field_key field.now args.now) by row.now)) }
 {
     in_order(&row.fields);
