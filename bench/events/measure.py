@@ -2,22 +2,32 @@
 
 The rows stand in rows.py of the bench. Times are processor times, the least of some rounds over all sizes. It tells of each script
 whether its last line is the one that is due. Columns: the whole time; what is left of it where another script's time is taken off; how
-many times what is left at the size before; microseconds for each part; the time of what it is held against, and the ratio to it."""
+many times what is left at the size before; microseconds for each part; the time of what it is held against, and the ratio to it.
 
-import os, resource, subprocess, sys, traceback
+With COUNT=1 it counts instructions by valgrind in place of times, once: millions where milliseconds stand, thousands for microseconds,
+and no memory."""
+
+import os, re, resource, subprocess, sys, traceback
 from rows import ROWS
 from scripts import BUFFER, SCHEMA
 
-LONGEST, ROUNDS = 300, int(os.environ.get("ROUNDS", "5"))
+COUNTS = "COUNT" in os.environ
+LONGEST, ROUNDS = (3000, 1) if COUNTS else (300, int(os.environ.get("ROUNDS", "5")))
+COUNTER = ["valgrind", "--tool=cachegrind", "--cache-sim=no", "--cachegrind-out-file=/dev/null", "--log-file=counted"]
 
 def timed(words, script=os.devnull):
-    """The processor time of a run, its most memory in MiB, and its status. Its last line is put into the file `last`."""
+    """The processor time of a run, its most memory in MiB, and its status. Its last line is put into the file `last`. Where instructions
+    are counted they stand for nanoseconds."""
     with open(script, "rb") as lines, open("answer", "wb") as answer:
         limit = lambda: resource.setrlimit(resource.RLIMIT_CPU, (LONGEST, LONGEST))
-        child = subprocess.Popen(words, stdin=lines, stdout=answer, preexec_fn=limit)
+        child = subprocess.Popen((COUNTER if COUNTS else []) + words, stdin=lines, stdout=answer, preexec_fn=limit)
         _, code, usage = os.wait4(child.pid, 0)
     with open("last", "wb") as last:
         subprocess.call(["tail", "-n", "1", "answer"], stdout=last)
+    if COUNTS:
+        with open("counted") as said:
+            counted = re.search(r"I +refs: +([0-9,]+)", said.read())
+        return int(counted[1].replace(",", "")) / 1e9, 0, os.waitstatus_to_exitcode(code)
     return usage.ru_utime + usage.ru_stime, usage.ru_maxrss / 1024, os.waitstatus_to_exitcode(code)
 
 def head_of(path):
@@ -102,7 +112,8 @@ if __name__ == "__main__":
     program, words = sys.argv[1], sys.argv[2:]
     open("s.graphql", "w").write(SCHEMA)
     print(f"load {load()}, least of {ROUNDS} rounds")
-    print(f"{'script':34} {'count':>8} {'MiB':>5} {'ms':>6} {'ms left':>7} {'grown':>6} {'us each':>9} {'beside':>7} {'ratio':>6} {'peak':>5} answer")
+    some, each = ("M", "k") if COUNTS else ("ms", "us")
+    print(f"{'script':34} {'count':>8} {'MiB':>5} {some:>6} {some + ' left':>7} {'grown':>6} {each + ' each':>9} {'beside':>7} {'ratio':>6} {'peak':>5} answer")
     wrong = [told(row) for row in ROWS if not words or any(word in row.name for word in words)]
     print(f"load {load()}")
     sys.exit(any(wrong))

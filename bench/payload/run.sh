@@ -11,7 +11,8 @@
 # ratio to that for the reading; what either has made is let go within its time. Most memory is that of
 # a run that does it once. The program is made in a folder of its own outside the repository, where the
 # crates that it stands on are proved first. Instead, a program may be named that was made so: run.sh
-# PROGRAM. With KEEP=PATH the program is left there.
+# PROGRAM. With KEEP=PATH the program is left there. With COUNT=1 it counts instructions by valgrind in
+# place of times, of one reading and of one gathering of the facts behind it.
 set -eu
 here=$(cd "$(dirname "$0")" && pwd)
 repository=$(cd "$here/../.." && pwd)
@@ -272,6 +273,36 @@ fn main(rt: HostRuntime) -> io::Result<()> {
 END
 fi
 
+cat > count.py <<'END'
+import os, re, subprocess, sys
+from payloads import PAYLOADS
+
+COUNTER = ["valgrind", "--tool=cachegrind", "--cache-sim=no", "--cachegrind-out-file=/dev/null", "--log-file=counted"]
+
+def counted(plan, count, mode, rounds):
+    """What a run found, and its instructions in millions."""
+    words = [*COUNTER, program, plan, str(count), mode, f"{count}.json", str(rounds)]
+    said = subprocess.check_output(words, stdin=subprocess.DEVNULL, text=True).split()
+    with open("counted") as file:
+        refs = re.search(r"I +refs: +([0-9,]+)", file.read())
+    return said[0], int(refs[1].replace(",", "")) / 1e6
+
+program, payloads, wrong = sys.argv[1], sys.argv[2], False
+print("payload                   count    MB  million: reading    facts  facts / reading  times the half  answer")
+for row, (name, plan, _, counts) in enumerate(PAYLOADS):
+    half = None
+    for count in counts:
+        due = subprocess.check_output([sys.executable, payloads, str(row), str(count), f"{count}.json"], text=True).strip()
+        (_, start), (_, read), (said, whole) = counted(plan, count, "read", 0), counted(plan, count, "read", 1), counted(plan, count, "facts", 1)
+        reading, facts = read - start, whole - read
+        wrong = wrong or said != due
+        answer = "as due" if said == due else f"WRONG: {said}, due {due}"
+        grown = f"{facts / half:.2f}" if half else ""
+        print(f"{name:22} {count:8} {os.path.getsize(f'{count}.json') / 1e6:5.1f} {reading:17.1f} {facts:8.1f} {facts / reading:16.2f} {grown:>15}  {answer}", flush=True)
+        half = facts
+        os.remove(f"{count}.json")
+sys.exit(wrong)
+END
 cat > measure.py <<'END'
 import os, subprocess, sys
 from payloads import PAYLOADS
@@ -327,4 +358,8 @@ for row, (name, plan, _, counts) in enumerate(PAYLOADS):
         os.remove(f"{count}.json")
 sys.exit(wrong)
 END
-PYTHONDONTWRITEBYTECODE=1 PYTHONPATH="$here" python3 measure.py "$program" "$here/payloads.py"
+measure=measure.py
+if [ -n "${COUNT:-}" ]; then
+    measure=count.py
+fi
+PYTHONDONTWRITEBYTECODE=1 PYTHONPATH="$here" python3 "$measure" "$program" "$here/payloads.py"
