@@ -1,7 +1,8 @@
 #!/bin/bash
 # What the benches over the built program share: run.sh BENCH [PROGRAM [WORD..]] times the rows of bench/BENCH/rows.py, in a folder of its own.
 # It tells of each script whether its last line is the one that is due. With words those rows alone whose names have one of them;
-# ROUNDS=N takes so many rounds in place of five, and COUNT=1 counts instructions by valgrind in place of times. What bench/BENCH/make.sh makes, where it stands there, stands in the folder too.
+# ROUNDS=N takes so many rounds in place of five, and COUNT=1 counts instructions by valgrind in place of times. What
+# bench/BENCH/make.sh makes, where it stands there, stands in the folder too.
 # Build the program first: cd crates/relay_run && rt run -- run 10 data/schema.graphql data/q.graphql < stdin
 set -eu
 benches=$(cd "$(dirname "$0")/.." && pwd)
