@@ -1,5 +1,6 @@
 -- Where all fields can merge, fields that are collected for one object under one key have one form.
 use Rattle.std.proofs.Common.{◌≡◌, Bool, true, false, true≢false, cond, not, ◌&&◌, ◌||◌, List, [], ◌∷◌, Option, Some, None, bytes_eq, refl, ap, sym, ◌∙◌}
+use Rattle.std.proofs.lemmas.Bool.{or_parts}
 use Rattle.std.specs.List.{All, filter, list_any}
 use Rattle.std.proofs.lemmas.List.Elements.{All-cons, All-nil}
 use Rattle.gql_graph.proofs.TextSteps.{same_self}
@@ -31,19 +32,11 @@ not_true : (b : Bool) → not b ≡ false → b ≡ true
 not_true true e = refl
 not_true false e = absurd (true≢false e)
 
-or_left : (a b : Bool) → (a || b) ≡ false → a ≡ false
-or_left true b e = e
-or_left false b e = refl
-
-or_right : (a b : Bool) → (a || b) ≡ false → b ≡ false
-or_right true b e = absurd (true≢false e)
-or_right false b e = e
-
 -- two fields that do not differ
 one_form : (a b : Field) → differ true a b ≡ false → HaveOneForm a b
 one_form a b e = record {
-  shape = same_shape-sound a.shape b.shape (not_true (same_shape a.shape b.shape) (or_left (not (same_shape a.shape b.shape)) (not (same_signature a.signature b.signature)) e));
-  signature = not_true (same_signature a.signature b.signature) (or_right (not (same_shape a.shape b.shape)) (not (same_signature a.signature b.signature)) e);
+  shape = same_shape-sound a.shape b.shape (not_true (same_shape a.shape b.shape) ((or_parts (not (same_shape a.shape b.shape)) (not (same_signature a.signature b.signature)) e).0));
+  signature = not_true (same_signature a.signature b.signature) ((or_parts (not (same_shape a.shape b.shape)) (not (same_signature a.signature b.signature)) e).1);
 }
 
 abbrev head_of : List Text → Text
@@ -89,7 +82,7 @@ none_in_conflict : {A : Type 0} (c : A → A → Bool) (r : A → A → Type 0) 
 none_in_conflict c r h [] e = tt
 none_in_conflict {A = A} c r h (x ∷ xs) e =
     let parts : (list_any (λ y. true) (filter (c x) xs) || list_any (λ y. true) (faulty c xs)) ≡ false = sym (any-append (λ y. true) (filter (c x) xs) (faulty c xs)) ∙ e in
-    (none_with c r h x xs (or_left _ _ parts), none_in_conflict c r h xs (or_right _ _ parts))
+    (none_with c r h x xs ((or_parts _ _ parts).0), none_in_conflict c r h xs ((or_parts _ _ parts).1))
 
 pub collected_alike : (fs : Fields) → differences fs ≡ [] → Pairwise AreAlike (paths fs)
 collected_alike fs e = none_in_conflict (conflict true) AreAlike alike (paths fs) (sym (differences_are (λ p. true) fs) ∙ ap (list_any (λ p. true)) e)

@@ -1,6 +1,7 @@
 -- What a sweep leaves, and where two states meet in one.
 use Rattle.std.proofs.Common.{◌≡◌, ℕ, ◌+◌, Bool, true, false, true≢false, ◌||◌, ◌==◌, cond, List, [], ◌∷◌, ◌++◌, map, drop, length, take, Option, None, codes, arith, refl, sym, ap, subst, ◌∙◌}
 use Rattle.std.proofs.Math.Seq.{take-length, drop-length}
+use Rattle.std.proofs.lemmas.Bool.{or_parts}
 use Rattle.std.proofs.lemmas.List.{append-nil}
 use Rattle.std.specs.Cmp.Lexicographic.{nat_list_cmp_total}
 use Rattle.std.specs.FinMap.{same_map}
@@ -75,14 +76,6 @@ quiet_sweeps p buffer s n now none =
 
 -- ---- reaches
 
-left_false : (a b : Bool) → (a || b) ≡ false → a ≡ false
-left_false true b h = absurd (true≢false h)
-left_false false b h = refl
-
-right_false : (a b : Bool) → (a || b) ≡ false → b ≡ false
-right_false true b h = absurd (true≢false h)
-right_false false b h = h
-
 where_kept : (kept d : Bool) (x y : Option Slot) → (d ≡ true → kept ≡ false) → (d ≡ false → x ≡ y) → cond kept x None ≡ cond kept y None
 where_kept true true x y out same = absurd (true≢false (out refl))
 where_kept true false x y out same = same refl
@@ -111,8 +104,8 @@ module _ (p : Project) (D : Text → Bool) (m n : Records) (same : SameElsewhere
   reached_alike : (rs : List Retained) → ((id : Text) → D id ≡ true → is_reached p rs m id ≡ false) → (id : Text) → is_reached p rs n id ≡ is_reached p rs m id
   reached_alike [] out id = refl
   reached_alike (r ∷ rs) out id =
-      let first = reach_alike r (λ j h. left_false (has_text (reach_of m r) j) (is_reached p rs m j) (out j h)) in
-      let rest = reached_alike rs (λ j h. right_false (has_text (reach_of m r) j) (is_reached p rs m j) (out j h)) id in
+      let first = reach_alike r (λ j h. (or_parts (has_text (reach_of m r) j) (is_reached p rs m j) (out j h)).0) in
+      let rest = reached_alike rs (λ j h. (or_parts (has_text (reach_of m r) j) (is_reached p rs m j) (out j h)).1) id in
       λ i. has_text (first i) id || rest i
 
   -- both maps are swept to the same

@@ -1,5 +1,6 @@
 -- Each object type stands in one class, and on it the field leads to what it leads to on the class.
 use Rattle.std.proofs.Common.{◌≡◌, Bool, true, false, true≢false, cond, not, ◌&&◌, ◌||◌, List, [], ◌∷◌, ◌++◌, map, bytes_eq, refl, ap, sym, ◌∙◌, subst, ◌⊎◌, inl, inr}
+use Rattle.std.proofs.lemmas.Bool.{or_parts}
 use Rattle.std.specs.Bool.{beq}
 use Rattle.std.specs.List.{filter}
 use Rattle.std.specs.Cmp.{booleans_Decides}
@@ -120,14 +121,10 @@ abbrev pub Differ : List Text → Type 0
 Differ [] = Unit {0}
 Differ (T ∷ Ts) = (has_text Ts T ≡ false) × Differ Ts
 
-or_none : (a b : Bool) → (a || b) ≡ false → (a ≡ false) × (b ≡ false)
-or_none true b e = absurd (true≢false e)
-or_none false b e = (refl, e)
-
 others_put : (defs : Defs) (n T : Text) (ts : List Text) (cs : List Class) → has_text ts T ≡ false → found T (with_types defs n cs ts) ≡ found T cs
 others_put defs n T [] cs e = refl
 others_put defs n T (X ∷ ts) cs e =
-    let parts = or_none (bytes_eq X T) (has_text ts T) e in
+    let parts = or_parts (bytes_eq X T) (has_text ts T) e in
     others_put defs n T ts (with_type defs cs (target_on defs X n) X) parts.1 ∙ other_put defs cs (target_on defs X n) X T parts.0
 
 all_put : (defs : Defs) (n T : Text) (ts : List Text) (cs : List Class) → Differ ts → has_text ts T ≡ true → found T cs ≡ [] → OneLike defs (target_on defs T n) (found T (with_types defs n cs ts))

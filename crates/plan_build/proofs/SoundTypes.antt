@@ -1,5 +1,6 @@
 -- In a sound schema an object type is alone, each object type has its own name, and a type that is no composite one may be no object type.
 use Rattle.std.proofs.Common.{◌≡◌, ℕ, ◌+◌, Bool, true, false, true≢false, not, ◌||◌, cond, List, [], ◌∷◌, ◌++◌, Option, Some, None, option_map, bytes_eq, refl, ap, sym, subst, ◌∙◌}
+use Rattle.std.proofs.lemmas.Bool.{or_parts}
 use Rattle.std.specs.List.{filter, filter_map}
 use Rattle.std.specs.Option.{option_and_then}
 use Rattle.gql_ast.specs.declared.schema.SchemaDef.{SchemaDef}
@@ -51,10 +52,6 @@ is_new before n at rest e = on (has_text before n) refl e where
 more_scalars : (before : List Text) (n : Text) → HasScalars before → HasScalars (n ∷ before)
 more_scalars before n h t e = ap (λ (b : Bool). bytes_eq n t || b) (h t e) ∙ or_true (bytes_eq n t)
 
-none_of_two : (a b : Bool) → (a || b) ≡ false → (a ≡ false) × (b ≡ false)
-none_of_two true b e = absurd (true≢false e)
-none_of_two false b e = (refl, e)
-
 -- an object type whose name is not among these
 abbrev IsFirst : List Text → Defs → Text → Type 0
 IsFirst before defs T = (has_text before T ≡ false) × (is_kind is_object_kind (kind_among defs T) ≡ true)
@@ -63,7 +60,7 @@ IsFirst before defs T = (has_text before T ≡ false) × (is_kind is_object_kind
 behind_other : (before : List Text) (d : SchemaDef) (defs : Defs) (n T : Text) → IsFirst (n ∷ before) defs T
     → (has_text before T ≡ false) × (is_kind is_object_kind (first_kind d defs T (bytes_eq n T)) ≡ true)
 behind_other before d defs n T h =
-    let parts = none_of_two (bytes_eq n T) (has_text before T) h.0 in
+    let parts = or_parts (bytes_eq n T) (has_text before T) h.0 in
     (parts.1, ap (λ (b : Bool). is_kind is_object_kind (first_kind d defs T b)) parts.0 ∙ h.1)
 
 object_first : (defs : Defs) (from : ℕ) (before : List Text) → HasScalars before → repeats before (names_in from defs) ≡ [] → (T : Text) → has_text (filter_map object_name defs) T ≡ true

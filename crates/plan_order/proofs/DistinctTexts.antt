@@ -1,5 +1,6 @@
 -- Texts of which none stands twice, and what does not depend on the order of texts.
 use Rattle.std.proofs.Common.{◌≡◌, Bool, true, false, true≢false, not, ◌&&◌, ◌||◌, bytes_eq, List, [], ◌∷◌, refl, sym, ap, ◌∙◌}
+use Rattle.std.proofs.lemmas.Bool.{or_parts}
 use Rattle.std.specs.List.{AllByRecursion, list_all}
 use Rattle.gql_plain.proofs.Booleans.{both_ways}
 use Rattle.gql_plain.specs.Order.{has_text}
@@ -13,10 +14,6 @@ use Rattle.store_record.specs.Keys.{Text}
 pub both : (a b : Bool) → (a && b) ≡ true → (a ≡ true) × (b ≡ true)
 both true b e = (refl, e)
 both false b e = absurd (true≢false (sym e))
-
-neither : (a b : Bool) → (a || b) ≡ false → (a ≡ false) × (b ≡ false)
-neither true b e = absurd (true≢false e)
-neither false b e = (refl, e)
 
 unless : (b : Bool) → not b ≡ true → b ≡ false
 unless true e = absurd (true≢false (sym e))
@@ -37,7 +34,7 @@ none_has text (one ∷ texts) all = λ i. differ-back text one all.0 i || none_h
 has_none : (text : Text) (texts : List Text) → has_text texts text ≡ false → AllByRecursion (Differ text) texts
 has_none text [] e = tt
 has_none text (one ∷ texts) e =
-    let parts = neither (bytes_eq one text) (has_text texts text) e in (differ-back one text parts.0, has_none text texts parts.1)
+    let parts = or_parts (bytes_eq one text) (has_text texts text) e in (differ-back one text parts.0, has_none text texts parts.1)
 
 pub differ_so : (texts : List Text) → distinct texts ≡ true → DoDiffer texts
 differ_so [] e = tt

@@ -1,7 +1,7 @@
 -- The text of an operation that is not too deep opens no more selection sets, lists and objects in one another than may be read.
-use Rattle.std.proofs.Common.{◌≡◌, ◌≤◌, ℕ, ◌+◌, ◌-◌, Bool, true, false, leb, ◌||◌, List, [], ◌∷◌, map, max, Option, Some, None, refl, sym, ap, subst, arith}
+use Rattle.std.proofs.Common.{◌≡◌, ◌≤◌, ℕ, ◌+◌, ◌-◌, false, leb, List, [], ◌∷◌, map, max, Option, Some, None, refl, sym, ap, subst, arith}
 use Rattle.std.proofs.Math.Nat.{le-max_left, le-max_right, max-le}
-use Rattle.std.proofs.lemmas.Bool.{leb-false}
+use Rattle.std.proofs.lemmas.Bool.{leb-false, or_parts}
 use Rattle.std.specs.List.{AllByRecursion}
 use Rattle.gql_ast.specs.TypeView.{ty_of}
 use Rattle.gql_ast.specs.Value.{Val, Vals, Members, variable, int, text, truth, null, enum, list, object, no_vals, val, no_members, member, members_of, members_depth, val_depth, vals_depth}
@@ -187,14 +187,10 @@ module _ (limit : ℕ) where
       let b : Shallow limit directives = directives_depth_to (printed_directives e.directives) limit set (directives_within e.directives limit d) a in
       (omega arith, (omega arith, variables_part_to (used_variables e) directives (all-filter (VariableWithin limit) _ e.variables v) b))
 
-neither : (a b : Bool) → (a || b) ≡ false → (a ≡ false) × (b ≡ false)
-neither true b e = cc
-neither false b e = (refl, e)
-
 -- what E2 allows
 pub shallow_text : (w : Whole) → VariablesWithin nesting_limit w.expanded.variables → is_too_deep w ≡ false → Shallow nesting_limit (documents.levels (document_parts w.expanded))
 shallow_text w v e =
-    let both = neither (leb 61 (set_depth w.expanded.selections)) (leb 61 (value_depth w)) e in
+    let both = or_parts (leb 61 (set_depth w.expanded.selections)) (leb 61 (value_depth w)) e in
     let more : ℕ = max (nodes_value_depth w.expanded.selections) (all_depth w.gifts) in
     let sets : set_depth w.expanded.selections ≤ 60 = omega (arith, leb-false 61 (set_depth w.expanded.selections) both.0) in
     let values : value_depth w ≤ 60 = omega (arith, leb-false 61 (value_depth w) both.1) in

@@ -1,6 +1,7 @@
 -- Types that leave out no interface, one after the other.
 use Rattle.std.proofs.Common.{◌≡◌, ℕ, ◌+◌, ◌<◌, ◌≤◌, Bool, true, false, not, ◌||◌, List, [], ◌∷◌, map, drop, length, get_or, add-one, true≢false, refl, ap, sym, ◌∙◌}
 use Rattle.std.proofs.Math.Seq.{drop-cons}
+use Rattle.std.proofs.lemmas.Bool.{or_from, or_parts}
 use Rattle.std.proofs.lemmas.List.{drop_all}
 use Rattle.std.specs.BTreeSet.{BTreeSet}
 use Rattle.std.specs.List.{list_any}
@@ -15,23 +16,12 @@ use Rattle.schema_trees.specs.LocatedView.{name_of}
 use Rattle.schema_trees.specs.declared.located.NameAt.{NameAt}
 use denote.Ref.{Bor}
 
-first_false : (a b : Bool) → (a || b) ≡ false → a ≡ false
-first_false true b e = absurd (true≢false e)
-first_false false b e = refl
-
-rest_false : (a b : Bool) → (a || b) ≡ false → b ≡ false
-rest_false true b e = absurd (true≢false e)
-rest_false false b e = e
-
-both_false : (a b : Bool) → a ≡ false → b ≡ false → (a || b) ≡ false
-both_false a b e f = ap (λ (x : Bool). x || b) e ∙ f
-
 -- none of the names is such, so one of them is not
 pub none_such : (such : Text → Bool) (ns : List Text) (n : Text) → list_any such ns ≡ false → has_text ns n ≡ true → such n ≡ false
 none_such such [] n e h = absurd (true≢false (sym h))
-none_such such (m ∷ ns) n e h = case (bytes_eq m n) refl h (λ i. none_such such ns n (rest_false (such m) (list_any such ns) e) i) where
+none_such such (m ∷ ns) n e h = case (bytes_eq m n) refl h (λ i. none_such such ns n ((or_parts (such m) (list_any such ns) e).1) i) where
   case : (b : Bool) → bytes_eq m n ≡ b → (b || has_text ns n) ≡ true → (has_text ns n ≡ true → such n ≡ false) → such n ≡ false
-  case true f i later = ap such (sym (same_text m n f)) ∙ first_false (such m) (list_any such ns) e
+  case true f i later = ap such (sym (same_text m n f)) ∙ (or_parts (such m) (list_any such ns) e).0
   case false f i later = later i
 
 pub stands_in : (b : Bool) → not b ≡ false → b ≡ true
@@ -43,17 +33,17 @@ narrow : (inner outer xs : List Text) → list_any (λ one. not (has_text outer 
     → list_any (λ one. not (has_text outer one)) xs ≡ false
 narrow inner outer [] e f = refl
 narrow inner outer (x ∷ xs) e f =
-    both_false (not (has_text outer x)) (list_any (λ one. not (has_text outer one)) xs)
-    (none_such (λ one. not (has_text outer one)) inner x e (stands_in (has_text inner x) (first_false (not (has_text inner x)) (list_any (λ one. not (has_text inner one)) xs) f)))
-    (narrow inner outer xs e (rest_false (not (has_text inner x)) (list_any (λ one. not (has_text inner one)) xs) f))
+    or_from (not (has_text outer x)) (list_any (λ one. not (has_text outer one)) xs)
+    (none_such (λ one. not (has_text outer one)) inner x e (stands_in (has_text inner x) ((or_parts (not (has_text inner x)) (list_any (λ one. not (has_text inner one)) xs) f).0)))
+    (narrow inner outer xs e ((or_parts (not (has_text inner x)) (list_any (λ one. not (has_text inner one)) xs) f).1))
 
 -- what leaves out none of the inner names leaves out none of the outer ones
 pub narrow_all : (defs : Defs) (inner outer is : List Text) → list_any (λ one. not (has_text outer one)) inner ≡ false → list_any (leaves_out defs inner) is ≡ false → list_any (leaves_out defs outer) is ≡ false
 narrow_all defs inner outer [] e f = refl
 narrow_all defs inner outer (i ∷ is) e f =
-    both_false (leaves_out defs outer i) (list_any (leaves_out defs outer) is)
-    (narrow inner outer (interfaces_named (type_named defs i)) e (first_false (leaves_out defs inner i) (list_any (leaves_out defs inner) is) f))
-    (narrow_all defs inner outer is e (rest_false (leaves_out defs inner i) (list_any (leaves_out defs inner) is) f))
+    or_from (leaves_out defs outer i) (list_any (leaves_out defs outer) is)
+    (narrow inner outer (interfaces_named (type_named defs i)) e ((or_parts (leaves_out defs inner i) (list_any (leaves_out defs inner) is) f).0))
+    (narrow_all defs inner outer is e ((or_parts (leaves_out defs inner i) (list_any (leaves_out defs inner) is) f).1))
 
 -- ---- sets of names of which none is such
 
@@ -61,13 +51,13 @@ pub none_of : (set : BTreeSet (Bor (List ℕ))) (such : Text → Bool) (n : Text
 none_of set such n h b k e = none_such such h.0 n h.2 (sym (k h.0 h.1) ∙ e)
 
 pub put_one : (new : BTreeSet (Bor (List ℕ))) (such : Text → Bool) (known : List Text) (n : Text) → Knows new (n ∷ known) → list_any such known ≡ false → such n ≡ false → HasNone new such
-put_one new such known n k e f = (n ∷ known, k, both_false (such n) (list_any such known) f e)
+put_one new such known n k e f = (n ∷ known, k, or_from (such n) (list_any such known) f e)
 
 any_first : (such : Text → Bool) (x : Text) (xs : List Text) → list_any such (x ∷ xs) ≡ false → such x ≡ false
-any_first such x xs e = first_false (such x) (list_any such xs) e
+any_first such x xs e = (or_parts (such x) (list_any such xs) e).0
 
 any_rest : (such : Text → Bool) (x : Text) (xs : List Text) → list_any such (x ∷ xs) ≡ false → list_any such xs ≡ false
-any_rest such x xs e = rest_false (such x) (list_any such xs) e
+any_rest such x xs e = (or_parts (such x) (list_any such xs) e).1
 
 -- one name of a list, and those after it
 pub none_here : (such : Text → Bool) (xs : List Text) (i : ℕ) (x : Text) → i < length xs → x ≡ get_or xs i x → list_any such (drop i xs) ≡ false → such x ≡ false

@@ -1,5 +1,6 @@
 -- The ids that entries change.
 use Rattle.std.proofs.Common.{◌≡◌, Bool, true, false, true≢false, ◌||◌, not, List, [], ◌∷◌, ◌++◌, refl, sym, ap, ◌∙◌, bytes_eq}
+use Rattle.std.proofs.lemmas.Bool.{or_parts}
 use Rattle.std.proofs.lemmas.List.Folds.{list_any-append}
 use Rattle.std.specs.Bool.{Decides}
 use Rattle.gql_plain.specs.Order.{has_text}
@@ -12,14 +13,6 @@ use Rattle.store_update.specs.Slots.{slot_eq}
 use Rattle.store_update.specs.Touched.{AreTouched, is_changed}
 use Rattle.store_layers.specs.Changed.{AreChanged, is_changed_by}
 use Rattle.store_layers.specs.Versions.{Version, AreVersions, is_noted, touched_by}
-
-left_false : (a b : Bool) → (a || b) ≡ false → a ≡ false
-left_false true b h = absurd (true≢false h)
-left_false false b h = refl
-
-right_false : (a b : Bool) → (a || b) ≡ false → b ≡ false
-right_false true b h = absurd (true≢false h)
-right_false false b h = h
 
 -- an id is touched exactly if its slot differs
 pub touched_is : (before after : Records) (ids : List Text) (id : Text) → AreTouched before after ids → has_text ids id ≡ is_changed before after id
@@ -42,8 +35,8 @@ noted_is m (e ∷ es) (v ∷ vs) id h = λ i. touched_is m (apply e m) v.touched
 pub slot_stays : (es : List Entry) (m : Records) (id : Text) → is_changed_by es m id ≡ false → slot_at id (fold_entries es m) ≡ slot_at id m
 slot_stays [] m id h = refl
 slot_stays (e ∷ es) m id h =
-    slot_stays es (apply e m) id (right_false (is_changed m (apply e m) id) (is_changed_by es (apply e m) id) h)
-    ∙ at (slot_eq (slot_at id m) (slot_at id (apply e m))) (slot_eq-Decides (slot_at id m) (slot_at id (apply e m))) (left_false (is_changed m (apply e m) id) (is_changed_by es (apply e m) id) h)
+    slot_stays es (apply e m) id ((or_parts (is_changed m (apply e m) id) (is_changed_by es (apply e m) id) h).1)
+    ∙ at (slot_eq (slot_at id m) (slot_at id (apply e m))) (slot_eq-Decides (slot_at id m) (slot_at id (apply e m))) ((or_parts (is_changed m (apply e m) id) (is_changed_by es (apply e m) id) h).0)
   where
     at : (same : Bool) → Decides same (slot_at id m ≡ slot_at id (apply e m)) → not same ≡ false → slot_at id (apply e m) ≡ slot_at id m
     at true d p = sym (d.0 refl)
@@ -55,8 +48,8 @@ pub changed_are : (m : Records) (before after : List Entry) (ids : List Text)
 changed_are m before after ids has = record {
   all = λ id none.
       let neither : (is_changed_by before m id || is_changed_by after m id) ≡ false = sym (has id) ∙ none in
-      slot_stays after m id (right_false (is_changed_by before m id) (is_changed_by after m id) neither)
-      ∙ sym (slot_stays before m id (left_false (is_changed_by before m id) (is_changed_by after m id) neither));
+      slot_stays after m id ((or_parts (is_changed_by before m id) (is_changed_by after m id) neither).1)
+      ∙ sym (slot_stays before m id ((or_parts (is_changed_by before m id) (is_changed_by after m id) neither).0));
   only = λ id h. sym (has id) ∙ h;
 }
 

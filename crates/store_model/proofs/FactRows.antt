@@ -64,7 +64,7 @@ abbrev with_facts : List (Text × Field) → Text → Record → Record
 with_facts [] id old = old
 with_facts (f ∷ fs) id old = with_facts fs id (with_fact (fact_at id f) old)
 
-inserted_twice : (m : Records) (id : Text) (a b : Slot) → finmap.insert (finmap.insert m id a) id b ≡ finmap.insert m id b
+pub inserted_twice : (m : Records) (id : Text) (a b : Slot) → finmap.insert (finmap.insert m id a) id b ≡ finmap.insert m id b
 inserted_twice m id a b =
     finmap.same_map nat_list_cmp_total (finmap.slice_cmp-IsAntisymmetric finmap.nat_cmp-IsAntisymmetric) (finmap.insert (finmap.insert m id a) id b) (finmap.insert m id b) (λ q.
     finmap.get-insert nat_list_cmp_total (finmap.insert m id a) id b q
