@@ -17,7 +17,7 @@ use Rattle.store_model.specs.declared.command.Command.{Command}
 use Rattle.store_model.specs.declared.command.Command.TheVariants as C
 use Rattle.store_model.specs.declared.facts.FactRow.{FactRow}
 use Rattle.store_update.specs.Slots.{slot_after, with_change, slot_by_row, slot_changed, slot_created, slot_deleted, slot_by_command, id_of}
-use Rattle.store_update.specs.Touched.{is_of_record}
+use Rattle.store_update.specs.Turns.{is_of_record}
 
 -- ---- one slot
 

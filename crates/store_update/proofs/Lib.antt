@@ -1,9 +1,11 @@
 pub mod Changes
+pub mod Entries
 pub mod Equal
-pub mod Exact
+pub mod Groups
 pub mod Kept
 pub mod Noted
 pub mod Runs
 pub mod Sums
-pub mod Weights
+pub mod Turns
 pub mod Walks
+pub mod Weights

@@ -1,24 +1,27 @@
 -- Commands of one id, one after another, are one change of its slot.
-use Rattle.std.proofs.Common.{◌≡◌, ◌+◌, Bool, true, false, true≢false, cond, ◌&&◌, List, [], ◌∷◌, ◌++◌, Option, Some, None, refl, sym, ap, ◌∙◌, subst, nat_cmp, arith}
+use Rattle.std.proofs.Common.{◌≡◌, ◌+◌, ◌≤◌, ◌⊎◌, inl, inr, Bool, true, false, true≢false, cond, ◌&&◌, List, [], ◌∷◌, ◌++◌, Option, Some, None, refl, sym, ap, ◌∙◌, subst, arith}
 use Rattle.std.proofs.lemmas.Map.Text.{is_eq-slice_cmp}
 use Rattle.std.proofs.lemmas.Slice.Eq.{bytes_eq-Decides}
-use Rattle.std.specs.Cmp.Lexicographic.{slice_cmp, nat_list_cmp_total}
+use Rattle.std.specs.Cmp.Lexicographic.{nat_list_cmp_total}
 use Rattle.std.specs.FinMap as finmap
 use Rattle.std.specs.List.{list_all}
-use Rattle.std.specs.Ordering.{eq_by_cmp}
 use Rattle.std.specs.Prelude.{is_some}
 use Rattle.std.specs.Str.{bytes_eq}
 use Rattle.store_record.specs.Keys.{Text}
 use Rattle.store_record.specs.declared.record.Slot.{Slot}
 use Rattle.store_record.specs.declared.record.Slot.TheVariants.{Deleted, Alive}
-use Rattle.store_model.specs.Entries.{asked_by_commands, weights}
-use Rattle.store_model.specs.Records.{Records, slot_at, with_slot}
+use Rattle.store_model.proofs.FactRows.{inserted_twice}
+use Rattle.store_model.specs.Entries.{asked_by_commands, asked_by_pages, merge_all, weights}
+use Rattle.store_model.specs.FactRows.{with_row}
+use Rattle.store_model.specs.Records.{Records, slot_at}
 use Rattle.store_model.specs.Updates.{act, act_all}
 use Rattle.store_model.specs.declared.command.Command.{Command}
 use Rattle.store_model.specs.declared.command.Command.TheVariants as C
-use Rattle.store_update.proofs.Changes.{command_is, stays}
-use Rattle.store_update.specs.Slots.{id_of, slot_after, slot_by_command, slot_by_commands, with_change}
-use Rattle.store_update.specs.Touched.{goes_with, is_of_record}
+use Rattle.store_model.specs.declared.facts.FactRow.{FactRow}
+use Rattle.store_model.specs.declared.facts.HandleFact.{HandleFact}
+use Rattle.store_update.proofs.Changes.{command_is, row_is, stays}
+use Rattle.store_update.specs.Slots.{id_of, slot_after, slot_by_command, slot_by_commands, slot_by_row, with_change}
+use Rattle.store_update.specs.Turns.{AreOf, goes_with, is_of_record}
 
 -- ---- a slot that is there stays there
 
@@ -54,22 +57,10 @@ after_own (Some s) old h = refl
 -- ---- the slot of one id
 
 module _ (id : Text) (m : Records) where
-  put_again : (a b : Slot) → with_slot id b (with_slot id a m) ≡ with_slot id b m
-  put_again a b =
-      finmap.same_map nat_list_cmp_total (finmap.slice_cmp-IsAntisymmetric finmap.nat_cmp-IsAntisymmetric) (with_slot id b (with_slot id a m)) (with_slot id b m) (λ q.
-      finmap.get-insert nat_list_cmp_total (with_slot id a m) id b q
-      ∙ ap (λ o. cond (eq_by_cmp (slice_cmp nat_cmp) q id) (Some b) o) (finmap.get-insert nat_list_cmp_total m id a q)
-      ∙ once (eq_by_cmp (slice_cmp nat_cmp) q id) (finmap.get m q)
-      ∙ sym (finmap.get-insert nat_list_cmp_total m id b q))
-    where
-      once : (c : Bool) (o : Option Slot) → cond c (Some b) (cond c (Some a) o) ≡ cond c (Some b) o
-      once true o = refl
-      once false o = refl
-
   changed_again : (new old : Option Slot) → (new ≡ None → old ≡ None) → with_change id new (with_change id old m) ≡ with_change id new m
   changed_again None old h = ap (λ o. with_change id o m) (h refl)
   changed_again (Some s) None h = refl
-  changed_again (Some s) (Some t) h = put_again t s
+  changed_again (Some s) (Some t) h = inserted_twice m id t s
 
   stands : (new : Option Slot) → (new ≡ None → slot_at id m ≡ None) → slot_at id (with_change id new m) ≡ new
   stands None h = h refl
@@ -118,6 +109,21 @@ module _ (first : Command) (behind : List Command) (m : Records) where
       settled id m change (slot_by_commands (first ∷ behind) (slot_at id m)) (subst (λ x. slot_after change x ≡ slot_by_commands (first ∷ behind) x) same e)
       ∙ runs (first ∷ behind) id m all
 
+-- a row, and commands on its id behind it
+pub row_run_is : (row : FactRow) (cs : List Command) (m : Records) (found change : Option Slot) → AreOf row.id cs → found ≡ slot_at row.id m
+    → slot_after change found ≡ slot_by_commands cs (slot_by_row row found) → with_change row.id change m ≡ act_all cs (with_row row m)
+row_run_is row cs m found change of same e =
+    let id = row.id in
+    let made : Option Slot = slot_by_row row (slot_at id m) in
+    let final = slot_by_commands cs made in
+    let put : with_change id made m ≡ with_row row m = row_is row m (slot_at id m) made refl refl in
+    let there : slot_at id (with_row row m) ≡ made = ap (slot_at id) (sym put) ∙ stands id m made (λ none. absurd (true≢false (ap is_some none))) in
+    settled id m change final (subst (λ x. slot_after change x ≡ slot_by_commands cs (slot_by_row row x)) same e)
+    ∙ sym (changed_again id m final made (all_absent cs made))
+    ∙ ap (with_change id final) put
+    ∙ ap (λ x. with_change id (slot_by_commands cs x) (with_row row m)) (sym there)
+    ∙ runs cs id (with_row row m) of
+
 -- ---- a run, and what stands behind it
 
 pub acts_append : (cs ds : List Command) (m : Records) → act_all (cs ++ ds) m ≡ act_all ds (act_all cs m)
@@ -134,3 +140,23 @@ module _ (first : Command) (behind after later : List Command) (m : Records) (is
 
   pub run_weighs : weights (asked_by_commands (first ∷ later) m) ≡ weights (asked_by_commands (first ∷ behind) m) + weights (asked_by_commands after (act_all (first ∷ behind) m))
   run_weighs = ap (λ cs. weights (asked_by_commands (first ∷ cs) m)) is ∙ asked_append (first ∷ behind) after m
+
+-- ---- the commands that go on with the last row, and those behind them
+
+module _ (handles : List HandleFact) (first later : List Command) (m : Records) where
+  -- where pages stand between, no command goes on
+  pub parted_acts : (handles ≡ []) ⊎ (first ≡ []) → act_all later (merge_all handles (act_all first m)) ≡ act_all (first ++ later) (merge_all handles m)
+  parted_acts (inl none) = subst (λ hs. act_all later (merge_all hs (act_all first m)) ≡ act_all (first ++ later) (merge_all hs m)) (sym none) (sym (acts_append first later m))
+  parted_acts (inr none) = subst (λ cs. act_all later (merge_all handles (act_all cs m)) ≡ act_all (cs ++ later) (merge_all handles m)) (sym none) refl
+
+  pub parted_pages : (handles ≡ []) ⊎ (first ≡ []) → weights (asked_by_pages handles (act_all first m)) ≡ weights (asked_by_pages handles m)
+  parted_pages (inl none) = subst (λ hs. weights (asked_by_pages hs (act_all first m)) ≡ weights (asked_by_pages hs m)) (sym none) refl
+  parted_pages (inr none) = subst (λ cs. weights (asked_by_pages handles (act_all cs m)) ≡ weights (asked_by_pages handles m)) (sym none) refl
+
+  pub parted_commands : (handles ≡ []) ⊎ (first ≡ [])
+      → weights (asked_by_commands later (merge_all handles (act_all first m))) ≤ weights (asked_by_commands (first ++ later) (merge_all handles m))
+  parted_commands (inl none) =
+      subst (λ hs. weights (asked_by_commands later (merge_all hs (act_all first m))) ≤ weights (asked_by_commands (first ++ later) (merge_all hs m))) (sym none)
+      (omega (arith, asked_append first later m))
+  parted_commands (inr none) =
+      subst (λ cs. weights (asked_by_commands later (merge_all handles (act_all cs m))) ≤ weights (asked_by_commands (cs ++ later) (merge_all handles m))) (sym none) (omega arith)

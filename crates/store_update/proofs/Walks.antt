@@ -1,7 +1,7 @@
 -- One step of going over rows, pages, commands and ids.
-use Rattle.std.proofs.Common.{◌≡◌, ℕ, ◌+◌, ◌<◌, Bool, true, false, cond, List, [], ◌∷◌, ◌++◌, length, get_or, drop, take, refl, sym, ap, ◌∙◌}
-use Rattle.std.proofs.lemmas.List.{drop_more, take_more}
-use Rattle.std.specs.List.{filter}
+use Rattle.std.proofs.Common.{◌≡◌, ℕ, ◌+◌, ◌<◌, List, [], ◌∷◌, ◌++◌, map, length, get_or, drop, take, sym, ap, ◌∙◌}
+use Rattle.std.proofs.lemmas.List.{drop_more, map-append, take_more}
+use Rattle.store_record.specs.Keys.{Text}
 use Rattle.store_model.specs.Entries.{asked_by_page, asked_by_pages, asked_by_command, asked_by_commands, merge_all, number_asked, weights}
 use Rattle.store_model.specs.FactRows.{with_row, put_rows}
 use Rattle.store_model.specs.Merge.{merge}
@@ -14,6 +14,10 @@ use Rattle.store_model.specs.declared.facts.HandleFact.{HandleFact}
 module _ {X : Type 0} where
   pub next_of : (xs : List X) (i : ℕ) (x : X) → i < length xs → x ≡ get_or xs i x → drop i xs ≡ x ∷ drop (i + 1) xs
   next_of xs i x within is = drop_more xs i x within ∙ ap (λ y. y ∷ drop (i + 1) xs) (sym is)
+
+pub ids_next : {X : Type 0} (id : X → Text) (xs : List X) (i : ℕ) (x : X) → i < length xs → x ≡ get_or xs i x → map id (take i xs) ++ id x ∷ [] ≡ map id (take (i + 1) xs)
+ids_next id xs i x within is =
+    sym (ap (map id) (take_more xs i x within ∙ ap (λ y. take i xs ++ y ∷ []) (sym is)) ∙ map-append id (take i xs) (x ∷ []))
 
 pub rows_next : (rows : List FactRow) (i : ℕ) (row : FactRow) (m : Records) → i < length rows → row ≡ get_or rows i row
     → put_rows (drop (i + 1) rows) (with_row row m) ≡ put_rows (drop i rows) m
@@ -33,13 +37,3 @@ acts_next commands i c m within is = sym (ap (λ cs. act_all cs m) (next_of comm
 pub acts_weigh : (commands : List Command) (i : ℕ) (c : Command) (m : Records) → i < length commands → c ≡ get_or commands i c
     → weights (asked_by_commands (drop i commands) m) ≡ 1 + number_asked (asked_by_command c m) + weights (asked_by_commands (drop (i + 1) commands) (act c m))
 acts_weigh commands i c m within is = ap (λ cs. weights (asked_by_commands cs m)) (next_of commands i c within is)
-
-module _ {X : Type 0} (p : X → Bool) where
-  filtered : (xs ys : List X) → filter p (xs ++ ys) ≡ filter p xs ++ filter p ys
-  filtered [] ys = refl
-  filtered (x ∷ xs) ys =
-      let rest = filtered xs ys in
-      elim (p x) as (λ b. cond b (x ∷ filter p (xs ++ ys)) (filter p (xs ++ ys)) ≡ cond b (x ∷ filter p xs) (filter p xs) ++ filter p ys) [ true ↦ ap (λ zs. x ∷ zs) rest | false ↦ rest ]
-
-  pub filter_next : (xs : List X) (i : ℕ) (x : X) → i < length xs → x ≡ get_or xs i x → filter p (take i xs) ++ filter p (x ∷ []) ≡ filter p (take (i + 1) xs)
-  filter_next xs i x within is = sym (ap (filter p) (take_more xs i x within ∙ ap (λ y. take i xs ++ y ∷ []) (sym is)) ∙ filtered (take i xs) (x ∷ []))

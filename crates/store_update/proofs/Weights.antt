@@ -15,7 +15,7 @@ use Rattle.store_model.specs.declared.entry.Entry.{Entry}
 use Rattle.store_model.specs.declared.facts.Fact.{Fact}
 use Rattle.store_model.specs.declared.facts.FactRow.{FactRow}
 use Rattle.store_model.specs.declared.facts.HandleFact.{HandleFact}
-use Rattle.store_update.specs.Touched.{most_looks, most_noted}
+use Rattle.store_update.specs.Touched.{most}
 
 pub weights-append : (xs ys : List Looks) → weights (xs ++ ys) ≡ weights xs + weights ys
 weights-append [] ys = omega arith
@@ -60,17 +60,11 @@ module _ (h : HandleFact) (m : Records) where
   page_asks : 1 ≤ number_asked (asked_by_page h m)
   page_asks = some_asked h.parent (asked_of_parent h (live h.parent m) m).ids (asked_of_parent h (live h.parent m) m).edges
 
-  pub page_looks : 5 + length (asked_by_page h m).edges ≤ most_looks (asked_by_page h m)
-  page_looks = omega (arith, page_asks)
+  pub page_most : 6 + 2 * length (asked_by_page h m).edges ≤ most (asked_by_page h m)
+  page_most = omega (arith, page_asks)
 
-  pub page_notes : 3 + length (asked_by_page h m).edges ≤ most_noted (asked_by_page h m)
-  page_notes = omega (arith, page_asks)
-
-pub command_looks : (asked : Looks) → 2 + length asked.edges ≤ most_looks asked
-command_looks asked = omega arith
-
-pub command_notes : (asked : Looks) → 2 ≤ most_noted asked
-command_notes asked = omega arith
+pub command_most : (asked : Looks) → 4 + 2 * length asked.edges ≤ most asked
+command_most asked = omega arith
 
 -- ---- each row has a fact
 
@@ -83,6 +77,9 @@ put_there key field (f ∷ fields) = at (text_cmp key f.0)
     at Equal = omega arith
     at Greater = omega arith
 
+pub fields_there : (r : FactRow) → 1 ≤ length (fields_of r)
+fields_there r = put_there typename (Leaf (Words r.type_name)) r.fields
+
 mapped : (id : Text) (fields : List (Text × Field)) → length (map (fact_at id) fields) ≡ length fields
 mapped id [] = refl
 mapped id (f ∷ fields) = omega (arith, mapped id fields)
@@ -90,4 +87,4 @@ mapped id (f ∷ fields) = omega (arith, mapped id fields)
 pub rows_few : (rows : List FactRow) → length rows ≤ length (facts_of rows)
 rows_few [] = omega arith
 rows_few (r ∷ rows) =
-    omega (arith, rows_few rows, length-append (facts_of_row r) (facts_of rows), mapped r.id (fields_of r), put_there typename (Leaf (Words r.type_name)) r.fields)
+    omega (arith, rows_few rows, length-append (facts_of_row r) (facts_of rows), mapped r.id (fields_of r), fields_there r)

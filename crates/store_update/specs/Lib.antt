@@ -1,3 +1,4 @@
 pub mod Fields
 pub mod Slots
 pub mod Touched
+pub mod Turns

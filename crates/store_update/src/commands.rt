@@ -1,11 +1,13 @@
 //! Commands that act on a record map.
-ghost use Rattle.std.specs.Prelude.{◌≡◌, ◌+◌, ◌*◌, ◌≤◌, [], ◌∷◌, true, false, IfOk};
+ghost use Rattle.std.specs.Prelude.{◌≡◌, ◌+◌, ◌*◌, ◌≤◌, [], ◌∷◌, map, length, true, false, IfOk};
+ghost use Rattle.std.specs.List.{list_all};
 ghost use Rattle.store_model.specs.Entries as entries;
 ghost use Rattle.store_model.specs.Updates as updates;
 ghost use Rattle.store_update.specs.Slots.{id_of};
-ghost use Rattle.store_update.specs.Touched.{AreNoted, AreOf, IsGrown, StaysTouched, is_of_record, most_looks, most_noted};
+ghost use Rattle.store_update.specs.Touched.{AreNoted, ArePicked, most};
+ghost use Rattle.store_update.specs.Turns.{AreOf, is_of_record, turns};
 
-use crate::command::id_of;
+use crate::command::{id_of, slot_by_command};
 use crate::draft::{Draft, change_slot, put_changes};
 use crate::run::{run_behind, slot_by_run};
 use crate::slot::new_slot_of;
@@ -24,8 +26,11 @@ pub(crate) fn act_all<S: RecordSource>(
     steps: &mut S::Count,
 ) -> Result<Draft<S>, NoMemory>
     ensures records { IfOk result (λ d. S.records d.source ≡ updates.act_all commands.now (S.records draft.source)) }
-    ensures changed { IfOk result (λ d. AreNoted (2 * entries.weights (entries.asked_by_commands commands.now (S.records draft.source))) (S.records draft.source) (S.records d.source) draft.changed.items d.changed.items) }
+    ensures noted { IfOk result (λ d. AreNoted (S.records draft.source) (S.records d.source) draft.noted.items d.noted.items) }
+    ensures few { IfOk result (λ d. length d.noted.items ≤ length draft.noted.items + 4 * entries.weights (entries.asked_by_commands commands.now (S.records draft.source))) }
+    ensures picked { IfOk result (λ d. list_all is_of_record commands.now ≡ true → ArePicked (turns (map id_of commands.now)) draft.noted.items d.noted.items) }
     ensures looks { S.Count.looks steps.new ≤ S.Count.looks steps.old + 4 * entries.weights (entries.asked_by_commands commands.now (S.records draft.source)) }
+    ensures turns { list_all is_of_record commands.now ≡ true → S.Count.looks steps.new ≤ S.Count.looks steps.old + length (turns (map id_of commands.now)) }
     ensures applies { S.Count.applies steps.new ≡ S.Count.applies steps.old }
 {
     let mut current = draft;
@@ -49,8 +54,11 @@ fn act_run<S: RecordSource>(
     requires run { AreOf (id_of first.now) behind.now }
     requires alone { is_of_record first.now ≡ false → behind.now ≡ [] }
     ensures records { IfOk result (λ d. S.records d.source ≡ updates.act_all (first.now ∷ behind.now) (S.records draft.source)) }
-    ensures changed { IfOk result (λ d. AreNoted (2 * entries.weights (entries.asked_by_commands (first.now ∷ behind.now) (S.records draft.source))) (S.records draft.source) (S.records d.source) draft.changed.items d.changed.items) }
+    ensures noted { IfOk result (λ d. AreNoted (S.records draft.source) (S.records d.source) draft.noted.items d.noted.items) }
+    ensures few { IfOk result (λ d. length d.noted.items ≤ length draft.noted.items + 4 * entries.weights (entries.asked_by_commands (first.now ∷ behind.now) (S.records draft.source))) }
+    ensures picked { IfOk result (λ d. is_of_record first.now ≡ true → ArePicked (id_of first.now ∷ []) draft.noted.items d.noted.items) }
     ensures looks { S.Count.looks steps.new ≤ S.Count.looks steps.old + 4 * entries.weights (entries.asked_by_commands (first.now ∷ behind.now) (S.records draft.source)) }
+    ensures turn { is_of_record first.now ≡ true → S.Count.looks steps.new ≤ S.Count.looks steps.old + 1 }
     ensures applies { S.Count.applies steps.new ≡ S.Count.applies steps.old }
 {
     match first {
@@ -67,7 +75,7 @@ fn act_run<S: RecordSource>(
 }
 
 /// The map after commands that change one record alone; takes one look.
-pub(crate) fn act_on_record<S: RecordSource>(
+fn act_on_record<S: RecordSource>(
     alloc: Global,
     draft: Draft<S>,
     first: &Command,
@@ -77,15 +85,16 @@ pub(crate) fn act_on_record<S: RecordSource>(
     requires record { is_of_record first.now ≡ true }
     requires run { AreOf (id_of first.now) behind.now }
     ensures records { IfOk result (λ d. S.records d.source ≡ updates.act_all (first.now ∷ behind.now) (S.records draft.source)) }
-    ensures changed { IfOk result (λ d. AreNoted 1 (S.records draft.source) (S.records d.source) draft.changed.items d.changed.items) }
-    ensures touched { IfOk result (λ d. StaysTouched (id_of first.now) (S.records draft.source) (S.records d.source) draft.changed.items d.changed.items) }
-    ensures grown { IfOk result (λ d. IsGrown (id_of first.now) draft.changed.items d.changed.items) }
+    ensures noted { IfOk result (λ d. AreNoted (S.records draft.source) (S.records d.source) draft.noted.items d.noted.items) }
+    ensures few { IfOk result (λ d. length d.noted.items ≤ length draft.noted.items + 1) }
+    ensures picked { IfOk result (λ d. ArePicked (id_of first.now ∷ []) draft.noted.items d.noted.items) }
     ensures looks { S.Count.looks steps.new ≤ S.Count.looks steps.old + 1 }
     ensures applies { S.Count.applies steps.new ≡ S.Count.applies steps.old }
 {
     let id = id_of(first);
     let found = draft.source.get(id.as_str(), steps);
-    let made = slot_by_run(alloc, found, first, behind)?;
+    let begun = slot_by_command(alloc, found, first)?;
+    let made = slot_by_run(alloc, found, begun, behind)?;
     let change = new_slot_of(found, made);
     let after = change_slot(draft, id, change, steps)?;
     Ok(after)
@@ -100,8 +109,9 @@ fn put_edge<S: RecordSource>(
     steps: &mut S::Count,
 ) -> Result<Draft<S>, NoMemory>
     ensures records { IfOk result (λ d. S.records d.source ≡ updates.insert_edge front edit.now (S.records draft.source)) }
-    ensures changed { IfOk result (λ d. AreNoted (most_noted (entries.asked_by_edit edit.now (S.records draft.source))) (S.records draft.source) (S.records d.source) draft.changed.items d.changed.items) }
-    ensures looks { S.Count.looks steps.new ≤ S.Count.looks steps.old + most_looks (entries.asked_by_edit edit.now (S.records draft.source)) }
+    ensures noted { IfOk result (λ d. AreNoted (S.records draft.source) (S.records d.source) draft.noted.items d.noted.items) }
+    ensures few { IfOk result (λ d. length d.noted.items ≤ length draft.noted.items + most (entries.asked_by_edit edit.now (S.records draft.source))) }
+    ensures looks { S.Count.looks steps.new ≤ S.Count.looks steps.old + most (entries.asked_by_edit edit.now (S.records draft.source)) }
     ensures applies { S.Count.applies steps.new ≡ S.Count.applies steps.old }
 {
     let changes = changes_of_insertion(&draft.source, edit, front, steps)?;
@@ -116,8 +126,9 @@ fn remove_edge<S: RecordSource>(
     steps: &mut S::Count,
 ) -> Result<Draft<S>, NoMemory>
     ensures records { IfOk result (λ d. S.records d.source ≡ updates.delete_edge edit.now (S.records draft.source)) }
-    ensures changed { IfOk result (λ d. AreNoted (most_noted (entries.asked_by_edit edit.now (S.records draft.source))) (S.records draft.source) (S.records d.source) draft.changed.items d.changed.items) }
-    ensures looks { S.Count.looks steps.new ≤ S.Count.looks steps.old + most_looks (entries.asked_by_edit edit.now (S.records draft.source)) }
+    ensures noted { IfOk result (λ d. AreNoted (S.records draft.source) (S.records d.source) draft.noted.items d.noted.items) }
+    ensures few { IfOk result (λ d. length d.noted.items ≤ length draft.noted.items + most (entries.asked_by_edit edit.now (S.records draft.source))) }
+    ensures looks { S.Count.looks steps.new ≤ S.Count.looks steps.old + most (entries.asked_by_edit edit.now (S.records draft.source)) }
     ensures applies { S.Count.applies steps.new ≡ S.Count.applies steps.old }
 {
     let changes = changes_of_deletion(&draft.source, edit, steps)?;

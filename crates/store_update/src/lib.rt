@@ -1,7 +1,6 @@
 //! What an entry makes of a record map, and the ids whose slot it changes.
 #![tactic(auto)]
 
-mod alone;
 mod command;
 mod commands;
 mod draft;
@@ -11,5 +10,6 @@ mod pages;
 mod row;
 mod run;
 mod slot;
+mod touched;
 
 pub use entry::{Changed, apply};

@@ -1,8 +1,8 @@
 //! Pages that are merged into a record map.
-ghost use Rattle.std.specs.Prelude.{◌≡◌, ◌+◌, ◌*◌, ◌≤◌, IfOk};
+ghost use Rattle.std.specs.Prelude.{◌≡◌, ◌+◌, ◌*◌, ◌≤◌, [], length, IfOk};
 ghost use Rattle.store_model.specs.Entries as entries;
 ghost use Rattle.store_model.specs.Merge as merge;
-ghost use Rattle.store_update.specs.Touched.{AreNoted, most_looks, most_noted};
+ghost use Rattle.store_update.specs.Touched.{AreNoted, most};
 
 use crate::draft::{Draft, put_changes};
 use gql_plain::NoMemory;
@@ -19,7 +19,9 @@ pub(crate) fn put_pages<S: RecordSource>(
     steps: &mut S::Count,
 ) -> Result<Draft<S>, NoMemory>
     ensures records { IfOk result (λ d. S.records d.source ≡ entries.merge_all handles.now (S.records draft.source)) }
-    ensures changed { IfOk result (λ d. AreNoted (2 * entries.weights (entries.asked_by_pages handles.now (S.records draft.source))) (S.records draft.source) (S.records d.source) draft.changed.items d.changed.items) }
+    ensures noted { IfOk result (λ d. AreNoted (S.records draft.source) (S.records d.source) draft.noted.items d.noted.items) }
+    ensures none { IfOk result (λ d. handles.now ≡ [] → d.noted.items ≡ draft.noted.items) }
+    ensures few { IfOk result (λ d. length d.noted.items ≤ length draft.noted.items + 4 * entries.weights (entries.asked_by_pages handles.now (S.records draft.source))) }
     ensures looks { S.Count.looks steps.new ≤ S.Count.looks steps.old + 4 * entries.weights (entries.asked_by_pages handles.now (S.records draft.source)) }
     ensures applies { S.Count.applies steps.new ≡ S.Count.applies steps.old }
 {
@@ -30,7 +32,7 @@ pub(crate) fn put_pages<S: RecordSource>(
     Ok(current)
 }
 
-/// The map with a page merged. Each record that is put has its id noted.
+/// The map with a page merged.
 fn put_page<S: RecordSource>(
     alloc: Global,
     draft: Draft<S>,
@@ -38,8 +40,9 @@ fn put_page<S: RecordSource>(
     steps: &mut S::Count,
 ) -> Result<Draft<S>, NoMemory>
     ensures records { IfOk result (λ d. S.records d.source ≡ merge.merge handle.now (S.records draft.source)) }
-    ensures changed { IfOk result (λ d. AreNoted (most_noted (entries.asked_by_page handle.now (S.records draft.source))) (S.records draft.source) (S.records d.source) draft.changed.items d.changed.items) }
-    ensures looks { S.Count.looks steps.new ≤ S.Count.looks steps.old + most_looks (entries.asked_by_page handle.now (S.records draft.source)) }
+    ensures noted { IfOk result (λ d. AreNoted (S.records draft.source) (S.records d.source) draft.noted.items d.noted.items) }
+    ensures few { IfOk result (λ d. length d.noted.items ≤ length draft.noted.items + most (entries.asked_by_page handle.now (S.records draft.source))) }
+    ensures looks { S.Count.looks steps.new ≤ S.Count.looks steps.old + most (entries.asked_by_page handle.now (S.records draft.source)) }
     ensures applies { S.Count.applies steps.new ≡ S.Count.applies steps.old }
 {
     let changes = changes_of_page(alloc, &draft.source, handle, steps)?;

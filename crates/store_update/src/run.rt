@@ -1,30 +1,31 @@
-//! What a run of commands makes of the slot of their id.
-ghost use Rattle.std.specs.Prelude.{◌≡◌, ◌≤◌, ◌∷◌, false, length, take, IfOk};
+//! Commands of one id in a row, and what they make of its slot.
+ghost use Rattle.std.specs.Prelude.{◌≡◌, ◌≤◌, ◌++◌, ◌⊎◌, [], true, false, length, take, IfOk};
+ghost use Rattle.std.specs.List.{list_all, prefix_len};
 ghost use Rattle.std.specs.Option.{option_copied};
 ghost use Rattle.store_update.specs.Slots.{id_of, slot_after, slot_by_command, slot_by_commands};
-ghost use Rattle.store_update.specs.Touched.{AreOf, goes_with, is_of_record};
+ghost use Rattle.store_update.specs.Turns.{goes_on, goes_with, is_of_record, last_id, run_behind};
 
 use crate::command::{edit, id_of, slot_by_command};
 use gql_plain::NoMemory;
 use std::alloc::Global;
-use store_model::Command;
+use store_model::{Command, FactRow, HandleFact};
 use store_record::Slot;
 
-/// The new slot of an id after a command and those behind it, or None where it stays. A record is made once, by the
-/// first command that changes it; those behind it change it in place.
+/// The new slot of an id after commands on it behind a change, or None where it stays. The record of the change, or the
+/// one that the first command makes, is changed in place by those behind it.
 pub(crate) fn slot_by_run(
     alloc: Global,
     found: Option<&Slot>,
-    first: &Command,
-    behind: &[Command],
+    change: Option<Slot>,
+    commands: &[Command],
 ) -> Result<Option<Slot>, NoMemory>
-    ensures { IfOk result (λ change. slot_after change (option_copied found.entry) ≡ slot_by_commands (first.now ∷ behind.now) (option_copied found.entry)) }
+    ensures { IfOk result (λ after. slot_after after (option_copied found.entry) ≡ slot_by_commands commands.now (slot_after change (option_copied found.entry))) }
 {
-    let mut change = slot_by_command(alloc, found, first)?;
-    'behind: for command in behind {
-        change = change_by_next(alloc, found, change, command)?;
+    let mut after = change;
+    'commands: for command in commands {
+        after = change_by_next(alloc, found, after, command)?;
     }
-    Ok(change)
+    Ok(after)
 }
 
 /// The new slot after one more command, or None where it stays.
@@ -42,18 +43,43 @@ fn change_by_next(
     }
 }
 
-/// How many commands behind one of a record are of the same, and none behind one of edges; takes no memory.
+/// The commands at the front that change the slot of the last row's id alone, where no page stands between, and those
+/// behind them; takes no memory.
+pub(crate) fn parted<'a>(
+    rows: &[FactRow],
+    handles: &[HandleFact],
+    commands: &'a [Command],
+) -> (&'a [Command], &'a [Command])
+    ensures whole { commands.now ≡ result.0.now ++ result.1.now }
+    ensures first { list_all (goes_on (last_id rows.now)) result.0.now ≡ true }
+    ensures longest { handles.now ≡ [] → prefix_len (goes_on (last_id rows.now)) result.1.now ≡ 0 }
+    ensures apart { (handles.now ≡ []) ⊎ (result.0.now ≡ []) }
+{
+    if !handles.is_empty() {
+        return commands.split_at(0);
+    }
+    match rows.split_last() {
+        Some((last, _)) => commands.split_at(run_of(last.id.as_str(), commands)),
+        None => commands.split_at(0),
+    }
+}
+
+/// How many commands behind one on a record are on the same, and none behind one on edges; takes no memory.
 pub(crate) fn run_behind(first: &Command, later: &[Command]) -> usize
-    ensures few { result ≤ length later.now }
-    ensures run { AreOf (id_of first.now) (take result later.now) }
-    ensures alone { is_of_record first.now ≡ false → result ≡ 0 }
+    ensures { result ≡ run_behind first.now later.now }
 {
     if !is_of_record(first) {
         return 0;
     }
-    let id = id_of(first).as_str();
+    run_of(id_of(first).as_str(), later)
+}
+
+/// How many commands from the front on change the slot of that id alone; takes no memory.
+fn run_of(id: &str, commands: &[Command]) -> usize
+    ensures { result ≡ prefix_len (goes_with id.now) commands.now }
+{
     let mut count = 0;
-    'later: for command in later {
+    'commands: for command in commands {
         if !goes_with(id, command) {
             return count;
         }
@@ -70,7 +96,7 @@ fn goes_with(id: &str, command: &Command) -> bool
 }
 
 /// Whether a command changes the slot of its own id alone; takes no memory.
-pub(crate) fn is_of_record(command: &Command) -> bool
+fn is_of_record(command: &Command) -> bool
     ensures { result ≡ is_of_record command.now }
 {
     match command {

@@ -3,4 +3,4 @@ use Rattle.store_update.proofs.draft.note_changes.Given as goal
 use Rattle.store_update.specs.Touched.{ids_put}
 
 abbrev pub invariant-changes : goal.invariant-changes
-invariant-changes l = l.changed.items ++ ids_put (drop l.change-index l.changes) ≡ l.fn.changed.items ++ ids_put l.changes
+invariant-changes l = l.noted.items ++ ids_put (drop l.change-index l.changes) ≡ l.fn.noted.items ++ ids_put l.changes

@@ -1,39 +1,26 @@
-use Rattle.std.proofs.Common.{◌≤◌, [], length, sym, ap, ◌∙◌, subst, arith}
-use Rattle.store_model.proofs.FactRows.{put_rows_is}
+use Rattle.std.proofs.Common.{◌≡◌, Some, IfOk, sym, ap, subst, ◌∙◌}
+use Rattle.std.proofs.lemmas.List.{nil_from_length}
+use Rattle.std.specs.List.{list_all}
 use Rattle.store_model.specs.FactRows.{put_rows}
-use Rattle.store_model.specs.Records.{put}
-use Rattle.store_update.proofs.Noted.{noted_within}
-use Rattle.store_update.proofs.Weights.{rows_few}
+use Rattle.store_model.specs.Updates.{act_all}
+use Rattle.store_update.proofs.Turns.{last_is, none_goes_on, rows_push}
 use Rattle.store_update.proofs.facts.put_facts.Goals as goal
-use Rattle.store_update.specs.Touched.{AreNoted, AreTouched}
+use Rattle.store_update.specs.Turns.{goes_on, last_id}
 
-pub returns-clause-records : goal.returns-clause-records
-returns-clause-records g c =
-    let rows = c.rows.result.now in
-    let before = g.S.RecordSource.records c.args.source.now in
-    c.in_ok-after.ensures.records ∙ ap (put_rows rows) c.in_ok-version.ensures
-    ∙ sym (put_rows_is rows before c.rows.ensures.order.each) ∙ ap (λ facts. put facts before) c.rows.ensures.facts
+pub put_both-requires : goal.put_both-requires
+put_both-requires g c =
+    let is : last_id c.args.rows.now ≡ Some c.in-Some.last.now.id = ap last_id c.in-Some.ensures.cases.0 ∙ last_is c.in-Some.before.now c.in-Some.last.now in
+    ap (λ on. list_all (goes_on on) c.args.commands.now) (sym is) ∙ c.requires
 
-pub returns-clause-changed : goal.returns-clause-changed
-returns-clause-changed g c =
-    let rows = c.rows.result.now in
-    let few : length rows ≤ length c.args.facts.now = subst (λ facts. length rows ≤ length facts) c.rows.ensures.facts (rows_few rows) in
-    let noted = subst (λ ids. AreNoted (length rows) (g.S.RecordSource.records c.in_ok-version.version) (g.S.RecordSource.records c.in_ok-after.after.source) ids c.in_ok-after.after.changed.items) c.new.ensures.items c.in_ok-after.ensures.changed in
-    noted_within (length rows) (length c.args.facts.now) _ _ _ _ few
-    (subst (λ m. AreNoted (length rows) m (g.S.RecordSource.records c.in_ok-after.after.source) [] c.in_ok-after.after.changed.items) c.in_ok-version.ensures noted)
+pub returns-in-Some-clause-records : goal.returns-in-Some-clause-records
+returns-in-Some-clause-records g c =
+    let m = g.S.RecordSource.records c.args.draft.source in
+    let put = sym (rows_push c.in-Some.before.now c.in-Some.last.now m) ∙ ap (λ rows. put_rows rows m) (sym c.in-Some.ensures.cases.0) in
+    subst (λ r. IfOk c.put_both.result (λ d. g.S.RecordSource.records d.source ≡ act_all c.args.commands.now r)) put c.put_both.ensures.records
 
-pub returns-clause-looks : goal.returns-clause-looks
-returns-clause-looks g c =
-    let rows = c.rows.result.now in
-    let few : length rows ≤ length c.args.facts.now = subst (λ facts. length rows ≤ length facts) c.rows.ensures.facts (rows_few rows) in
-    omega (arith, few, c.put_rows.ensures.looks)
-
-pub returns-in_err-after-clause-looks : goal.returns-in_err-after-clause-looks
-returns-in_err-after-clause-looks g c =
-    let rows = c.rows.result.now in
-    let few : length rows ≤ length c.args.facts.now = subst (λ facts. length rows ≤ length facts) c.rows.ensures.facts (rows_few rows) in
-    omega (arith, few, c.put_rows.ensures.looks)
-
-pub returns-clause-touched : goal.returns-clause-touched
-returns-clause-touched g c =
-    subst (λ m. AreTouched m (g.S.RecordSource.records c.in_ok-after.after.source) c.in_ok-after.after.changed.items) c.in_ok-version.ensures c.in_ok-after.ensures.touched
+pub returns-in-None-clause-records : goal.returns-in-None-clause-records
+returns-in-None-clause-records g c =
+    let m = g.S.RecordSource.records c.args.draft.source in
+    let none = nil_from_length c.args.rows.now c.in-None.ensures.cases in
+    let nothing = none_goes_on c.args.commands.now (ap (λ rows. list_all (goes_on (last_id rows)) c.args.commands.now) (sym none) ∙ c.requires) in
+    λ i. act_all (sym nothing i) (put_rows (sym none i) m)
