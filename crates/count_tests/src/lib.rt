@@ -1,9 +1,11 @@
-//! Tests of what calls of the layers and of the watches count.
+//! Tests of what calls of the updates, the layers and the watches count.
 #![tactic(auto)]
 
 #[cfg(test)]
 mod entries;
 #[cfg(test)]
 mod layers;
+#[cfg(test)]
+mod puts;
 #[cfg(test)]
 mod watches;
