@@ -95,7 +95,7 @@ struct Applied {
 }
 
 /// Applies an entry.
-fn applied(
+fn apply_entry(
     alloc: Global,
     before: &Puts,
     facts: Facts,
@@ -133,7 +133,7 @@ fn commands_on_one_id_in_a_row_take_one_look_and_put_one_record(
     let empty = Puts::new(alloc)?;
     let mut commands = Commands::new(alloc);
     run(alloc, "4", &mut commands)?;
-    let done = applied(alloc, &empty, Facts::new(alloc), commands)?;
+    let done = apply_entry(alloc, &empty, Facts::new(alloc), commands)?;
     assert!(rt; done.changed.touched.contains("4"));
     assert_eq!(rt; age_of(&done.changed.source, "4"), Some(22));
     assert_eq!(rt; done.looks, 1);
@@ -145,7 +145,7 @@ fn commands_on_one_id_in_a_row_take_one_look_and_put_one_record(
 fn facts_of_one_id_take_one_look_and_put_one_record(rt: HostRuntime) -> Result<(), Fail> {
     let alloc = rt.alloc();
     let empty = Puts::new(alloc)?;
-    let done = applied(alloc, &empty, facts(alloc)?, Commands::new(alloc))?;
+    let done = apply_entry(alloc, &empty, facts(alloc)?, Commands::new(alloc))?;
     assert!(rt; done.changed.touched.contains("4"));
     assert_eq!(rt; age_of(&done.changed.source, "4"), Some(20));
     assert_eq!(rt; done.looks, 1);
@@ -161,7 +161,7 @@ fn commands_behind_facts_of_their_id_take_no_look_more_and_put_no_record_more(
     let empty = Puts::new(alloc)?;
     let mut commands = Commands::new(alloc);
     run(alloc, "4", &mut commands)?;
-    let done = applied(alloc, &empty, facts(alloc)?, commands)?;
+    let done = apply_entry(alloc, &empty, facts(alloc)?, commands)?;
     assert!(rt; done.changed.touched.contains("4"));
     assert_eq!(rt; age_of(&done.changed.source, "4"), Some(22));
     assert_eq!(rt; done.looks, 1);
@@ -175,7 +175,7 @@ fn an_id_of_several_turns_alone_is_compared(rt: HostRuntime) -> Result<(), Fail>
     let empty = Puts::new(alloc)?;
     let mut commands = Commands::new(alloc);
     run(alloc, "4", &mut commands)?;
-    let done = applied(alloc, &empty, two_rows(alloc)?, commands)?;
+    let done = apply_entry(alloc, &empty, two_rows(alloc)?, commands)?;
     assert!(rt; done.changed.touched.contains("4") && done.changed.touched.contains("5"));
     assert_eq!(rt; age_of(&done.changed.source, "4"), Some(22));
     // the turns are 4, 5 and 4, and what 4 was before and is now is compared
@@ -188,12 +188,12 @@ fn an_id_of_several_turns_alone_is_compared(rt: HostRuntime) -> Result<(), Fail>
 fn an_id_that_comes_back_to_its_record_is_not_touched(rt: HostRuntime) -> Result<(), Fail> {
     let alloc = rt.alloc();
     let empty = Puts::new(alloc)?;
-    let users = applied(alloc, &empty, two_rows(alloc)?, Commands::new(alloc))?;
+    let users = apply_entry(alloc, &empty, two_rows(alloc)?, Commands::new(alloc))?;
     let mut commands = Commands::new(alloc);
     add(alloc, "4", 1, &mut commands)?;
     add(alloc, "5", 1, &mut commands)?;
     add(alloc, "4", -1, &mut commands)?;
-    let done = applied(alloc, &users.changed.source, Facts::new(alloc), commands)?;
+    let done = apply_entry(alloc, &users.changed.source, Facts::new(alloc), commands)?;
     assert!(rt; !done.changed.touched.contains("4") && done.changed.touched.contains("5"));
     assert_eq!(rt; age_of(&done.changed.source, "5"), Some(21));
     assert_eq!(rt; done.looks, 5);
@@ -207,7 +207,7 @@ fn facts_beside_a_command_on_edges_are_not_compared(rt: HostRuntime) -> Result<(
     let empty = Puts::new(alloc)?;
     let mut commands = Commands::new(alloc);
     commands.push(edge(alloc)?)?;
-    let done = applied(alloc, &empty, facts(alloc)?, commands)?;
+    let done = apply_entry(alloc, &empty, facts(alloc)?, commands)?;
     assert!(rt; done.changed.touched.contains("4"));
     // one for the facts, and one for the record in which no connection stands
     assert_eq!(rt; done.looks, 2);
@@ -219,10 +219,10 @@ fn facts_beside_a_command_on_edges_are_not_compared(rt: HostRuntime) -> Result<(
 fn what_is_there_already_puts_no_record(rt: HostRuntime) -> Result<(), Fail> {
     let alloc = rt.alloc();
     let empty = Puts::new(alloc)?;
-    let users = applied(alloc, &empty, facts(alloc)?, Commands::new(alloc))?;
+    let users = apply_entry(alloc, &empty, facts(alloc)?, Commands::new(alloc))?;
     let mut commands = Commands::new(alloc);
     add(alloc, "4", 0, &mut commands)?;
-    let done = applied(alloc, &users.changed.source, facts(alloc)?, commands)?;
+    let done = apply_entry(alloc, &users.changed.source, facts(alloc)?, commands)?;
     assert!(rt; done.changed.touched.is_empty());
     assert_eq!(rt; done.looks, 1);
     assert_eq!(rt; done.puts, 0);
