@@ -6,18 +6,21 @@ use Rattle.std.proofs.lemmas.List.Elements.{recursion_from_All}
 use Rattle.std.proofs.lemmas.List.Folds.{list_any-append}
 use Rattle.std.proofs.lemmas.List.Sorted.{sorted_far, ranks_by}
 use Rattle.std.proofs.lemmas.List.Sums.{sum_by-append, sum_by-cons}
+use Rattle.std.proofs.lemmas.Map.Keys.{sorted_from_all_adjacent}
 use Rattle.std.proofs.lemmas.Map.Text.{is_eq-slice_cmp}
 use Rattle.std.proofs.lemmas.Slice.Eq.{bytes_eq-Decides}
 use Rattle.std.specs.Cmp.Lexicographic.{slice_cmp, nat_list_cmp_total, nat_list_eq_equiv}
-use Rattle.std.specs.List.{AllByRecursion, count_by, list_all, prefix_len}
-use Rattle.std.specs.List.Sorted.{IsSorted}
+use Rattle.std.specs.List.{AllByRecursion, IsAllAdjacentAnswer, count_by, list_all, prefix_len}
+use Rattle.std.specs.List.Sorted.{IsSorted, IsStrictlySortedBy}
 use Rattle.std.specs.Bool.{⊤}
 use Rattle.std.specs.Ordering.{is_eq, is_lt, ordering_reverse}
 use Rattle.gql_plain.proofs.Booleans.{and_false, or_false, or_true}
-use Rattle.gql_plain.specs.Order.{has_text}
+use Rattle.gql_plain.specs.Order.{AreInOrder, has_text}
 use Rattle.store_record.specs.Keys.{Text}
-use Rattle.store_update.proofs.Noted.{times-append, times-cons, not_there}
+use Rattle.store_model.specs.Records.{Records, slot_at}
+use Rattle.store_update.proofs.Noted.{is_there, not_there, times-append, times-cons}
 use Rattle.store_update.proofs.Turns.{first_fails, front_passes, none_behind}
+use Rattle.store_update.specs.Touched.{AreNoted, AreTouched}
 use Rattle.store_update.specs.Turns.{stands_again, times}
 
 abbrev cmp : Text → Text → Ordering
@@ -83,6 +86,41 @@ none_apart x [] rises up apart = refl
 none_apart x (y ∷ ys) rises up apart =
     let less = below_other x y up.0 (first_fails (λ one. bytes_eq one x) y ys apart) in
     none_below x (y ∷ ys) (less, all_below x y ys less rises.0)
+
+-- ---- texts that were found to rise
+
+less_where : (r : Ordering) → true ≡ is_lt r → r ≡ Less
+less_where Less e = refl
+less_where Equal e = absurd (true≢false e)
+less_where Greater e = absurd (true≢false e)
+
+strict_so : (xs : List Text) → IsAllAdjacentAnswer (λ x y b. b ≡ is_lt (cmp x y)) xs true → AreInOrder xs
+unfolding IsStrictlySortedBy
+strict_so [] all = tt
+strict_so (x ∷ xs) all = sorted_from_all_adjacent nat_list_cmp_total (x ∷ xs) x (λ k lt. less_where (cmp (get_or (x ∷ xs) k x) (get_or (x ∷ xs) (k + 1) x)) (all k x lt))
+
+pub strict_where : (xs : List Text) (found : Bool) → IsAllAdjacentAnswer (λ x y b. b ≡ is_lt (cmp x y)) xs found → found ≡ true → AreInOrder xs
+strict_where xs found all e = strict_so xs (subst (IsAllAdjacentAnswer (λ x y b. b ≡ is_lt (cmp x y)) xs) e all)
+
+-- texts that rise stand there once each
+once : (ids : List Text) → AreInOrder ids → (id : Text) → times ids id ≤ 1
+unfolding IsStrictlySortedBy
+once [] order id = omega arith
+once (x ∷ ids) order id = at (bytes_eq x id) refl (once ids order.1 id)
+  where
+    at : (b : Bool) → bytes_eq x id ≡ b → times ids id ≤ 1 → times (x ∷ ids) id ≤ 1
+    at true e rest =
+        let none : has_text ids id ≡ false = ap (has_text ids) (sym ((bytes_eq-Decides x id).0 e)) ∙ none_below x ids order.0 in
+        omega (arith, times-cons x ids id, ap (λ b. cond {A = ℕ} b 1 0) e, not_there ids id none)
+    at false e rest = omega (arith, times-cons x ids id, ap (λ b. cond {A = ℕ} b 1 0) e, rest)
+
+-- so all that are noted are touched
+pub touched_once : (before after : Records) (ids : List Text) → AreNoted before after [] ids → AreInOrder ids → AreTouched before after ids
+touched_once before after ids noted order id = (λ h. noted.kept id (not_there ids id h), λ stays. at (has_text ids id) refl stays)
+  where
+    at : (b : Bool) → has_text ids id ≡ b → slot_at id after ≡ slot_at id before → b ≡ false
+    at true e stays = absurd (noted.differs id (omega (arith, is_there ids id e, once ids order id)) stays)
+    at false e stays = refl
 
 -- ---- one group
 

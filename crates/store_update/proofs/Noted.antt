@@ -26,9 +26,6 @@ use Rattle.store_update.specs.Turns.{number_again, stands_again, times}
 
 -- ---- how often an id stands in a list
 
-number_if : Text → Text → ℕ
-number_if id one = cond (bytes_eq one id) 1 0
-
 pub times-append : (xs ys : List Text) (id : Text) → times (xs ++ ys) id ≡ times xs id + times ys id
 times-append xs ys id = sum_by-append (λ one. cond (bytes_eq one id) 1 0) xs ys
 

@@ -129,16 +129,13 @@ run_turn first later all =
     ∙ turns_apart id (map id_of after) (next_apart id after (passes_behind is_of_record k later parts.1) (none_behind p later))
     ∙ ap (λ b. id ∷ turns (map id_of (drop (cond b k 0) later))) (sym parts.0)
 
--- what goes with the first is on its id, and nothing goes with a command on edges
+-- what goes with the first is on its id
 pub run_goes : (first : Command) (later : List Command) → AreOf (id_of first) (take (run_behind first later) later)
 run_goes first later = at (is_of_record first)
   where
     at : (b : Bool) → AreOf (id_of first) (take (cond b (prefix_len (goes_with (id_of first)) later) 0) later)
     at true = front_passes (goes_with (id_of first)) later
     at false = refl
-
-pub run_alone : (first : Command) (later : List Command) → is_of_record first ≡ false → take (run_behind first later) later ≡ []
-run_alone first later e = ap (λ b. take (cond b (prefix_len (goes_with (id_of first)) later) 0) later) e
 
 pub run_within : (first : Command) (later : List Command) → run_behind first later ≤ length later
 run_within first later = at (is_of_record first)

@@ -2,12 +2,10 @@
 use Rattle.std.proofs.Common.{◌≡◌, ℕ, ◌+◌, ◌<◌, List, [], ◌∷◌, ◌++◌, map, length, get_or, drop, take, sym, ap, ◌∙◌}
 use Rattle.std.proofs.lemmas.List.{drop_more, map-append, take_more}
 use Rattle.store_record.specs.Keys.{Text}
-use Rattle.store_model.specs.Entries.{asked_by_page, asked_by_pages, asked_by_command, asked_by_commands, merge_all, number_asked, weights}
+use Rattle.store_model.specs.Entries.{asked_by_page, asked_by_pages, merge_all, number_asked, weights}
 use Rattle.store_model.specs.FactRows.{with_row, put_rows}
 use Rattle.store_model.specs.Merge.{merge}
 use Rattle.store_model.specs.Records.{Records}
-use Rattle.store_model.specs.Updates.{act, act_all}
-use Rattle.store_model.specs.declared.command.Command.{Command}
 use Rattle.store_model.specs.declared.facts.FactRow.{FactRow}
 use Rattle.store_model.specs.declared.facts.HandleFact.{HandleFact}
 
@@ -29,11 +27,3 @@ module _ (handles : List HandleFact) (i : ℕ) (h : HandleFact) (m : Records) (w
 
   pub pages_weigh : weights (asked_by_pages (drop i handles) m) ≡ 1 + number_asked (asked_by_page h m) + weights (asked_by_pages (drop (i + 1) handles) (merge h m))
   pages_weigh = ap (λ hs. weights (asked_by_pages hs m)) (next_of handles i h within is)
-
-pub acts_next : (commands : List Command) (i : ℕ) (c : Command) (m : Records) → i < length commands → c ≡ get_or commands i c
-    → act_all (drop (i + 1) commands) (act c m) ≡ act_all (drop i commands) m
-acts_next commands i c m within is = sym (ap (λ cs. act_all cs m) (next_of commands i c within is))
-
-pub acts_weigh : (commands : List Command) (i : ℕ) (c : Command) (m : Records) → i < length commands → c ≡ get_or commands i c
-    → weights (asked_by_commands (drop i commands) m) ≡ 1 + number_asked (asked_by_command c m) + weights (asked_by_commands (drop (i + 1) commands) (act c m))
-acts_weigh commands i c m within is = ap (λ cs. weights (asked_by_commands cs m)) (next_of commands i c within is)

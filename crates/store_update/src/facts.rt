@@ -2,7 +2,6 @@
 ghost use Rattle.std.specs.Prelude.{◌≡◌, ◌+◌, ◌≤◌, [], ◌∷◌, ◌++◌, map, true, length, IfOk};
 ghost use Rattle.std.specs.List.{list_all};
 ghost use Rattle.store_model.specs.FactRows as rows_spec;
-ghost use Rattle.store_model.specs.FactRows.{AreFactRows};
 ghost use Rattle.store_model.specs.Updates as updates;
 ghost use Rattle.store_model.specs.declared.facts.FactRow.{FactRow};
 ghost use Rattle.store_update.specs.Touched.{AreNoted, ArePicked};

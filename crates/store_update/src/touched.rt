@@ -1,11 +1,11 @@
 //! Which of the ids that were noted have another slot in the end.
-ghost use Rattle.std.specs.Prelude.{◌≡◌, ◌==◌, ◌&&◌, ◌+◌, ◌++◌, ◌≤◌, [], ◌∷◌, cond, not, length, IfOk, OnOk};
+ghost use Rattle.std.specs.Prelude.{◌≡◌, ◌==◌, ◌&&◌, ◌+◌, ◌++◌, ◌≤◌, [], ◌∷◌, cond, true, not, length, IfOk, OnOk};
 ghost use Rattle.std.specs.List.{filter, prefix_len};
 ghost use Rattle.std.specs.List.Sorted.{IsSorted};
 ghost use Rattle.std.specs.Cmp.Lexicographic.{slice_cmp};
 ghost use Rattle.std.specs.Ordering.{nat_cmp};
 ghost use Rattle.std.specs.Str.{bytes_eq};
-ghost use Rattle.gql_plain.specs.Order.{AreSortedOf, has_text};
+ghost use Rattle.gql_plain.specs.Order.{AreInOrder, AreSortedOf, has_text};
 ghost use Rattle.store_record.specs.Keys.{Text};
 ghost use Rattle.store_update.specs.Touched.{AreNoted, AreTouched, is_changed};
 ghost use Rattle.store_update.specs.Turns.{number_again, stands_again};
@@ -18,6 +18,33 @@ use store_source::RecordSource;
 /// The ids whose slot differs between two maps, of those that were noted, in byte order. One that was noted once
 /// differs; one that was noted several times takes two looks.
 pub(crate) fn touched<S: RecordSource>(
+    before: &S,
+    after: &S,
+    noted: Vec<Id>,
+    steps: &mut S::Count,
+) -> Result<Ids, NoMemory>
+    requires { AreNoted (S.records before.now) (S.records after.now) [] noted.items }
+    ensures touched { IfOk result (λ ids. AreTouched (S.records before.now) (S.records after.now) ids) }
+    ensures looks { S.Count.looks steps.new ≤ S.Count.looks steps.old + number_again noted.items }
+    ensures applies { S.Count.applies steps.new ≡ S.Count.applies steps.old }
+{
+    // ids that rise stand there once each
+    if do_rise(&noted) {
+        let touched = Ids::in_order(noted)?;
+        return Ok(touched);
+    }
+    compared(before, after, noted, steps)
+}
+
+/// Whether each id stands after the one before it, by bytes; takes no memory.
+fn do_rise(ids: &[Id]) -> bool
+    ensures { result ≡ true → AreInOrder ids.now }
+{
+    ids.is_sorted_by(|one, other| one.cmp(other).is_lt())
+}
+
+/// The ids whose slot differs, where some may have been noted several times.
+fn compared<S: RecordSource>(
     before: &S,
     after: &S,
     noted: Vec<Id>,
