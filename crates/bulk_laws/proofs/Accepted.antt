@@ -7,30 +7,30 @@ use Rattle.std.specs.List.{between}
 use Rattle.std.specs.Prelude.{IsAscii, IsUtf8, chars}
 use Rattle.bulk_laws.specs.BulkProject.{bulk_project, bulk_defs, at_column, bulk_placed, bulk_operation, bulk_places, query_members, user_members}
 use Rattle.bulk_laws.specs.Laws.{BulkIsAccepted}
-use Rattle.gql_ast.specs.declared.document.Definition.TheVariants as D
-use Rattle.gql_ast.specs.declared.member.FieldTree.{FieldTree}
-use Rattle.gql_ast.specs.declared.place.FilePlace.{FilePlace}
-use Rattle.gql_ast.specs.declared.place.Placed.{Placed}
-use Rattle.gql_ast.specs.declared.schema.SchemaTree.{SchemaTree}
-use Rattle.gql_graph.specs.Rules.{first_broken}
-use Rattle.gql_lex.specs.Heads.{head}
-use Rattle.gql_lex.specs.Lines.{ended_lines, line_start}
-use Rattle.gql_lex.specs.Sources.{read, lex_from}
-use Rattle.gql_lex.specs.Toks.{tokens_of}
-use Rattle.gql_parse.specs.Documents as documents
-use Rattle.gql_parse.specs.Trees.{IsDocument}
-use Rattle.gql_sdl.specs.Schemas as schemas
-use Rattle.gql_sdl.specs.Schemas.{Described, WrittenField}
-use Rattle.gql_sdl.specs.Trees.{IsSchema}
-use Rattle.gql_syntax.specs.FirstFault.{Shallow}
-use Rattle.gql_syntax.specs.Places.{file_place, place_nodes}
-use Rattle.gql_syntax.specs.Texts.{nesting_limit}
+use Rattle.plan_ir.specs.gql_ast.declared.document.Definition.TheVariants as D
+use Rattle.plan_ir.specs.gql_ast.declared.member.FieldTree.{FieldTree}
+use Rattle.plan_ir.specs.gql_ast.declared.place.FilePlace.{FilePlace}
+use Rattle.plan_ir.specs.gql_ast.declared.place.Placed.{Placed}
+use Rattle.plan_ir.specs.gql_ast.declared.schema.SchemaTree.{SchemaTree}
+use Rattle.plan_ir.specs.gql_graph.Rules.{first_broken}
+use Rattle.plan_ir.specs.gql_lex.Heads.{head}
+use Rattle.plan_ir.specs.gql_lex.Lines.{ended_lines, line_start}
+use Rattle.plan_ir.specs.gql_lex.Sources.{read, lex_from}
+use Rattle.plan_ir.specs.gql_lex.Toks.{tokens_of}
+use Rattle.relay_machine.specs.gql_parse.Documents as documents
+use Rattle.relay_machine.specs.gql_parse.Trees.{IsDocument}
+use Rattle.plan_project.specs.gql_sdl.Schemas as schemas
+use Rattle.plan_project.specs.gql_sdl.Schemas.{Described, WrittenField}
+use Rattle.plan_project.specs.gql_sdl.Trees.{IsSchema}
+use Rattle.plan_ir.specs.gql_syntax.FirstFault.{Shallow}
+use Rattle.plan_ir.specs.gql_syntax.Places.{file_place, place_nodes}
+use Rattle.plan_ir.specs.gql_syntax.Texts.{nesting_limit}
 use Rattle.json.proofs.Printed.Utf8.{are_ascii, IsUtf8-are_ascii}
 use Rattle.plan_project.specs.Expansions.{merge_fault, size_rules}
 use Rattle.plan_project.specs.Projects.{document_rules}
 use Rattle.relay_machine.specs.Bulk.{bulk_document, bulk_schema}
-use Rattle.schema_rules.specs.Checked.{IsSound}
-use Rattle.schema_types.specs.DocumentRules.{Meet}
+use Rattle.plan_ir.specs.schema_rules.Checked.{IsSound}
+use Rattle.plan_ir.specs.schema_types.DocumentRules.{Meet}
 use Rattle.serde_json.proofs.OnLiterals.{serde_json_on_literals}
 
 abbrev pub written_document : List documents.Written

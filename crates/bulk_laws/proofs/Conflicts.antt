@@ -3,15 +3,15 @@ use Rattle.std.proofs.Common.{◌≡◌, true, List, [], ◌∷◌, Option, Some
 use Rattle.std.proofs.lemmas.Bool.{and_parts}
 use Rattle.std.proofs.lemmas.Slice.Eq.{bytes_eq-Decides}
 use Rattle.std.specs.List.{AllByRecursion}
-use Rattle.store_record.specs.Equal.{field_eq, field_eq-Decides}
-use Rattle.store_record.specs.Keys.{Text}
-use Rattle.store_record.specs.declared.field.Field.{Field}
-use Rattle.store_model.proofs.Seated.{of_among}
-use Rattle.store_model.proofs.Seats.{seats_are}
-use Rattle.store_model.specs.Alike.{Among}
-use Rattle.store_model.specs.Says.{Put, Report}
-use Rattle.store_model.specs.Verdicts.{IsSeat, Seat, SecondIs, conflict_of, content, fault_cmp, first_conflict, in_order, least, same_place, seats, unless_conflict, unless_fault, verdict}
-use Rattle.store_model.specs.FactOrder.{handle_cmp}
+use Rattle.plan_ir.specs.store_record.Equal.{field_eq, field_eq-Decides}
+use Rattle.plan_ir.specs.store_record.Keys.{Text}
+use Rattle.plan_ir.specs.store_record.declared.field.Field.{Field}
+use Rattle.plan_ir.proofs.store_model_laws.Seated.{of_among}
+use Rattle.plan_ir.proofs.store_model_laws.Seats.{seats_are}
+use Rattle.plan_ir.specs.store_model.Alike.{Among}
+use Rattle.plan_ir.specs.store_model.Says.{Put, Report}
+use Rattle.plan_ir.specs.store_model.Verdicts.{IsSeat, Seat, SecondIs, conflict_of, content, fault_cmp, first_conflict, in_order, least, same_place, seats, unless_conflict, unless_fault, verdict}
+use Rattle.plan_ir.specs.store_model.FactOrder.{handle_cmp}
 
 -- the value of a put is that of its id and key
 abbrev pub IsOf : (Text → Text → Field) → Put → Type 0

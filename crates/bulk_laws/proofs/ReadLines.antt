@@ -7,7 +7,7 @@ use Rattle.std.specs.Fmt.{decimal}
 use Rattle.std.specs.Prelude.{pos, option_and_then}
 use Rattle.std.specs.Str.{is_utf8}
 use Rattle.std.specs.Str.Parse.{AllDigits}
-use Rattle.gql_plain.specs.Limits.{max_line}
+use Rattle.plan_ir.specs.gql_plain.Limits.{max_line}
 use Rattle.json.proofs.Printed.Decimals.{IsNumber-decimal}
 use Rattle.json.proofs.Printed.Strings.{escape_byte_plain}
 use Rattle.json.proofs.Printed.Tokens.{tokens-print}
@@ -23,9 +23,9 @@ use Rattle.serde_json.proofs.Numbers.{number_of-decimal}
 use Rattle.serde_json.proofs.OnLiterals.{serde_json_on_literals}
 use Rattle.serde_json.specs.Data as J
 use Rattle.serde_json.specs.Read.{max_depth, of_json, read}
-use Rattle.store_model.specs.Events as e
-use Rattle.store_model.specs.Events.{Event, Line, line_of, of_shape, of_text, of_value, shape_of}
-use Rattle.store_model.specs.declared.command.Command.TheVariants as C
+use Rattle.plan_ir.specs.store_model.Events as e
+use Rattle.plan_ir.specs.store_model.Events.{Event, Line, line_of, of_shape, of_text, of_value, shape_of}
+use Rattle.plan_ir.specs.store_model.declared.command.Command.TheVariants as C
 
 -- ---- digits in texts
 

@@ -6,25 +6,25 @@ use Rattle.bulk_laws.proofs.Conflicts.{AreOf, is_content}
 use Rattle.bulk_laws.proofs.ReadLines.{age_response, friend_response}
 use Rattle.bulk_laws.proofs.Steps.{the_handle}
 use Rattle.bulk_laws.specs.BulkProject.{bulk_defs, bulk_operation, bulk_project}
-use Rattle.gql_lex.specs.Heads.{head}
-use Rattle.gql_lex.specs.Sources.{read}
-use Rattle.gql_plain.specs.declared.plain.Plain.TheVariants.{Int, Text as Words}
+use Rattle.plan_ir.specs.gql_lex.Heads.{head}
+use Rattle.plan_ir.specs.gql_lex.Sources.{read}
+use Rattle.plan_ir.specs.gql_plain.declared.plain.Plain.TheVariants.{Int, Text as Words}
 use Rattle.plan_ir.specs.Expansion.{operation_named, variable_trees}
 use Rattle.relay_machine.specs.Machine.{definitions_in, documents_of, said_to}
-use Rattle.relay_model.specs.Collection.{collect, part_of}
-use Rattle.relay_model.specs.Readings.{no_place}
-use Rattle.relay_model.specs.Responses.{whole_setting}
-use Rattle.schema_tables.specs.Types.{Text}
-use Rattle.schema_types.specs.Environments.{first_failure}
-use Rattle.schema_types.specs.NameRules.{operations}
-use Rattle.schema_types.specs.Sites.{OperationAt, operation_at}
+use Rattle.relay_machine.specs.relay_model.Collection.{collect, part_of}
+use Rattle.relay_machine.specs.relay_model.Readings.{no_place}
+use Rattle.relay_machine.specs.relay_model.Responses.{whole_setting}
+use Rattle.plan_ir.specs.schema_tables.Types.{Text}
+use Rattle.plan_ir.specs.schema_types.Environments.{first_failure}
+use Rattle.plan_ir.specs.schema_types.NameRules.{operations}
+use Rattle.plan_ir.specs.schema_types.Sites.{OperationAt, operation_at}
 use Rattle.serde_json.proofs.OnLiterals.{serde_json_on_literals}
 use Rattle.serde_json.specs.Data as J
-use Rattle.store_model.specs.Said.{Said}
-use Rattle.store_model.specs.Says.{Report, response_says}
-use Rattle.store_model.specs.Verdicts.{content}
-use Rattle.store_record.specs.declared.field.Field.{Field}
-use Rattle.store_record.specs.declared.field.Field.TheVariants.{Leaf, Link}
+use Rattle.plan_ir.specs.store_model.Said.{Said}
+use Rattle.plan_ir.specs.store_model.Says.{Report, response_says}
+use Rattle.plan_ir.specs.store_model.Verdicts.{content}
+use Rattle.plan_ir.specs.store_record.declared.field.Field.{Field}
+use Rattle.plan_ir.specs.store_record.declared.field.Field.TheVariants.{Leaf, Link}
 
 -- the operation of the document
 abbrev pub bulk_at : OperationAt

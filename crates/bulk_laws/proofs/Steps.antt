@@ -8,18 +8,18 @@ use Rattle.relay_machine.specs.Machine.{Handle, Layer, Project, State, Step, Wat
 use Rattle.relay_machine.specs.Printed as printed
 use Rattle.relay_machine.specs.Printed.{event_line}
 use Rattle.relay_machine.specs.Refusals.{handle_taken, handles, layer_taken, layers, most, too_many, unknown_layer, watch_taken, watches}
-use Rattle.schema_tables.specs.Types.{Text}
-use Rattle.schema_types.specs.Environments.{environment, first_failure}
-use Rattle.schema_types.specs.NameRules.{operations}
-use Rattle.schema_types.specs.Sites.{OperationAt}
+use Rattle.plan_ir.specs.schema_tables.Types.{Text}
+use Rattle.plan_ir.specs.schema_types.Environments.{environment, first_failure}
+use Rattle.plan_ir.specs.schema_types.NameRules.{operations}
+use Rattle.plan_ir.specs.schema_types.Sites.{OperationAt}
 use Rattle.serde_json.specs.Data as J
-use Rattle.store_model.specs.Events as e
-use Rattle.store_model.specs.Events.{Answer, Event, Target, line_of}
-use Rattle.store_model.specs.Said.{Said}
-use Rattle.store_model.specs.Verdicts.{content}
-use Rattle.store_model.specs.declared.command.Command.{Command}
-use Rattle.store_model.specs.declared.command.Command.TheVariants as C
-use Rattle.store_model.specs.declared.entry.Entry.{Entry}
+use Rattle.plan_ir.specs.store_model.Events as e
+use Rattle.plan_ir.specs.store_model.Events.{Answer, Event, Target, line_of}
+use Rattle.plan_ir.specs.store_model.Said.{Said}
+use Rattle.plan_ir.specs.store_model.Verdicts.{content}
+use Rattle.plan_ir.specs.store_model.declared.command.Command.{Command}
+use Rattle.plan_ir.specs.store_model.declared.command.Command.TheVariants as C
+use Rattle.plan_ir.specs.store_model.declared.entry.Entry.{Entry}
 
 -- ---- how a state stands
 

@@ -8,9 +8,9 @@ use Rattle.bulk_laws.specs.BulkProject.{bulk_project}
 use Rattle.bulk_laws.specs.Laws.{NoLineIsRefused}
 use Rattle.relay_machine.specs.Bulk.{Bulk, Stage, after, age_line, age_of, begun as bulk_begun, bulk_buffer, collect_line, drawing, friend_line, kind_of, layer_line, line_at, line_of_kind, lines_from, next_bulk, next_line, next_number, refusals_from, retain_line, retaining, watch_line, watching}
 use Rattle.relay_machine.specs.Machine.{State, beginning, refused_from, step}
-use Rattle.schema_tables.specs.Types.{Text}
+use Rattle.plan_ir.specs.schema_tables.Types.{Text}
 use Rattle.serde_json.specs.Data as J
-use Rattle.store_model.specs.Events as e
+use Rattle.plan_ir.specs.store_model.Events as e
 
 -- the line is not refused in this state, and leaves it so
 abbrev IsGood : Stage → (live : Bool) → State → ℕ → Text → Type 0

@@ -1,15 +1,15 @@
 //! How often records are looked up and put where an entry is applied.
 ghost use Rattle.std.specs.Prelude.{◌≡◌, IfOk};
-ghost use Rattle.store_model.specs.FactRows.{IsFactRow};
+ghost use Rattle.plan_ir.specs.store_model.FactRows.{IsFactRow};
 
 use crate::puts::Puts;
-use gql_plain::{Counts, Id, Name, NoMemory, Pairs, Plain, Words};
+use plan_ir::{
+    Command, Commands, Counts, EdgeEdit, Entry, FactList, FactRow, Facts, Field, Fields,
+    HandleFacts, Id, Name, NoMemory, Pairs, Plain, Slot, Words,
+};
 use std::alloc::Global;
 use std::test::Fail;
-use store_model::{Command, Commands, EdgeEdit, Entry, FactList, FactRow, Facts, HandleFacts};
-use store_record::{Field, Fields, Slot};
-use store_source::RecordSource;
-use store_update::{Changed, apply};
+use store_layers::{Changed, RecordSource, apply};
 
 /// A user of age 20 is made, and 1 is added to its age twice.
 fn run(alloc: Global, id: &str, commands: &mut Commands) -> Result<(), NoMemory> {

@@ -1,10 +1,8 @@
 //! How often entries are applied.
-use gql_plain::{Counts, Id, NoMemory, Pairs, Words};
+use plan_ir::{Command, Commands, Counts, Entry, Facts, Id, NoMemory, Pairs, Words};
 use std::alloc::Global;
 use std::test::Fail;
-use store_layers::Layers;
-use store_model::{Command, Commands, Entry, Facts};
-use store_source::{RecordSource, Versions};
+use store_layers::{Layers, RecordSource, Versions};
 
 /// Adds 1 to the age of `4`.
 fn older(alloc: Global) -> Result<Entry, NoMemory> {

@@ -1,9 +1,8 @@
 //! A record map that counts the records that are put.
-use gql_plain::{Counts, Id, Ids, NoMemory};
+use plan_ir::{Counts, Id, Ids, NoMemory, Record, Slot};
 use std::alloc::Global;
 use std::rc::Rc;
-use store_record::{Record, Slot};
-use store_source::{Flat, RecordSource};
+use store_layers::{Flat, RecordSource};
 
 /// A map, and how often a slot was put into it or into those that it was made from.
 #[derive(Drop)]

@@ -1,16 +1,13 @@
 //! How often watches look at records.
-use gql_ast::Arguments;
-use gql_plain::{Counts, Id, Ids, NoMemory, Pairs, Plain, Words};
-use plan_ir::{ReaderPlan, ReaderStep, ReaderSteps};
-use plan_order::KeptReader;
-use schema_values::Env;
+use plan_ir::{
+    Arguments, Counts, Env, Field, Id, Ids, NoMemory, Pairs, Plain, ReaderPlan, ReaderStep,
+    ReaderSteps, Record, Words,
+};
 use std::alloc::Global;
 use std::rc::Rc;
 use std::test::Fail;
-use store_read::{Snapshot, read};
-use store_record::{Field, Record};
-use store_source::{Flat, RecordSource};
-use store_watch::{Watched, Watches};
+use store_layers::{Flat, RecordSource};
+use store_watch::{KeptReader, Snapshot, Watched, Watches, read};
 
 /// A leaf under its own name.
 fn leaf(alloc: Global, name: &str) -> Result<ReaderPlan, NoMemory> {

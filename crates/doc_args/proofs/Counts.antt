@@ -5,18 +5,18 @@ use Rattle.std.proofs.lemmas.Slice.Eq.{bytes_eq-Decides}
 use Rattle.std.specs.List.{list_any}
 use Rattle.gql_graph.specs.Rules.{each}
 use Rattle.gql_graph.specs.Texts.{Text}
-use Rattle.gql_plain.proofs.Booleans.{and_false, or_false, or_rotate}
-use Rattle.gql_plain.proofs.SortedTexts.{AreInOrder-sorted_texts, has_text-sorted_texts}
-use Rattle.gql_plain.specs.Order.{has_text, sorted_texts}
-use Rattle.schema_rules.specs.Rules.{names_of}
-use Rattle.schema_tables.proofs.Counting.{count_gives, differ_sorted, eq_swap, gives_by, is_not, and_left, and_right}
-use Rattle.schema_tables.specs.Views.{InputDef}
-use Rattle.schema_tables.specs.Inputs.{input_among, must_be_given}
-use Rattle.schema_tables.specs.Required.{all_differ, count_among, one_if, required_name, required_names}
-use Rattle.schema_trees.specs.LocatedView.{name_of}
-use Rattle.schema_trees.specs.declared.located.NameAt.{NameAt}
-use Rattle.schema_types.specs.ArgumentRules.{input_def_named, is_given, leaves_out}
-use Rattle.schema_types.specs.Sites.{ArgumentAt}
+use Rattle.gql_graph.proofs.gql_plain_laws.Booleans.{and_false, or_false, or_rotate}
+use Rattle.gql_graph.proofs.gql_plain_laws.SortedTexts.{AreInOrder-sorted_texts, has_text-sorted_texts}
+use Rattle.gql_graph.specs.gql_plain.Order.{has_text, sorted_texts}
+use Rattle.doc_uses.specs.schema_rules.Rules.{names_of}
+use Rattle.doc_uses.proofs.schema_tables_laws.Counting.{count_gives, differ_sorted, eq_swap, gives_by, is_not, and_left, and_right}
+use Rattle.doc_uses.specs.schema_tables.Views.{InputDef}
+use Rattle.doc_uses.specs.schema_tables.Inputs.{input_among, must_be_given}
+use Rattle.doc_uses.specs.schema_tables.Required.{all_differ, count_among, one_if, required_name, required_names}
+use Rattle.doc_uses.specs.schema_trees.LocatedView.{name_of}
+use Rattle.doc_uses.specs.schema_trees.declared.located.NameAt.{NameAt}
+use Rattle.doc_uses.specs.schema_types.ArgumentRules.{input_def_named, is_given, leaves_out}
+use Rattle.doc_uses.specs.schema_types.Sites.{ArgumentAt}
 use Rattle.doc_args.proofs.Steps.{given_is}
 use Rattle.doc_args.specs.GivenNames.{count_new, given_names}
 

@@ -1,12 +1,12 @@
 -- One more member of an object in front.
 use Rattle.std.proofs.Common.{◌≡◌, ℕ, zero, suc, ◌+◌, ◌<◌, Bool, not, ◌&&◌, ◌||◌, List, [], ◌∷◌, length, map, drop, get_or, add-one, bytes_eq, refl, ap, sym, ◌∙◌}
 use Rattle.std.proofs.Math.Seq.{drop-cons}
-use Rattle.gql_ast.specs.Value.{Val, members_of}
-use Rattle.gql_ast.specs.ValueView.{value_of, argument_of}
-use Rattle.gql_ast.specs.declared.value.Argument.{Argument}
-use Rattle.gql_plain.specs.Order.{has_text}
-use Rattle.schema_types.specs.ArgumentRules.{names_differ, names_differ_among}
-use Rattle.schema_tables.specs.Fits.{has_member}
+use Rattle.doc_uses.specs.gql_ast.Value.{Val, members_of}
+use Rattle.doc_uses.specs.gql_ast.ValueView.{value_of, argument_of}
+use Rattle.doc_uses.specs.gql_ast.declared.value.Argument.{Argument}
+use Rattle.gql_graph.specs.gql_plain.Order.{has_text}
+use Rattle.doc_uses.specs.schema_types.ArgumentRules.{names_differ, names_differ_among}
+use Rattle.doc_uses.specs.schema_tables.Fits.{has_member}
 use Rattle.gql_graph.specs.Texts.{Text}
 
 map-drop : {X A : Type 0} (view : X → A) (i : ℕ) (xs : List X) → map view (drop i xs) ≡ drop i (map view xs)

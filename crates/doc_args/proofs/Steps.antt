@@ -1,14 +1,14 @@
 -- Steps of loops over lists, and parts of the rules.
 use Rattle.std.proofs.Common.{◌≡◌, ℕ, ◌+◌, ◌<◌, Bool, true, false, not, cond, ◌&&◌, ◌||◌, List, [], ◌∷◌, ◌++◌, map, drop, length, get_or, add-one, Option, bytes_eq, refl, ap, sym, ◌∙◌}
 use Rattle.std.proofs.Math.Seq.{drop-cons}
-use Rattle.gql_plain.specs.Order.{has_text}
-use Rattle.schema_types.specs.ArgumentRules.{free, unknown, not_taken, argument_unfit, is_given, is_null, names_once, stands_once}
-use Rattle.schema_tables.specs.BuiltIn as known
+use Rattle.gql_graph.specs.gql_plain.Order.{has_text}
+use Rattle.doc_uses.specs.schema_types.ArgumentRules.{free, unknown, not_taken, argument_unfit, is_given, is_null, names_once, stands_once}
+use Rattle.doc_uses.specs.schema_tables.BuiltIn as known
 use Rattle.gql_graph.specs.Leasts.{least_from}
-use Rattle.schema_trees.specs.Located.{Located}
-use Rattle.schema_rules.specs.Rules.{each, wrong, names_of}
-use Rattle.schema_types.specs.Sites.{ArgumentAt, DirectiveAt}
-use Rattle.schema_tables.specs.Types.{Text, Defs}
+use Rattle.doc_uses.specs.schema_trees.Located.{Located}
+use Rattle.doc_uses.specs.schema_rules.Rules.{each, wrong, names_of}
+use Rattle.doc_uses.specs.schema_types.Sites.{ArgumentAt, DirectiveAt}
+use Rattle.doc_uses.specs.schema_tables.Types.{Text, Defs}
 use Rattle.gql_graph.proofs.LeastSteps.{noted-append}
 use Rattle.doc_args.specs.Directives.{once_name}
 use Rattle.doc_args.specs.GivenNames.{given_names}

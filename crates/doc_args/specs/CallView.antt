@@ -1,12 +1,12 @@
 -- What calls in the code stand for.
 use Rattle.std.specs.Prelude.{[], List, map, Option}
-use Rattle.schema_types.specs.ArgumentRules.{inputs, free, unknown, field_takes}
-use Rattle.schema_types.specs.ArgumentRules as spec
-use Rattle.schema_trees.specs.Located.{Located}
-use Rattle.schema_trees.specs.LocatedView.{name_of}
-use Rattle.schema_types.specs.Sites.{ArgumentAt}
-use Rattle.schema_tables.specs.Types.{Text, Defs}
-use Rattle.doc_sites.specs.SitesView.{argument_of}
+use Rattle.doc_uses.specs.schema_types.ArgumentRules.{inputs, free, unknown, field_takes}
+use Rattle.doc_uses.specs.schema_types.ArgumentRules as spec
+use Rattle.doc_uses.specs.schema_trees.Located.{Located}
+use Rattle.doc_uses.specs.schema_trees.LocatedView.{name_of}
+use Rattle.doc_uses.specs.schema_types.Sites.{ArgumentAt}
+use Rattle.doc_uses.specs.schema_tables.Types.{Text, Defs}
+use Rattle.doc_uses.specs.doc_sites.SitesView.{argument_of}
 use Rattle.doc_args.specs.declared.call.Takes.{Takes}
 use Rattle.doc_args.specs.declared.call.Takes.TheVariants as T
 use Rattle.doc_args.specs.declared.call.Call.{Call}

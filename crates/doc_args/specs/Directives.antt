@@ -1,11 +1,11 @@
 -- The directives at one place of a kind.
 use Rattle.std.specs.Prelude.{List, [], ◌∷◌, cond}
-use Rattle.gql_ast.specs.declared.location.Location.{Location}
-use Rattle.schema_types.specs.ArgumentRules.{Directed, stands_once}
-use Rattle.schema_tables.specs.BuiltIn as known
-use Rattle.schema_trees.specs.Located.{Located}
-use Rattle.schema_types.specs.Sites.{DirectiveAt}
-use Rattle.schema_tables.specs.Types.{Defs}
+use Rattle.doc_uses.specs.gql_ast.declared.location.Location.{Location}
+use Rattle.doc_uses.specs.schema_types.ArgumentRules.{Directed, stands_once}
+use Rattle.doc_uses.specs.schema_tables.BuiltIn as known
+use Rattle.doc_uses.specs.schema_trees.Located.{Located}
+use Rattle.doc_uses.specs.schema_types.Sites.{DirectiveAt}
+use Rattle.doc_uses.specs.schema_tables.Types.{Defs}
 
 abbrev pub directives_at : Location → List DirectiveAt → Directed
 directives_at l ds = record { location = l; directives = ds }

@@ -1,12 +1,12 @@
 -- The names of the arguments that are given, and not as `null`.
 use Rattle.std.specs.Prelude.{ℕ, ◌+◌, not, ◌&&◌, List, [], ◌∷◌, cond}
-use Rattle.gql_plain.specs.Order.{has_text}
+use Rattle.gql_graph.specs.gql_plain.Order.{has_text}
 use Rattle.gql_graph.specs.Texts.{Text}
-use Rattle.schema_tables.specs.Required.{one_if}
-use Rattle.schema_types.specs.ArgumentRules.{is_null}
-use Rattle.schema_trees.specs.Located.{Located}
+use Rattle.doc_uses.specs.schema_tables.Required.{one_if}
+use Rattle.doc_uses.specs.schema_types.ArgumentRules.{is_null}
+use Rattle.doc_uses.specs.schema_trees.Located.{Located}
 use Rattle.gql_graph.specs.Rules.{each}
-use Rattle.schema_types.specs.Sites.{ArgumentAt}
+use Rattle.doc_uses.specs.schema_types.Sites.{ArgumentAt}
 
 abbrev pub given_name : ArgumentAt → List Located
 given_name a = cond (is_null a.value.of) [] (a.name ∷ [])

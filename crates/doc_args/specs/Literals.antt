@@ -1,10 +1,10 @@
 -- Literals that do not fit, by where they stand.
 use Rattle.std.specs.Prelude.{ℕ, not, List, ◌++◌}
-use Rattle.gql_ast.specs.TypeView.{ty_of}
-use Rattle.schema_types.specs.ArgumentRules.{arguments_unfit, calls_of, default_unfit, defaults_unfit, names_differ}
+use Rattle.doc_uses.specs.gql_ast.TypeView.{ty_of}
+use Rattle.doc_uses.specs.schema_types.ArgumentRules.{arguments_unfit, calls_of, default_unfit, defaults_unfit, names_differ}
 use Rattle.gql_graph.specs.Rules.{each, wrong}
-use Rattle.schema_types.specs.Sites.{ArgumentAt, VariableAt, DefinitionAt}
-use Rattle.schema_tables.specs.Types.{Defs}
+use Rattle.doc_uses.specs.schema_types.Sites.{ArgumentAt, VariableAt, DefinitionAt}
+use Rattle.doc_uses.specs.schema_tables.Types.{Defs}
 
 abbrev pub default_of_unfit : Defs → VariableAt → List ℕ
 default_of_unfit defs v = default_unfit defs (ty_of v.defined.of) v.default

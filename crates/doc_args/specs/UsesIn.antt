@@ -1,9 +1,9 @@
 -- The variables that are used in operations and fragments, and those that operations define.
 use Rattle.std.specs.Prelude.{List, map, None}
-use Rattle.schema_types.specs.ArgumentRules.{Use, uses_of}
-use Rattle.schema_trees.specs.Located.{Located}
-use Rattle.schema_types.specs.Sites.{ArgumentAt, FragmentAt, OperationAt, VariableAt}
-use Rattle.schema_tables.specs.Types.{Defs}
+use Rattle.doc_uses.specs.schema_types.ArgumentRules.{Use, uses_of}
+use Rattle.doc_uses.specs.schema_trees.Located.{Located}
+use Rattle.doc_uses.specs.schema_types.Sites.{ArgumentAt, FragmentAt, OperationAt, VariableAt}
+use Rattle.doc_uses.specs.schema_tables.Types.{Defs}
 use Rattle.doc_uses.specs.UseView.{uses_at}
 
 -- the variables in an argument for which no type is known

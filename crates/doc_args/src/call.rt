@@ -1,14 +1,13 @@
 //! Arguments as they are given to a field or a directive, and what that takes (GraphQL, October
 //! 2021, sections 5.4 and 3.13).
 ghost use Rattle.std.specs.Prelude.{◌≡◌, map, Some, is_some, option_copied};
-ghost use Rattle.schema_types.specs.ArgumentRules as rules;
-ghost use Rattle.schema_trees.specs.LocatedView.{name_of};
-ghost use Rattle.doc_sites.specs.SitesView.{argument_of, directive_of};
+ghost use Rattle.doc_uses.specs.schema_types.ArgumentRules as rules;
+ghost use Rattle.doc_uses.specs.schema_trees.LocatedView.{name_of};
+ghost use Rattle.doc_uses.specs.doc_sites.SitesView.{argument_of, directive_of};
 ghost use Rattle.doc_args.specs.CallView.{call_of, field_call, takes_of};
 
-use doc_sites::{ArgumentAt, DirectiveAt};
-use schema_trees::located::NameAt;
-use schema_types::{InputDef, InputDefs, Schema};
+use doc_uses::located::NameAt;
+use doc_uses::{ArgumentAt, DirectiveAt, InputDef, InputDefs, Schema};
 
 /// The arguments that a field or a directive takes.
 #[derive(Drop)]

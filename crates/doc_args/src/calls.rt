@@ -1,14 +1,13 @@
 //! The fields and directives of a definition with their arguments, in text order.
 ghost use Rattle.std.specs.Prelude.{◌≡◌, ◌++◌, map, IfOk, OnOk};
-ghost use Rattle.schema_types.specs.ArgumentRules as rules;
+ghost use Rattle.doc_uses.specs.schema_types.ArgumentRules as rules;
 ghost use Rattle.gql_graph.specs.Rules.{each};
-ghost use Rattle.doc_sites.specs.SitesView.{definition_of, directive_of, site_of, variable_of};
+ghost use Rattle.doc_uses.specs.doc_sites.SitesView.{definition_of, directive_of, site_of, variable_of};
 ghost use Rattle.doc_args.specs.CallView.{call_of};
 
 use crate::call::{Call, directive_call, field_call};
-use doc_sites::{DefinitionAt, DirectiveAt, Site, VariableAt};
-use gql_plain::NoMemory;
-use schema_types::Schema;
+use doc_uses::{DefinitionAt, DirectiveAt, Schema, Site, VariableAt};
+use gql_graph::gql_plain::NoMemory;
 use std::alloc::Global;
 
 /// Puts directives.

@@ -1,21 +1,19 @@
 //! The first rule on arguments, directives and variables that documents do not meet.
 ghost use Rattle.std.specs.Prelude.{◌≡◌, map, IfOk, IfErr, OnOk};
-ghost use Rattle.schema_types.specs.DocumentRules.{argument_rules, AreFaulty, Meet};
-ghost use Rattle.schema_rules.specs.Rules as rules;
-ghost use Rattle.doc_sites.specs.Definitions.{AreIn};
-ghost use Rattle.doc_sites.specs.SitesView.{definition_of};
+ghost use Rattle.doc_uses.specs.schema_types.DocumentRules.{argument_rules, AreFaulty, Meet};
+ghost use Rattle.doc_uses.specs.schema_rules.Rules as rules;
+ghost use Rattle.doc_uses.specs.doc_sites.Definitions.{AreIn};
+ghost use Rattle.doc_uses.specs.doc_sites.SitesView.{definition_of};
 
 use crate::rules::arguments::arguments_wrong;
 use crate::rules::directives::directives_wrong;
 use crate::rules::literals::literals_unfit;
 use crate::rules::required::arguments_missing;
 use crate::rules::variables::variables_wrong;
-use doc_sites::{DefinitionAt, definitions_at};
-use gql_ast::Documents;
+use doc_uses::{DefinitionAt, Documents, NodeFault, Rule, RuleFault, Schema, definitions_at};
 use gql_graph::first::First;
+use gql_graph::gql_plain::NoMemory;
 use gql_graph::least::Least;
-use gql_plain::NoMemory;
-use schema_types::{NodeFault, Rule, RuleFault, Schema};
 use std::alloc::Global;
 
 /// Checks the rules on arguments, directives and variables (GraphQL, October 2021, sections 5.4, 5.6,

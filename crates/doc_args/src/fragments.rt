@@ -1,18 +1,16 @@
 //! The variables that are used in the fragments.
 ghost use Rattle.std.specs.Prelude.{◌++◌, List, map, IfOk, OnOk};
-ghost use Rattle.schema_types.specs.ArgumentRules as rules;
-ghost use Rattle.schema_types.specs.NameRules.{fragments};
+ghost use Rattle.doc_uses.specs.schema_types.ArgumentRules as rules;
+ghost use Rattle.doc_uses.specs.schema_types.NameRules.{fragments};
 ghost use Rattle.gql_graph.specs.Texts.{Text};
-ghost use Rattle.doc_sites.specs.SitesView.{definition_of};
+ghost use Rattle.doc_uses.specs.doc_sites.SitesView.{definition_of};
 ghost use Rattle.doc_uses.specs.FragmentUses.{Describes};
 ghost use Rattle.doc_uses.specs.UsesByName.{Gathers, named_in, uses_among};
 ghost use Rattle.doc_args.specs.UsesIn.{uses_in_fragment};
 
 use crate::uses::uses_of;
-use doc_sites::DefinitionAt;
-use doc_uses::{FragmentUses, UsesByName};
-use gql_plain::NoMemory;
-use schema_types::Schema;
+use doc_uses::{DefinitionAt, FragmentUses, Schema, UsesByName};
+use gql_graph::gql_plain::NoMemory;
 use std::alloc::Global;
 
 /// What is known of the variables that are used in the fragments among definitions.

@@ -1,19 +1,19 @@
 //! The variables that are used in what fields and directives take, each at its place (GraphQL, October
 //! 2021, section 5.8.5).
 ghost use Rattle.std.specs.Prelude.{◌≡◌, ◌++◌, map, IfOk, OnOk};
-ghost use Rattle.schema_types.specs.ArgumentRules as rules;
+ghost use Rattle.doc_uses.specs.schema_types.ArgumentRules as rules;
 ghost use Rattle.gql_graph.specs.Rules.{each};
-ghost use Rattle.doc_sites.specs.SitesView.{argument_of, directive_of, site_of};
+ghost use Rattle.doc_uses.specs.doc_sites.SitesView.{argument_of, directive_of, site_of};
 ghost use Rattle.doc_uses.specs.UseView.{use_of};
 ghost use Rattle.doc_args.specs.CallView.{call_of};
 ghost use Rattle.doc_args.specs.UsesIn.{uses_unknown};
 
 use crate::call::{Call, Takes, find_input};
 use crate::calls::calls_in;
-use doc_sites::{ArgumentAt, DirectiveAt, Site};
-use doc_uses::{Use, place_of_input, put_argument};
-use gql_plain::NoMemory;
-use schema_types::{InputDefs, Schema};
+use doc_uses::{
+    ArgumentAt, DirectiveAt, InputDefs, Schema, Site, Use, place_of_input, put_argument,
+};
+use gql_graph::gql_plain::NoMemory;
 use std::alloc::Global;
 
 /// Puts the variables in arguments for which no type is known.

@@ -2,17 +2,17 @@
 use Rattle.std.proofs.Common.{◌≡◌, ℕ, zero, suc, ◌≤◌, Bool, true, false, cond, ◌||◌, List, [], ◌∷◌, Option, Some, None, option_map, bytes_eq, refl, ap, sym, subst, ◌∙◌, arith}
 use Rattle.std.proofs.lemmas.List.{append-nil}
 use Rattle.std.specs.List.{list_any}
-use Rattle.gql_plain.specs.Order.{has_text}
-use Rattle.schema_types.specs.NameRules.{fragment_named}
-use Rattle.gql_graph.specs.Reached.{leads, any_leads}
-use Rattle.gql_graph.specs.Rules.{each}
-use Rattle.schema_types.specs.Sites.{FragmentAt}
-use Rattle.schema_tables.specs.Types.{Text, Defs}
-use Rattle.gql_graph.proofs.LeastSteps.{each-append}
-use Rattle.gql_graph.proofs.TextSteps.{same_text}
-use Rattle.gql_plain.proofs.Booleans.{or_false}
-use Rattle.gql_graph.proofs.Listing.{has_either}
-use Rattle.schema_types.specs.FieldRules.{Key, spreads_below}
+use Rattle.doc_sites.specs.gql_plain.Order.{has_text}
+use Rattle.doc_sites.specs.schema_types.NameRules.{fragment_named}
+use Rattle.doc_sites.specs.gql_graph.Reached.{leads, any_leads}
+use Rattle.doc_sites.specs.gql_graph.Rules.{each}
+use Rattle.doc_sites.specs.schema_types.Sites.{FragmentAt}
+use Rattle.doc_sites.specs.schema_tables.Types.{Text, Defs}
+use Rattle.doc_sites.proofs.gql_graph_laws.LeastSteps.{each-append}
+use Rattle.doc_sites.proofs.gql_graph_laws.TextSteps.{same_text}
+use Rattle.doc_sites.proofs.gql_plain_laws.Booleans.{or_false}
+use Rattle.doc_sites.proofs.gql_graph_laws.Listing.{has_either}
+use Rattle.doc_sites.specs.schema_types.FieldRules.{Key, spreads_below}
 use Rattle.doc_fields.specs.Fragments.{next_or_none, spreads_in, spreads_of}
 use Rattle.doc_fields.specs.Heads.{all_of, below, kept_below, IsKnown, AreKnown, AreBelow}
 use Rattle.doc_fields.specs.Keys.{Sum, join_sums, keys_view, next_at_root, sum_of}

@@ -1,11 +1,11 @@
 -- Pairs of types that are known to have a possible type in common.
 use Rattle.std.proofs.Common.{◌≡◌, Bool, true, false, true≢false, cond, List, [], ◌∷◌, Option, Some, None, option_copied, bytes_eq, refl, ap, sym, subst, ◌∙◌}
-use Rattle.gql_plain.specs.Order.{has_text}
-use Rattle.schema_types.specs.FieldRules.{have_common_type}
-use Rattle.gql_graph.specs.Seen.{Knows}
-use Rattle.schema_tables.specs.Types.{Text, Defs}
-use Rattle.gql_graph.specs.declared.seen.Seen.{Seen}
-use Rattle.gql_graph.proofs.TextSteps.{either_of, same_text}
+use Rattle.doc_sites.specs.gql_plain.Order.{has_text}
+use Rattle.doc_sites.specs.schema_types.FieldRules.{have_common_type}
+use Rattle.doc_sites.specs.gql_graph.Seen.{Knows}
+use Rattle.doc_sites.specs.schema_tables.Types.{Text, Defs}
+use Rattle.doc_sites.specs.gql_graph.declared.seen.Seen.{Seen}
+use Rattle.doc_sites.proofs.gql_graph_laws.TextSteps.{either_of, same_text}
 use Rattle.doc_fields.specs.Common.{IsCommonWith, IsCommonIn}
 use denote.Ref.{Bor}
 

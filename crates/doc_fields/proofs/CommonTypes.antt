@@ -1,11 +1,11 @@
 -- Whether two types have a possible type in common: the possible types of either tell it.
 use Rattle.std.proofs.Common.{◌≡◌, Bool, true, false, true≢false, cond, ◌||◌, List, [], ◌∷◌, bytes_eq, refl, ap, sym, ◌∙◌}
 use Rattle.std.specs.List.{filter, filter_map, list_any}
-use Rattle.gql_plain.proofs.Booleans.{both_ways, or_true}
-use Rattle.gql_plain.specs.Order.{has_text, sorted_texts}
-use Rattle.gql_plain.proofs.SortedTexts.{has_text-sorted_texts}
-use Rattle.schema_tables.specs.Types.{Text, Defs, applies, object_name, possible}
-use Rattle.gql_graph.proofs.TextSteps.{same_text, either_of, some_of}
+use Rattle.doc_sites.proofs.gql_plain_laws.Booleans.{both_ways, or_true}
+use Rattle.doc_sites.specs.gql_plain.Order.{has_text, sorted_texts}
+use Rattle.doc_sites.proofs.gql_plain_laws.SortedTexts.{has_text-sorted_texts}
+use Rattle.doc_sites.specs.schema_tables.Types.{Text, Defs, applies, object_name, possible}
+use Rattle.doc_sites.proofs.gql_graph_laws.TextSteps.{same_text, either_of, some_of}
 
 -- some text passes
 has_some : (p : Text → Bool) (ns : List Text) (m : Text) → has_text ns m ≡ true → p m ≡ true → list_any p ns ≡ true

@@ -1,8 +1,8 @@
 -- A field by the name inside its type.
 use Rattle.std.proofs.Common.{◌≡◌, Bool, true, false, not, is_some, option_map, Option, Some, None, refl}
-use Rattle.gql_ast.specs.Ty.{Ty}
-use Rattle.schema_types.specs.FieldRules.{set_is_wrong, is_float}
-use Rattle.schema_tables.specs.Types.{Text, Defs, base_of}
+use Rattle.doc_sites.specs.gql_ast.Ty.{Ty}
+use Rattle.doc_sites.specs.schema_types.FieldRules.{set_is_wrong, is_float}
+use Rattle.doc_sites.specs.schema_tables.Types.{Text, Defs, base_of}
 use Rattle.doc_fields.specs.Bases.{set_wrong_of, float_of}
 
 pub set_by_base : (defs : Defs) (t : Option Ty) (has_set : Bool) → set_wrong_of defs (option_map base_of t) has_set ≡ set_is_wrong defs t has_set

@@ -1,8 +1,8 @@
 -- Keys that are found by names.
 use Rattle.std.proofs.Common.{◌≡◌, Bool, true, false, cond, ◌&&◌, List, [], Option, Some, option_map, unwrap_or, bytes_eq, refl, ap, sym, ◌∙◌}
-use Rattle.schema_types.specs.FieldRules.{Key}
-use Rattle.gql_graph.specs.Texts.{Text}
-use Rattle.gql_graph.proofs.TextSteps.{same_text}
+use Rattle.doc_sites.specs.schema_types.FieldRules.{Key}
+use Rattle.doc_sites.specs.gql_graph.Texts.{Text}
+use Rattle.doc_sites.proofs.gql_graph_laws.TextSteps.{same_text}
 use Rattle.doc_fields.specs.Keys.{Sum, join_sums, sum_of}
 use Rattle.doc_fields.proofs.Sums.{joined-none}
 

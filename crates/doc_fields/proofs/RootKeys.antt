@@ -2,17 +2,17 @@
 use Rattle.std.proofs.Common.{◌≡◌, Bool, cond, ◌&&◌, ◌||◌, List, [], ◌∷◌, ◌++◌, Option, None, refl, ap, sym, ◌∙◌}
 use Rattle.std.proofs.lemmas.List.Folds.{list_any-append}
 use Rattle.std.specs.List.{list_any}
-use Rattle.gql_ast.specs.SelectionView.{sel_before}
-use Rattle.gql_ast.specs.Sels.{Sels}
-use Rattle.gql_ast.specs.declared.document.Kind.TheVariants.{Subscription}
-use Rattle.gql_ast.specs.declared.selection.Selection.{Selection}
-use Rattle.gql_ast.specs.declared.selection.Selection.TheVariants as S
-use Rattle.schema_types.specs.FieldRules.{is_one_key, keys_in, keys_of_fragment, many_keys, root_keys, spreads_at_root, subscription_wrong}
-use Rattle.gql_graph.specs.Rules.{each}
-use Rattle.schema_types.specs.Sites.{FragmentAt, OperationAt}
-use Rattle.schema_tables.specs.Types.{Text, Defs, applies, root, same_kind}
-use Rattle.gql_ast.specs.declared.document.Kind.{Kind}
-use Rattle.gql_ast.specs.declared.document.Kind.TheVariants as K
+use Rattle.doc_sites.specs.gql_ast.SelectionView.{sel_before}
+use Rattle.doc_sites.specs.gql_ast.Sels.{Sels}
+use Rattle.doc_sites.specs.gql_ast.declared.document.Kind.TheVariants.{Subscription}
+use Rattle.doc_sites.specs.gql_ast.declared.selection.Selection.{Selection}
+use Rattle.doc_sites.specs.gql_ast.declared.selection.Selection.TheVariants as S
+use Rattle.doc_sites.specs.schema_types.FieldRules.{is_one_key, keys_in, keys_of_fragment, many_keys, root_keys, spreads_at_root, subscription_wrong}
+use Rattle.doc_sites.specs.gql_graph.Rules.{each}
+use Rattle.doc_sites.specs.schema_types.Sites.{FragmentAt, OperationAt}
+use Rattle.doc_sites.specs.schema_tables.Types.{Text, Defs, applies, root, same_kind}
+use Rattle.doc_sites.specs.gql_ast.declared.document.Kind.{Kind}
+use Rattle.doc_sites.specs.gql_ast.declared.document.Kind.TheVariants as K
 use Rattle.doc_fields.specs.Heads.{keys_of_name}
 use Rattle.doc_fields.specs.Keys.{keys_at, spreads_at, AreReached}
 use Rattle.doc_fields.proofs.SameKeys.{named_and_each, same_one_key}

@@ -2,12 +2,12 @@
 use Rattle.std.proofs.Common.{◌≡◌, Bool, true, false, true≢false, cond, not, ◌&&◌, ◌||◌, List, [], ◌∷◌, ◌++◌, bytes_eq, refl, ap, sym, ◌∙◌}
 use Rattle.std.proofs.lemmas.List.Folds.{list_any-append}
 use Rattle.std.specs.List.{list_any, list_all}
-use Rattle.gql_plain.specs.Order.{has_text}
-use Rattle.schema_types.specs.FieldRules.{Key, is_good_key, is_one_key}
-use Rattle.gql_graph.specs.Rules.{each}
-use Rattle.gql_graph.specs.Texts.{Text}
-use Rattle.gql_graph.proofs.TextSteps.{same_text, same_self}
-use Rattle.gql_plain.proofs.Booleans.{or_false, both_ways}
+use Rattle.doc_sites.specs.gql_plain.Order.{has_text}
+use Rattle.doc_sites.specs.schema_types.FieldRules.{Key, is_good_key, is_one_key}
+use Rattle.doc_sites.specs.gql_graph.Rules.{each}
+use Rattle.doc_sites.specs.gql_graph.Texts.{Text}
+use Rattle.doc_sites.proofs.gql_graph_laws.TextSteps.{same_text, same_self}
+use Rattle.doc_sites.proofs.gql_plain_laws.Booleans.{or_false, both_ways}
 
 -- two lists have the same keys
 abbrev pub HaveSame : List Key → List Key → Type 0

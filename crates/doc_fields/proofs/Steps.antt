@@ -3,16 +3,16 @@ use Rattle.std.proofs.Common.{◌≡◌, ℕ, ◌+◌, ◌<◌, ◌≤◌, Bool,
 use Rattle.std.proofs.Math.Seq.{drop-cons}
 use Rattle.std.proofs.lemmas.List.{append-nil, drop_all}
 use Rattle.std.specs.List.{slice_get}
-use Rattle.gql_ast.specs.SelectionView.{sel_before, sels_of}
-use Rattle.gql_ast.specs.Sels.{Sels}
-use Rattle.gql_ast.specs.declared.selection.Selection.{Selection}
-use Rattle.schema_types.specs.FieldRules.{condition_of_fragment}
-use Rattle.gql_graph.specs.Graphs.{Holds, first_next, next_in}
-use Rattle.schema_types.specs.NameRules.{fragments, fragment_named}
-use Rattle.gql_graph.specs.Rules.{each}
-use Rattle.schema_types.specs.Sites.{FragmentAt, DefinitionAt}
-use Rattle.gql_graph.specs.Texts.{Text}
-use Rattle.gql_graph.specs.declared.graph.Graph.{Graph}
+use Rattle.doc_sites.specs.gql_ast.SelectionView.{sel_before, sels_of}
+use Rattle.doc_sites.specs.gql_ast.Sels.{Sels}
+use Rattle.doc_sites.specs.gql_ast.declared.selection.Selection.{Selection}
+use Rattle.doc_sites.specs.schema_types.FieldRules.{condition_of_fragment}
+use Rattle.doc_sites.specs.gql_graph.Graphs.{Holds, first_next, next_in}
+use Rattle.doc_sites.specs.schema_types.NameRules.{fragments, fragment_named}
+use Rattle.doc_sites.specs.gql_graph.Rules.{each}
+use Rattle.doc_sites.specs.schema_types.Sites.{FragmentAt, DefinitionAt}
+use Rattle.doc_sites.specs.gql_graph.Texts.{Text}
+use Rattle.doc_sites.specs.gql_graph.declared.graph.Graph.{Graph}
 use Rattle.doc_sites.proofs.DefinitionSteps.{over_fragments}
 use Rattle.doc_sites.proofs.ListSteps.{collect_next}
 use Rattle.doc_sites.specs.Definitions.{on_fragment}

@@ -3,14 +3,14 @@ use Rattle.std.proofs.Common.{◌≡◌, ℕ, ◌+◌, ◌<◌, ◌≤◌, Bool,
 use Rattle.std.proofs.Math.Seq.{drop-cons}
 use Rattle.std.proofs.lemmas.List.{drop_all}
 use Rattle.std.specs.List.{list_all}
-use Rattle.gql_ast.specs.SelectionView.{sel_before, sels_of}
-use Rattle.gql_ast.specs.Sels.{Sels}
-use Rattle.gql_ast.specs.declared.selection.Selection.{Selection}
-use Rattle.schema_types.specs.FieldRules.{Key, is_good_key, is_one_key, keys_in}
-use Rattle.gql_graph.specs.Rules.{each}
-use Rattle.schema_types.specs.Sites.{typename}
-use Rattle.schema_tables.specs.Types.{Text, Defs}
-use Rattle.gql_graph.proofs.TextSteps.{same_text, same_self}
+use Rattle.doc_sites.specs.gql_ast.SelectionView.{sel_before, sels_of}
+use Rattle.doc_sites.specs.gql_ast.Sels.{Sels}
+use Rattle.doc_sites.specs.gql_ast.declared.selection.Selection.{Selection}
+use Rattle.doc_sites.specs.schema_types.FieldRules.{Key, is_good_key, is_one_key, keys_in}
+use Rattle.doc_sites.specs.gql_graph.Rules.{each}
+use Rattle.doc_sites.specs.schema_types.Sites.{typename}
+use Rattle.doc_sites.specs.schema_tables.Types.{Text, Defs}
+use Rattle.doc_sites.proofs.gql_graph_laws.TextSteps.{same_text, same_self}
 use Rattle.doc_fields.specs.Heads.{all_of}
 use Rattle.doc_fields.specs.Keys.{Sum, no_key, one_key, bad_keys, and_one, join_sums, key_sum, keys_at, sum_of, is_one}
 use Rattle.doc_fields.proofs.RootKeys.{keys_law}

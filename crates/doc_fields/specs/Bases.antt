@@ -1,6 +1,6 @@
 -- What is wrong with a field, by the name inside its type.
 use Rattle.std.specs.Prelude.{Bool, true, false, codes, Option, Some, None, bytes_eq}
-use Rattle.schema_tables.specs.Types.{Text, Defs, is_leaf, is_composite}
+use Rattle.doc_sites.specs.schema_tables.Types.{Text, Defs, is_leaf, is_composite}
 
 -- whether a field has a set too many, or one too few
 abbrev pub set_wrong_of : Defs → (base : Option Text) → (has_set : Bool) → Bool

@@ -3,11 +3,11 @@ use Rattle.std.specs.Prelude.{◌≡◌, true, List, Option, Some, None}
 use Rattle.std.specs.BTreeMap.{get_by}
 use Rattle.std.specs.Cmp.Lexicographic.{slice_cmp}
 use Rattle.std.specs.Ordering.{nat_cmp}
-use Rattle.gql_plain.specs.Order.{has_text}
-use Rattle.schema_types.specs.FieldRules.{have_common_type}
-use Rattle.gql_graph.specs.Seen.{Knows}
-use Rattle.schema_tables.specs.Types.{Text, Defs}
-use Rattle.gql_graph.specs.declared.seen.Seen.{Seen}
+use Rattle.doc_sites.specs.gql_plain.Order.{has_text}
+use Rattle.doc_sites.specs.schema_types.FieldRules.{have_common_type}
+use Rattle.doc_sites.specs.gql_graph.Seen.{Knows}
+use Rattle.doc_sites.specs.schema_tables.Types.{Text, Defs}
+use Rattle.doc_sites.specs.gql_graph.declared.seen.Seen.{Seen}
 use Rattle.doc_fields.specs.declared.common_types.CommonTypes.{CommonTypes}
 
 -- a type has one in common with each of these

@@ -1,9 +1,9 @@
 -- What the fragments of names lead to.
 use Rattle.std.specs.Prelude.{List, [], ◌∷◌, Option, Some, None}
-use Rattle.schema_types.specs.FieldRules.{spreads_below}
-use Rattle.schema_types.specs.NameRules.{fragment_named}
-use Rattle.schema_types.specs.Sites.{FragmentAt}
-use Rattle.schema_tables.specs.Types.{Text, Defs}
+use Rattle.doc_sites.specs.schema_types.FieldRules.{spreads_below}
+use Rattle.doc_sites.specs.schema_types.NameRules.{fragment_named}
+use Rattle.doc_sites.specs.schema_types.Sites.{FragmentAt}
+use Rattle.doc_sites.specs.schema_tables.Types.{Text, Defs}
 
 abbrev pub next_or_none : (FragmentAt → List Text) → Option FragmentAt → List Text
 next_or_none next None = []

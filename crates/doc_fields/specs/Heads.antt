@@ -3,12 +3,12 @@ use Rattle.std.specs.Prelude.{◌≡◌, ℕ, zero, suc, ◌≤◌, ◌&&◌, Li
 use Rattle.std.specs.BTreeMap.{get_by}
 use Rattle.std.specs.Cmp.Lexicographic.{slice_cmp}
 use Rattle.std.specs.Ordering.{nat_cmp}
-use Rattle.schema_types.specs.FieldRules as rules
-use Rattle.schema_types.specs.FieldRules.{keys_in}
-use Rattle.gql_graph.specs.Graphs.{Tells}
-use Rattle.gql_graph.specs.Rules.{each}
-use Rattle.schema_types.specs.Sites.{FragmentAt}
-use Rattle.schema_tables.specs.Types.{Text, Defs, applies}
+use Rattle.doc_sites.specs.schema_types.FieldRules as rules
+use Rattle.doc_sites.specs.schema_types.FieldRules.{keys_in}
+use Rattle.doc_sites.specs.gql_graph.Graphs.{Tells}
+use Rattle.doc_sites.specs.gql_graph.Rules.{each}
+use Rattle.doc_sites.specs.schema_types.Sites.{FragmentAt}
+use Rattle.doc_sites.specs.schema_tables.Types.{Text, Defs, applies}
 use Rattle.doc_fields.specs.Keys.{Sum, no_key, join_sums, keys_view, next_at_root, sum_of}
 use Rattle.doc_fields.specs.declared.below.KeysBelow.{KeysBelow}
 use Rattle.doc_fields.specs.declared.heads.Heads.{Heads}

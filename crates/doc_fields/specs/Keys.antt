@@ -1,14 +1,14 @@
 -- Keys and spreads at the root, one selection and one fragment at a time.
 use Rattle.std.specs.Prelude.{◌≡◌, Bool, true, false, ◌||◌, List, [], ◌∷◌, length, cond, bytes_eq}
-use Rattle.gql_plain.specs.Order.{has_text}
-use Rattle.gql_ast.specs.declared.selection.Selection.{Selection}
-use Rattle.gql_ast.specs.declared.selection.Selection.TheVariants as S
-use Rattle.schema_types.specs.FieldRules as rules
-use Rattle.schema_types.specs.FieldRules.{takes_root, keys_in, spreads_at_root, spreads_below}
-use Rattle.schema_types.specs.NameRules.{fragment_named}
-use Rattle.gql_graph.specs.Reached.{any_leads}
-use Rattle.schema_types.specs.Sites.{FragmentAt, typename}
-use Rattle.schema_tables.specs.Types.{Text, Defs}
+use Rattle.doc_sites.specs.gql_plain.Order.{has_text}
+use Rattle.doc_sites.specs.gql_ast.declared.selection.Selection.{Selection}
+use Rattle.doc_sites.specs.gql_ast.declared.selection.Selection.TheVariants as S
+use Rattle.doc_sites.specs.schema_types.FieldRules as rules
+use Rattle.doc_sites.specs.schema_types.FieldRules.{takes_root, keys_in, spreads_at_root, spreads_below}
+use Rattle.doc_sites.specs.schema_types.NameRules.{fragment_named}
+use Rattle.doc_sites.specs.gql_graph.Reached.{any_leads}
+use Rattle.doc_sites.specs.schema_types.Sites.{FragmentAt, typename}
+use Rattle.doc_sites.specs.schema_tables.Types.{Text, Defs}
 use Rattle.doc_fields.specs.declared.keys.RootKeys.{RootKeys}
 use Rattle.doc_fields.specs.declared.keys.RootKeys.TheVariants as K
 

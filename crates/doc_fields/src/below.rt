@@ -2,17 +2,16 @@
 //! October 2021, section 5.2.3.1). They are gathered once a fragment, after those of the fragments
 //! that it spreads. A fragment that leads back to itself, or to such a one, is left out.
 ghost use Rattle.std.specs.Prelude.{◌≡◌, ℕ, suc, cond, map, bytes_eq, option_map, List, None, Some, IfOk, OnOk};
-ghost use Rattle.gql_graph.specs.Graphs.{Tells};
-ghost use Rattle.gql_graph.specs.Texts.{Text};
+ghost use Rattle.doc_sites.specs.gql_graph.Graphs.{Tells};
+ghost use Rattle.doc_sites.specs.gql_graph.Texts.{Text};
 ghost use Rattle.doc_fields.specs.Heads.{all_of, keys_found, kept_below, AreBelow, AreKnown, IsKnown};
 ghost use Rattle.doc_fields.specs.Keys.{keys_view, Sum};
 
 use crate::heads::Heads;
 use crate::keys::RootKeys;
-use doc_sites::DefinitionAt;
-use gql_graph::graph::Graph;
-use gql_graph::ranks::Ranks;
-use gql_plain::NoMemory;
+use doc_sites::graph::Graph;
+use doc_sites::ranks::Ranks;
+use doc_sites::{DefinitionAt, NoMemory};
 use std::alloc::Global;
 use std::collections::BTreeMap;
 

@@ -1,7 +1,7 @@
 //! The first of the rules V7 to V11 that documents do not meet.
 ghost use Rattle.std.specs.Prelude.{◌≡◌, map, IfOk, IfErr, OnOk};
-ghost use Rattle.schema_types.specs.DocumentRules.{AreFaulty, Meet, field_rules};
-ghost use Rattle.schema_rules.specs.Rules as rules;
+ghost use Rattle.doc_sites.specs.schema_types.DocumentRules.{AreFaulty, Meet, field_rules};
+ghost use Rattle.doc_sites.specs.schema_rules.Rules as rules;
 ghost use Rattle.doc_sites.specs.Definitions.{AreIn};
 ghost use Rattle.doc_sites.specs.SitesView.{definition_of};
 
@@ -10,12 +10,11 @@ use crate::rules::floats::floats_selected;
 use crate::rules::sets::sets_wrong;
 use crate::rules::subscriptions::subscriptions_wrong;
 use crate::rules::undefined::fields_undefined;
-use doc_sites::{DefinitionAt, definitions_at};
-use gql_ast::Documents;
-use gql_graph::first::First;
-use gql_graph::least::Least;
-use gql_plain::NoMemory;
-use schema_types::{NodeFault, Rule, RuleFault, Schema};
+use doc_sites::first::First;
+use doc_sites::least::Least;
+use doc_sites::{
+    DefinitionAt, Documents, NoMemory, NodeFault, Rule, RuleFault, Schema, definitions_at,
+};
 use std::alloc::Global;
 
 /// Checks the rules on fields. Sections are those of GraphQL, October 2021.

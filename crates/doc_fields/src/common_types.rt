@@ -1,13 +1,12 @@
 //! Types that have a possible type in common (GraphQL, October 2021, section 5.5.2.3).
 ghost use Rattle.std.specs.Prelude.{◌≡◌, true, map, IfOk, IsTrue, OnOk};
 ghost use Rattle.std.specs.List.{list_any};
-ghost use Rattle.schema_types.specs.FieldRules as rules;
-ghost use Rattle.schema_tables.specs.Types as types;
+ghost use Rattle.doc_sites.specs.schema_types.FieldRules as rules;
+ghost use Rattle.doc_sites.specs.schema_tables.Types as types;
 ghost use Rattle.doc_fields.specs.Common.{AreCommon, IsCommonWith};
 
-use gql_graph::seen::Seen;
-use gql_plain::{Ids, NoMemory};
-use schema_types::Schema;
+use doc_sites::seen::Seen;
+use doc_sites::{Ids, NoMemory, Schema};
 use std::alloc::Global;
 use std::collections::BTreeMap;
 

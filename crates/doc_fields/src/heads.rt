@@ -1,17 +1,15 @@
 //! The keys of the fragments that apply to a root type, by the names of the fragments (GraphQL,
 //! October 2021, section 5.2.3.1).
 ghost use Rattle.std.specs.Prelude.{◌≡◌, cond, map, bytes_eq, option_map, IfOk, OnOk};
-ghost use Rattle.schema_types.specs.NameRules as names;
-ghost use Rattle.gql_graph.specs.Texts.{Text};
+ghost use Rattle.doc_sites.specs.schema_types.NameRules as names;
+ghost use Rattle.doc_sites.specs.gql_graph.Texts.{Text};
 ghost use Rattle.doc_sites.specs.SitesView.{definition_of, fragment_of};
 ghost use Rattle.doc_sites.specs.Definitions.{on_fragment};
 ghost use Rattle.doc_fields.specs.Heads.{all_of, keys_found, keys_kept, keys_named, keys_of_name};
 ghost use Rattle.doc_fields.specs.Keys.{join_sums, keys_view, no_key, sum_of};
 
 use crate::keys::{RootKeys, keys_in};
-use doc_sites::{DefinitionAt, FragmentAt};
-use gql_plain::NoMemory;
-use schema_types::Schema;
+use doc_sites::{DefinitionAt, FragmentAt, NoMemory, Schema};
 use std::alloc::Global;
 use std::collections::BTreeMap;
 

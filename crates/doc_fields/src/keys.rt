@@ -1,11 +1,9 @@
 //! Response keys at the root of an operation (GraphQL, October 2021, sections 2.7 and 5.2.3.1).
 ghost use Rattle.std.specs.Prelude.{◌≡◌};
-ghost use Rattle.schema_types.specs.FieldRules as rules;
+ghost use Rattle.doc_sites.specs.schema_types.FieldRules as rules;
 ghost use Rattle.doc_fields.specs.Keys.{and_one, is_one, join_sums, key_sum, keys_at, keys_view, one_key, sum_of};
 
-use gql_ast::{Selection, Selections};
-use gql_plain::Name;
-use schema_types::Schema;
+use doc_sites::{Name, Schema, Selection, Selections};
 
 /// Which response keys there are.
 #[derive(Clone, Copy)]

@@ -1,10 +1,10 @@
 //! The fragments that apply to a root type, with those that they spread there (GraphQL, October
 //! 2021, section 5.2.3.1).
 ghost use Rattle.std.specs.Prelude.{◌≡◌, map, ◌++◌, List, IfOk, OnOk};
-ghost use Rattle.schema_types.specs.FieldRules as rules;
-ghost use Rattle.gql_graph.specs.Graphs.{Holds, Tells};
-ghost use Rattle.schema_types.specs.NameRules as names;
-ghost use Rattle.gql_graph.specs.Texts.{Text};
+ghost use Rattle.doc_sites.specs.schema_types.FieldRules as rules;
+ghost use Rattle.doc_sites.specs.gql_graph.Graphs.{Holds, Tells};
+ghost use Rattle.doc_sites.specs.schema_types.NameRules as names;
+ghost use Rattle.doc_sites.specs.gql_graph.Texts.{Text};
 ghost use Rattle.doc_sites.specs.SitesView.{definition_of, fragment_of};
 ghost use Rattle.doc_sites.specs.Definitions.{on_fragment};
 ghost use Rattle.doc_fields.specs.Fragments.{leading, spreads_in, spreads_of};
@@ -14,11 +14,10 @@ ghost use Rattle.doc_fields.specs.Keys.{spreads_at};
 use crate::below::{KeysBelow, keys_below};
 use crate::heads::{Heads, heads_of_each};
 use crate::keys::takes_root;
-use doc_sites::{DefinitionAt, FragmentAt, count_fragments};
-use gql_ast::{Selection, Selections};
-use gql_graph::graph::Graph;
-use gql_plain::NoMemory;
-use schema_types::Schema;
+use doc_sites::graph::Graph;
+use doc_sites::{
+    DefinitionAt, FragmentAt, NoMemory, Schema, Selection, Selections, count_fragments,
+};
 use std::alloc::Global;
 
 /// The fragments that apply to the root type.

@@ -7,7 +7,7 @@ use Rattle.doc_merge.specs.Places.{wrong}
 use Rattle.doc_merge.specs.Shapes.{same_shape}
 use Rattle.doc_merge.specs.Signatures.{same_signature}
 use Rattle.doc_merge.specs.Standard.{depth, each_set_can_merge, fields_in_set_can_merge, join, later, pairs, same_response_shape}
-use Rattle.gql_ast.specs.declared.place.FilePlace.{FilePlace}
+use Rattle.plan_ir.specs.gql_ast.declared.place.FilePlace.{FilePlace}
 
 abbrev In : (FilePlace → Bool) → List FilePlace → Type 0
 In p xs = list_any p xs ≡ true

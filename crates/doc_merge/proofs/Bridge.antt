@@ -5,9 +5,9 @@ use Rattle.doc_merge.proofs.Anys.{any-append, any-map, any_and, any_none, any_or
 use Rattle.doc_merge.specs.Merging.{Field, Fields, against, crossing, differ, differences, field, meet, no_fields}
 use Rattle.doc_merge.specs.Paths.{Path, conflict, faulty, here, paths, place_of, under}
 use Rattle.doc_merge.specs.Places.{wrong}
-use Rattle.gql_ast.specs.declared.place.FilePlace.{FilePlace}
-use Rattle.gql_graph.proofs.TextSteps.{same_self}
-use Rattle.schema_tables.specs.Types.{Text}
+use Rattle.plan_ir.specs.gql_ast.declared.place.FilePlace.{FilePlace}
+use Rattle.plan_ir.proofs.gql_graph_laws.TextSteps.{same_self}
+use Rattle.plan_ir.specs.schema_tables.Types.{Text}
 
 abbrev hits : Bool → (FilePlace → Bool) → Path → List Path → Bool
 hits m p x ys = list_any (λ y. conflict m x y && p (place_of y)) ys

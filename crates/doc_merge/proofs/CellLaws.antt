@@ -9,9 +9,9 @@ use Rattle.doc_merge.specs.Joined.{same_parent, same_pattern}
 use Rattle.doc_merge.specs.Paths.{Pattern, all_meet, faulty}
 use Rattle.doc_merge.specs.Places.{wrong}
 use Rattle.doc_merge.specs.Signatures.{Signature, same_signature}
-use Rattle.gql_ast.specs.declared.place.FilePlace.{FilePlace}
-use Rattle.gql_graph.proofs.TextSteps.{same_text}
-use Rattle.schema_tables.specs.Types.{Text}
+use Rattle.plan_ir.specs.gql_ast.declared.place.FilePlace.{FilePlace}
+use Rattle.plan_ir.proofs.gql_graph_laws.TextSteps.{same_text}
+use Rattle.plan_ir.specs.schema_tables.Types.{Text}
 
 -- ---- patterns
 

@@ -3,8 +3,8 @@ use Rattle.std.proofs.Common.{◌≡◌, Bool, true, false, true≢false, cond, 
 use Rattle.std.proofs.lemmas.Bool.{or_parts}
 use Rattle.std.specs.List.{All, filter, list_any}
 use Rattle.std.proofs.lemmas.List.Elements.{All-cons, All-nil}
-use Rattle.gql_graph.proofs.TextSteps.{same_self}
-use Rattle.schema_tables.specs.Types.{Text}
+use Rattle.plan_ir.proofs.gql_graph_laws.TextSteps.{same_self}
+use Rattle.plan_ir.specs.schema_tables.Types.{Text}
 use Rattle.doc_merge.proofs.Anys.{any-append}
 use Rattle.doc_merge.proofs.Bridge.{differences_are}
 use Rattle.doc_merge.proofs.Equals.{and_left, and_right}

@@ -5,9 +5,9 @@ use Rattle.std.specs.List.{list_all, list_any}
 use Rattle.doc_merge.proofs.Anys.{or_true}
 use Rattle.doc_merge.proofs.Levels.{text_turned}
 use Rattle.doc_merge.specs.Signatures.{Argument, Signature, are_within, same_argument, same_arguments, same_members, same_signature, same_value, same_values}
-use Rattle.gql_ast.specs.Value.{Val, Vals, Members, variable, int, text, truth, null, enum, list, object, no_vals, val, no_members, member}
-use Rattle.gql_graph.proofs.TextSteps.{same_self, same_text}
-use Rattle.schema_tables.specs.Types.{Text}
+use Rattle.plan_ir.specs.gql_ast.Value.{Val, Vals, Members, variable, int, text, truth, null, enum, list, object, no_vals, val, no_members, member}
+use Rattle.plan_ir.proofs.gql_graph_laws.TextSteps.{same_self, same_text}
+use Rattle.plan_ir.specs.schema_tables.Types.{Text}
 
 pub and_left : (a b : Bool) → (a && b) ≡ true → a ≡ true
 and_left true b e = refl

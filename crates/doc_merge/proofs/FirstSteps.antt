@@ -1,8 +1,8 @@
 -- The first element of a list, where it has one.
 use Rattle.std.proofs.Common.{◌≡◌, Bool, true, false, List, [], ◌∷◌, map, Option, Some, None, slice_get, refl, ap, sym, ◌∙◌}
 use Rattle.std.specs.Prelude.{option_copied}
-use Rattle.gql_ast.specs.declared.place.FilePlace.{FilePlace}
-use Rattle.schema_tables.specs.Types.{Defs}
+use Rattle.plan_ir.specs.gql_ast.declared.place.FilePlace.{FilePlace}
+use Rattle.plan_ir.specs.schema_tables.Types.{Defs}
 use Rattle.doc_merge.specs.Cells.{are_like, have_one}
 use Rattle.doc_merge.specs.Joined.{from_first, row_place, shapes_unlike, unlike}
 use Rattle.doc_merge.specs.Places.{least_from}

@@ -6,9 +6,9 @@ use Rattle.plan_ir.specs.Nodes.{Nodes, set_depth}
 use Rattle.plan_ir.specs.NodesView.{node_before, node_of, nodes_of}
 use Rattle.plan_ir.specs.declared.node.Node.{Node}
 use Rattle.plan_ir.specs.declared.node.Node.TheVariants as N
-use Rattle.gql_ast.specs.Ty.{Ty}
-use Rattle.gql_ast.specs.declared.place.FilePlace.{FilePlace}
-use Rattle.schema_tables.specs.Types.{Text, Defs, base_of}
+use Rattle.plan_ir.specs.gql_ast.Ty.{Ty}
+use Rattle.plan_ir.specs.gql_ast.declared.place.FilePlace.{FilePlace}
+use Rattle.plan_ir.specs.schema_tables.Types.{Text, Defs, base_of}
 use Rattle.doc_merge.specs.Gathering.{fields_before, fields_of, object_or_none, on_or}
 use Rattle.doc_merge.specs.Merging.{Fields}
 use Rattle.doc_merge.specs.Paths.{Pattern, Row, rows_of}

@@ -15,9 +15,9 @@ use Rattle.doc_merge.specs.Merging.{Fields, meet}
 use Rattle.doc_merge.specs.Paths.{Item, Path, Pattern, Row, all_meet, clash, conflict, faulty, here, item_place, items, paths, place_of, places_of, rows_of}
 use Rattle.doc_merge.specs.Shapes.{same_shape}
 use Rattle.doc_merge.specs.Signatures.{same_signature}
-use Rattle.gql_ast.specs.declared.place.FilePlace.{FilePlace}
-use Rattle.gql_graph.proofs.TextSteps.{same_text}
-use Rattle.schema_tables.specs.Types.{Text}
+use Rattle.plan_ir.specs.gql_ast.declared.place.FilePlace.{FilePlace}
+use Rattle.plan_ir.proofs.gql_graph_laws.TextSteps.{same_text}
+use Rattle.plan_ir.specs.schema_tables.Types.{Text}
 
 abbrev head : Row → Item
 head w = (w.0, here w.1)

@@ -2,8 +2,8 @@
 use Rattle.std.proofs.Common.{◌≡◌, ℕ, ◌+◌, ◌<◌, ◌≤◌, Bool, true, false, cond, List, [], ◌∷◌, ◌++◌, take, length, get_or, Option, Some, bytes_eq, Vec, Global, refl, ap, sym, ◌∙◌}
 use Rattle.std.proofs.lemmas.List.{append-nil, take_all, take_more}
 use Rattle.std.specs.List.{filter}
-use Rattle.gql_graph.proofs.TextSteps.{same_text}
-use Rattle.schema_tables.specs.Types.{Text}
+use Rattle.plan_ir.proofs.gql_graph_laws.TextSteps.{same_text}
+use Rattle.plan_ir.specs.schema_tables.Types.{Text}
 use Rattle.doc_merge.proofs.Classes.{filter-append}
 use Rattle.doc_merge.proofs.Levels.{text_turned}
 use Rattle.doc_merge.proofs.MapSteps.{found}

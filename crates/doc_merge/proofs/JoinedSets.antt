@@ -8,9 +8,9 @@ use Rattle.doc_merge.specs.Merging.{Field, Fields, differ, field, meet, no_field
 use Rattle.doc_merge.specs.Paths.{Item, Path, Pattern, Row, all_meet, clash, conflict, faulty, here, items, items_of_row, paths, place_of, rows_of, under}
 use Rattle.doc_merge.specs.Shapes.{same_shape}
 use Rattle.doc_merge.specs.Signatures.{same_signature}
-use Rattle.gql_ast.specs.declared.place.FilePlace.{FilePlace}
-use Rattle.gql_graph.proofs.TextSteps.{same_text}
-use Rattle.schema_tables.specs.Types.{Text}
+use Rattle.plan_ir.specs.gql_ast.declared.place.FilePlace.{FilePlace}
+use Rattle.plan_ir.proofs.gql_graph_laws.TextSteps.{same_text}
+use Rattle.plan_ir.specs.schema_tables.Types.{Text}
 
 -- the joined set below a class
 abbrev pub below_rows : List Row → List Row

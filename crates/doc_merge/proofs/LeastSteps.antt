@@ -3,7 +3,7 @@ use Rattle.std.proofs.Common.{◌≡◌, ℕ, Bool, true, false, true≢false, c
 use Rattle.std.specs.List.{list_any}
 use Rattle.doc_merge.proofs.Anys.{or_assoc, or_false, or_true}
 use Rattle.doc_merge.specs.Places.{is_before, least_from, lower}
-use Rattle.gql_ast.specs.declared.place.FilePlace.{FilePlace}
+use Rattle.plan_ir.specs.gql_ast.declared.place.FilePlace.{FilePlace}
 
 -- ---- the order of places
 

@@ -1,8 +1,8 @@
 -- Parents that meet at each level.
 use Rattle.std.proofs.Common.{◌≡◌, Bool, true, false, Option, Some, None, bytes_eq, refl, ap, sym, ◌∙◌}
 use Rattle.doc_merge.specs.Merging.{meet}
-use Rattle.gql_graph.proofs.TextSteps.{same_self, same_text}
-use Rattle.schema_tables.specs.Types.{Text}
+use Rattle.plan_ir.proofs.gql_graph_laws.TextSteps.{same_self, same_text}
+use Rattle.plan_ir.specs.schema_tables.Types.{Text}
 
 -- none, or this object type
 abbrev pub none_or : Text → Option Text → Bool

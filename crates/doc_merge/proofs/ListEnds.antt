@@ -1,9 +1,9 @@
 -- Comparing two lists place by place: where they differ in length, and where both are at their end.
 use Rattle.std.proofs.Common.{◌≡◌, ◌≢◌, ℕ, Bool, true, false, ◌&&◌, List, [], ◌∷◌, map, length, bytes_eq, refl, arith}
-use Rattle.gql_ast.specs.Value.{Val, vals_of, members_of}
-use Rattle.gql_ast.specs.ValueView.{value_of, argument_of}
-use Rattle.gql_ast.specs.declared.value.Argument.{Argument}
-use Rattle.gql_ast.specs.declared.value.ValueTree.{ValueTree}
+use Rattle.plan_ir.specs.gql_ast.Value.{Val, vals_of, members_of}
+use Rattle.plan_ir.specs.gql_ast.ValueView.{value_of, argument_of}
+use Rattle.plan_ir.specs.gql_ast.declared.value.Argument.{Argument}
+use Rattle.plan_ir.specs.gql_ast.declared.value.ValueTree.{ValueTree}
 use Rattle.doc_merge.specs.Signatures.{same_members, same_value, same_values}
 
 abbrev pub same_lists : List ValueTree → List ValueTree → Bool

@@ -1,7 +1,7 @@
 -- What a map from texts tells, after one is taken out or put in.
 use Rattle.std.proofs.Common.{◌≡◌, Bool, true, false, cond, List, [], Option, Some, None, option_map, unwrap_or, bytes_eq, refl, ap, sym, ◌∙◌}
-use Rattle.gql_graph.proofs.TextSteps.{same_text}
-use Rattle.schema_tables.specs.Types.{Text}
+use Rattle.plan_ir.proofs.gql_graph_laws.TextSteps.{same_text}
+use Rattle.plan_ir.specs.schema_tables.Types.{Text}
 
 abbrev pub found : {V C : Type 0} → (V → List C) → Option V → List C
 found view o = unwrap_or (option_map view o) []

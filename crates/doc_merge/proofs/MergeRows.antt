@@ -1,22 +1,22 @@
 -- Worked rows of V24 and V23: the places at fault in expanded sets.
 use Rattle.std.proofs.Common.{◌≡◌, refl, ℕ, List, [], ◌∷◌, Some, None, codes}
 use Rattle.std.specs.Prelude.{pos}
-use Rattle.gql_ast.specs.Ty as ty
-use Rattle.gql_ast.specs.Ty.{Ty}
-use Rattle.gql_ast.specs.Value as v
-use Rattle.gql_ast.specs.Value.{Val}
-use Rattle.gql_ast.specs.declared.document.Kind.TheVariants as K
-use Rattle.gql_ast.specs.declared.member.FieldTree.{FieldTree}
-use Rattle.gql_ast.specs.declared.member.InputTree.{InputTree}
-use Rattle.gql_ast.specs.declared.place.FilePlace.{FilePlace}
-use Rattle.gql_ast.specs.declared.schema.SchemaDef.TheVariants as S
-use Rattle.gql_ast.specs.declared.type_tree.TypeTree.{TypeTree}
-use Rattle.gql_ast.specs.declared.type_tree.TypeTree.TheVariants as T
-use Rattle.gql_ast.specs.declared.variable.VariableDef.{VariableDef}
+use Rattle.plan_ir.specs.gql_ast.Ty as ty
+use Rattle.plan_ir.specs.gql_ast.Ty.{Ty}
+use Rattle.plan_ir.specs.gql_ast.Value as v
+use Rattle.plan_ir.specs.gql_ast.Value.{Val}
+use Rattle.plan_ir.specs.gql_ast.declared.document.Kind.TheVariants as K
+use Rattle.plan_ir.specs.gql_ast.declared.member.FieldTree.{FieldTree}
+use Rattle.plan_ir.specs.gql_ast.declared.member.InputTree.{InputTree}
+use Rattle.plan_ir.specs.gql_ast.declared.place.FilePlace.{FilePlace}
+use Rattle.plan_ir.specs.gql_ast.declared.schema.SchemaDef.TheVariants as S
+use Rattle.plan_ir.specs.gql_ast.declared.type_tree.TypeTree.{TypeTree}
+use Rattle.plan_ir.specs.gql_ast.declared.type_tree.TypeTree.TheVariants as T
+use Rattle.plan_ir.specs.gql_ast.declared.variable.VariableDef.{VariableDef}
 use Rattle.plan_ir.specs.Nodes.{Nodes, end, field, inline}
 use Rattle.plan_ir.specs.declared.expanded.Expanded.{Expanded}
-use Rattle.schema_rules.specs.declared.fault.Rule.TheVariants as R
-use Rattle.schema_tables.specs.Types.{Text, Defs}
+use Rattle.plan_ir.specs.schema_rules.declared.fault.Rule.TheVariants as R
+use Rattle.plan_ir.specs.schema_tables.Types.{Text, Defs}
 use Rattle.doc_merge.specs.Faults.{first_fault}
 use Rattle.doc_merge.specs.Gathering.{fields_of}
 use Rattle.doc_merge.specs.Merging.{differences}

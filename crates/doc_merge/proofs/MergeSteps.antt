@@ -2,8 +2,8 @@
 use Rattle.std.proofs.Common.{◌≡◌, ℕ, suc, ◌+◌, ◌*◌, ◌<◌, ◌≤◌, Bool, true, false, cond, List, [], ◌∷◌, ◌++◌, map, drop, length, get_or, Option, None, bytes_eq, append_assoc, refl, ap, sym, subst, ◌∙◌, max, arith}
 use Rattle.std.proofs.lemmas.List.{drop_all, length-map}
 use Rattle.std.specs.List.{filter, list_any}
-use Rattle.gql_ast.specs.declared.place.FilePlace.{FilePlace}
-use Rattle.schema_tables.specs.Types.{Text, Defs}
+use Rattle.plan_ir.specs.gql_ast.declared.place.FilePlace.{FilePlace}
+use Rattle.plan_ir.specs.schema_tables.Types.{Text, Defs}
 use Rattle.doc_merge.proofs.Anys.{any-map, any_same}
 use Rattle.doc_merge.proofs.Bridge.{differences_are}
 use Rattle.doc_merge.proofs.GroupLaws.{every_true, group_faults, group_places, own_rows}

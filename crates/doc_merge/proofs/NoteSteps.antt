@@ -1,7 +1,7 @@
 -- Noting one more of the places of a list.
 use Rattle.std.proofs.Common.{◌≡◌, ℕ, ◌+◌, ◌<◌, Bool, true, false, cond, ◌||◌, List, ◌∷◌, ◌++◌, Option, map, drop, length, get_or, add-one, refl, ap, sym, ◌∙◌}
 use Rattle.std.proofs.Math.Seq.{drop-cons}
-use Rattle.gql_ast.specs.declared.place.FilePlace.{FilePlace}
+use Rattle.plan_ir.specs.gql_ast.declared.place.FilePlace.{FilePlace}
 use Rattle.doc_merge.proofs.LeastSteps.{least-append}
 use Rattle.doc_merge.specs.Joined.{from_first, row_place}
 use Rattle.doc_merge.specs.Paths.{Row}

@@ -6,7 +6,7 @@ use Rattle.doc_merge.specs.Cells.{Cell, Mark, all_out, differs, has_object, has_
 use Rattle.doc_merge.specs.Merging.{meet}
 use Rattle.doc_merge.specs.Paths.{Pattern, all_meet}
 use Rattle.doc_merge.specs.Signatures.{same_signature}
-use Rattle.schema_tables.specs.Types.{Text}
+use Rattle.plan_ir.specs.schema_tables.Types.{Text}
 
 -- ---- patterns
 

@@ -1,6 +1,6 @@
 -- One more field is compared with those that were put.
 use Rattle.std.proofs.Common.{◌≡◌, ℕ, ◌+◌, ◌<◌, Bool, ◌||◌, List, Option, map, drop, length, get_or, ap, sym, ◌∙◌}
-use Rattle.gql_ast.specs.declared.place.FilePlace.{FilePlace}
+use Rattle.plan_ir.specs.gql_ast.declared.place.FilePlace.{FilePlace}
 use Rattle.doc_merge.proofs.CellLaws.{others_same}
 use Rattle.doc_merge.proofs.LeastSteps.{least-append}
 use Rattle.doc_merge.proofs.NoteSteps.{drop_next}

@@ -4,7 +4,7 @@ use Rattle.std.specs.List.{between}
 use Rattle.std.specs.Prelude.{option_copied}
 use Rattle.std.proofs.lemmas.Slice.{first_rest}
 use denote.Ref.{Bor}
-use Rattle.schema_tables.specs.Types.{Text}
+use Rattle.plan_ir.specs.schema_tables.Types.{Text}
 use Rattle.doc_merge.proofs.PatternSteps.{ParentList, parents}
 use Rattle.doc_merge.specs.Cells.{innermost, outer}
 

@@ -3,7 +3,7 @@ use Rattle.std.proofs.Common.{◌≡◌, ◌≢◌, ℕ, ◌+◌, ◌<◌, ◌�
 use Rattle.std.specs.Prelude.{option_copied}
 use Rattle.std.proofs.lemmas.List.{append-nil, drop_all, get_or_default}
 use denote.Ref.{Bor}
-use Rattle.schema_tables.specs.Types.{Text, Defs}
+use Rattle.plan_ir.specs.schema_tables.Types.{Text, Defs}
 use Rattle.doc_merge.proofs.NoteSteps.{drop_next}
 use Rattle.doc_merge.specs.Cells.{one_out, outer, with_pattern}
 use Rattle.doc_merge.specs.Joined.{first_parent, own_pattern, own_row, same_parent, same_pattern, with_patterns}

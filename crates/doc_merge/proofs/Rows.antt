@@ -1,9 +1,9 @@
 -- Worked rows: the places of the fields that differ from an earlier one.
 use Rattle.std.proofs.Common.{◌≡◌, refl, ℕ, ◌++◌, List, [], ◌∷◌, map, Option, Some, None, codes, true}
 use Rattle.std.specs.Prelude.{pos}
-use Rattle.gql_ast.specs.Value as v
-use Rattle.gql_ast.specs.declared.place.FilePlace.{FilePlace}
-use Rattle.schema_tables.specs.Types.{Text}
+use Rattle.plan_ir.specs.gql_ast.Value as v
+use Rattle.plan_ir.specs.gql_ast.declared.place.FilePlace.{FilePlace}
+use Rattle.plan_ir.specs.schema_tables.Types.{Text}
 use Rattle.doc_merge.specs.Merging.{Fields, no_fields, field, differences}
 use Rattle.doc_merge.specs.Paths.{conflict, faulty, paths, place_of}
 use Rattle.doc_merge.specs.Places.{least}

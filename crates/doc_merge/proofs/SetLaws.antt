@@ -7,9 +7,9 @@ use Rattle.doc_merge.proofs.Equals.{and_left}
 use Rattle.doc_merge.proofs.JoinedSets.{every-append, every_map, filter_map_all, filter_map_none}
 use Rattle.doc_merge.specs.Joined.{every, has_key}
 use Rattle.doc_merge.specs.Paths.{Item, Path, Row, all_meet, clash, conflict, faulty, here, item_place, items, items_of_row, paths, places_of, under}
-use Rattle.gql_ast.specs.declared.place.FilePlace.{FilePlace}
-use Rattle.gql_graph.proofs.TextSteps.{same_self, same_text}
-use Rattle.schema_tables.specs.Types.{Text}
+use Rattle.plan_ir.specs.gql_ast.declared.place.FilePlace.{FilePlace}
+use Rattle.plan_ir.proofs.gql_graph_laws.TextSteps.{same_self, same_text}
+use Rattle.plan_ir.specs.schema_tables.Types.{Text}
 
 -- ---- groups lose no pair
 

@@ -1,8 +1,8 @@
 -- Shapes are compared by an equivalence.
 use Rattle.std.proofs.Common.{◌≡◌, true, true≢false, Option, Some, None, refl, ap, sym, ◌∙◌}
 use Rattle.doc_merge.specs.Shapes.{Shape, base, list, non_null, same_base, same_shape}
-use Rattle.gql_graph.proofs.TextSteps.{same_self, same_text}
-use Rattle.schema_tables.specs.Types.{Text}
+use Rattle.plan_ir.proofs.gql_graph_laws.TextSteps.{same_self, same_text}
+use Rattle.plan_ir.specs.schema_tables.Types.{Text}
 
 same_base-sound : (a b : Option Text) → same_base a b ≡ true → a ≡ b
 same_base-sound (Some m) (Some n) h = ap Some (same_text m n h)

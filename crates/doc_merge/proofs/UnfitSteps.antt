@@ -1,17 +1,17 @@
 -- Noting the values of a node, and then those of what stands in it.
 use Rattle.std.proofs.Common.{◌≡◌, List, [], ◌++◌, Option, ap, sym, ◌∙◌}
-use Rattle.gql_ast.specs.TypeView.{ty_of}
-use Rattle.gql_ast.specs.declared.directive.Directive.{Directive}
-use Rattle.gql_ast.specs.declared.place.FilePlace.{FilePlace}
-use Rattle.gql_ast.specs.declared.type_tree.TypeTree.{TypeTree}
-use Rattle.gql_ast.specs.declared.variable.VariableDef.{VariableDef}
-use Rattle.gql_plain.specs.declared.ids.Conn.{Conn}
+use Rattle.plan_ir.specs.gql_ast.TypeView.{ty_of}
+use Rattle.plan_ir.specs.gql_ast.declared.directive.Directive.{Directive}
+use Rattle.plan_ir.specs.gql_ast.declared.place.FilePlace.{FilePlace}
+use Rattle.plan_ir.specs.gql_ast.declared.type_tree.TypeTree.{TypeTree}
+use Rattle.plan_ir.specs.gql_ast.declared.variable.VariableDef.{VariableDef}
+use Rattle.plan_ir.specs.gql_plain.declared.ids.Conn.{Conn}
 use Rattle.plan_ir.specs.Nodes.{Nodes}
 use Rattle.plan_ir.specs.NodesView.{node_of}
 use Rattle.plan_ir.specs.declared.node.Node.{Node}
 use Rattle.plan_ir.specs.declared.node.Node.TheVariants as N
-use Rattle.schema_tables.specs.Types.{Text, Defs, base_of}
-use Rattle.schema_tables.specs.Views.{InputDef}
+use Rattle.plan_ir.specs.schema_tables.Types.{Text, Defs, base_of}
+use Rattle.plan_ir.specs.schema_tables.Views.{InputDef}
 use Rattle.doc_merge.proofs.LeastSteps.{least-append}
 use Rattle.doc_merge.specs.Gathering.{on_or}
 use Rattle.doc_merge.specs.Places.{least_from}

@@ -3,17 +3,17 @@ use Rattle.std.specs.Prelude.{option_copied}
 use denote.Ref.{Bor}
 use Rattle.std.proofs.Common.{◌≡◌, ℕ, cond, bytes_eq, Some, ◌+◌, ◌<◌, Bool, true, false, not, List, ◌++◌, map, drop, length, get_or, Option, refl, ap, sym, ◌∙◌}
 use Rattle.std.proofs.lemmas.List.{append-nil}
-use Rattle.gql_ast.specs.ValueView.{value_of, argument_of}
-use Rattle.gql_ast.specs.declared.directive.Directive.{Directive}
-use Rattle.gql_ast.specs.declared.place.FilePlace.{FilePlace}
-use Rattle.gql_ast.specs.declared.value.Argument.{Argument}
-use Rattle.gql_ast.specs.declared.variable.VariableDef.{VariableDef}
+use Rattle.plan_ir.specs.gql_ast.ValueView.{value_of, argument_of}
+use Rattle.plan_ir.specs.gql_ast.declared.directive.Directive.{Directive}
+use Rattle.plan_ir.specs.gql_ast.declared.place.FilePlace.{FilePlace}
+use Rattle.plan_ir.specs.gql_ast.declared.value.Argument.{Argument}
+use Rattle.plan_ir.specs.gql_ast.declared.variable.VariableDef.{VariableDef}
 use Rattle.plan_ir.specs.Nodes.{Nodes}
 use Rattle.plan_ir.specs.NodesView.{node_before, node_of, nodes_of}
 use Rattle.plan_ir.specs.declared.node.Node.{Node}
 use Rattle.plan_ir.specs.declared.node.Node.TheVariants as N
-use Rattle.schema_tables.specs.Types.{Text, Defs}
-use Rattle.schema_tables.specs.Views.{InputDef}
+use Rattle.plan_ir.specs.schema_tables.Types.{Text, Defs}
+use Rattle.plan_ir.specs.schema_tables.Views.{InputDef}
 use Rattle.doc_merge.proofs.LeastSteps.{least-append}
 use Rattle.doc_merge.proofs.NoteSteps.{drop_next}
 use Rattle.doc_merge.specs.Places.{least_from, wrong}

@@ -2,12 +2,12 @@
 -- (this project's own way to judge section 5.3.2).
 use Rattle.std.specs.Prelude.{Bool, true, false, cond, not, ◌&&◌, ◌||◌, List, [], ◌∷◌, ◌++◌, Option, Some, None, is_some}
 use Rattle.std.specs.List.{list_any, list_all}
-use Rattle.gql_ast.specs.declared.place.FilePlace.{FilePlace}
+use Rattle.plan_ir.specs.gql_ast.declared.place.FilePlace.{FilePlace}
 use Rattle.doc_merge.specs.Joined.{same_pattern}
 use Rattle.doc_merge.specs.Paths.{Pattern, Row, all_meet}
 use Rattle.doc_merge.specs.Places.{wrong}
 use Rattle.doc_merge.specs.Signatures.{Signature, same_signature}
-use Rattle.schema_tables.specs.Types.{Text}
+use Rattle.plan_ir.specs.schema_tables.Types.{Text}
 
 -- what of a field counts here
 pub record Mark : Type 0 where

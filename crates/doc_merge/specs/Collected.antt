@@ -1,7 +1,7 @@
 -- Fields that are collected for one object, and have one form where all fields can merge (GraphQL, October 2021, sections 5.3.2 and 6.3.2).
 use Rattle.std.specs.Prelude.{◌≡◌, Bool, true, false, ◌&&◌, List, [], ◌∷◌, Option, Some, None, bytes_eq}
 use Rattle.std.specs.List.{All}
-use Rattle.schema_tables.specs.Types.{Text}
+use Rattle.plan_ir.specs.schema_tables.Types.{Text}
 use Rattle.doc_merge.specs.Merging.{Field}
 use Rattle.doc_merge.specs.Paths.{Path, here, under}
 use Rattle.doc_merge.specs.Signatures.{same_signature}

@@ -1,11 +1,11 @@
 -- The first fault of an expanded operation or fragment (this project's own): V23, and then V24.
 use Rattle.std.specs.Prelude.{◌≡◌, List, [], Option, Some, None}
-use Rattle.gql_ast.specs.declared.document.Kind.{Kind}
-use Rattle.gql_ast.specs.declared.place.FilePlace.{FilePlace}
+use Rattle.plan_ir.specs.gql_ast.declared.document.Kind.{Kind}
+use Rattle.plan_ir.specs.gql_ast.declared.place.FilePlace.{FilePlace}
 use Rattle.plan_ir.specs.declared.expanded.Expanded.{Expanded}
-use Rattle.schema_rules.specs.declared.fault.Rule.{Rule}
-use Rattle.schema_rules.specs.declared.fault.Rule.TheVariants as R
-use Rattle.schema_tables.specs.Types.{Defs}
+use Rattle.plan_ir.specs.schema_rules.declared.fault.Rule.{Rule}
+use Rattle.plan_ir.specs.schema_rules.declared.fault.Rule.TheVariants as R
+use Rattle.plan_ir.specs.schema_tables.Types.{Defs}
 use Rattle.doc_merge.specs.Gathering.{fields_in}
 use Rattle.doc_merge.specs.Merging.{differences}
 use Rattle.doc_merge.specs.Places.{least}

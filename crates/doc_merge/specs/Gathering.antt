@@ -3,8 +3,8 @@ use Rattle.std.specs.Prelude.{cond, Option, Some, None}
 use Rattle.plan_ir.specs.Nodes as nodes
 use Rattle.plan_ir.specs.Nodes.{Nodes}
 use Rattle.plan_ir.specs.declared.expanded.Expanded.{Expanded}
-use Rattle.schema_rules.specs.Rules.{is_object}
-use Rattle.schema_tables.specs.Types.{Text, Defs, base_of}
+use Rattle.plan_ir.specs.schema_rules.Rules.{is_object}
+use Rattle.plan_ir.specs.schema_tables.Types.{Text, Defs, base_of}
 use Rattle.doc_merge.specs.Merging.{Fields, no_fields, field}
 use Rattle.doc_merge.specs.Shapes.{shape_of}
 

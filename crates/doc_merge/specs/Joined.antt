@@ -1,8 +1,8 @@
 -- The rows of one response key, and the one set that all their sub-selections make (this project's own way to judge sections 5.3.2).
 use Rattle.std.specs.Prelude.{◌≡◌, ℕ, suc, Bool, true, false, cond, not, ◌&&◌, ◌||◌, List, [], ◌∷◌, ◌++◌, map, Option, Some, None, bytes_eq, max}
 use Rattle.std.specs.List.{list_any}
-use Rattle.gql_ast.specs.declared.place.FilePlace.{FilePlace}
-use Rattle.schema_tables.specs.Types.{Text}
+use Rattle.plan_ir.specs.gql_ast.declared.place.FilePlace.{FilePlace}
+use Rattle.plan_ir.specs.schema_tables.Types.{Text}
 use Rattle.doc_merge.specs.Merging.{meet}
 use Rattle.doc_merge.specs.Paths.{Pattern, Row, rows_of}
 use Rattle.doc_merge.specs.Shapes.{same_shape}

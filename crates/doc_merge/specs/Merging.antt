@@ -1,7 +1,7 @@
 -- Field selections can merge (GraphQL, October 2021, section 5.3.2).
 use Rattle.std.specs.Prelude.{Bool, true, cond, not, ◌&&◌, ◌||◌, List, [], ◌++◌, Option, Some, None, bytes_eq}
-use Rattle.gql_ast.specs.declared.place.FilePlace.{FilePlace}
-use Rattle.schema_tables.specs.Types.{Text}
+use Rattle.plan_ir.specs.gql_ast.declared.place.FilePlace.{FilePlace}
+use Rattle.plan_ir.specs.schema_tables.Types.{Text}
 use Rattle.doc_merge.specs.Places.{wrong}
 use Rattle.doc_merge.specs.Shapes.{Shape, same_shape}
 use Rattle.doc_merge.specs.Signatures.{Signature, same_signature}

@@ -1,8 +1,8 @@
 -- The same pairs of fields, flat: each field of a set with the fields around it, and which of them differ from an earlier one.
 use Rattle.std.specs.Prelude.{Bool, true, false, ◌&&◌, List, [], ◌∷◌, ◌++◌, map, Option, bytes_eq}
 use Rattle.std.specs.List.{filter}
-use Rattle.gql_ast.specs.declared.place.FilePlace.{FilePlace}
-use Rattle.schema_tables.specs.Types.{Text}
+use Rattle.plan_ir.specs.gql_ast.declared.place.FilePlace.{FilePlace}
+use Rattle.plan_ir.specs.schema_tables.Types.{Text}
 use Rattle.doc_merge.specs.Merging.{Field, Fields, no_fields, field, meet, differ}
 
 -- a field with the fields around it, the outermost first

@@ -1,6 +1,6 @@
 -- The least of places in files.
 use Rattle.std.specs.Prelude.{Bool, true, false, ◌&&◌, ◌||◌, cond, nat_lt, nat_eq, List, [], ◌∷◌, Option, Some, None}
-use Rattle.gql_ast.specs.declared.place.FilePlace.{FilePlace}
+use Rattle.plan_ir.specs.gql_ast.declared.place.FilePlace.{FilePlace}
 
 -- before, in the order of the files, of their lines and of the columns
 abbrev pub is_before : FilePlace → FilePlace → Bool

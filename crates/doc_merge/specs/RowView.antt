@@ -2,8 +2,8 @@
 use Rattle.std.specs.Global.{Global}
 use Rattle.std.specs.Prelude.{Option, map, option_copied, Vec}
 use denote.Ref.{Bor}
-use Rattle.gql_ast.specs.TypeView.{ty_of}
-use Rattle.schema_tables.specs.Types.{Text, Defs, base_of}
+use Rattle.plan_ir.specs.gql_ast.TypeView.{ty_of}
+use Rattle.plan_ir.specs.schema_tables.Types.{Text, Defs, base_of}
 use Rattle.doc_merge.specs.Cells.{Mark}
 use Rattle.doc_merge.specs.Gathering.{fields_of}
 use Rattle.doc_merge.specs.Merging as spec

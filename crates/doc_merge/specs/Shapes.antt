@@ -1,8 +1,8 @@
 -- The shape of a type, as far as a response shows it (GraphQL, October 2021, section 5.3.2, SameResponseShape).
 use Rattle.std.specs.Prelude.{Bool, true, false, cond, Option, Some, None, bytes_eq}
-use Rattle.gql_ast.specs.Ty as ty
-use Rattle.gql_ast.specs.Ty.{Ty}
-use Rattle.schema_tables.specs.Types.{Text, Defs, is_composite}
+use Rattle.plan_ir.specs.gql_ast.Ty as ty
+use Rattle.plan_ir.specs.gql_ast.Ty.{Ty}
+use Rattle.plan_ir.specs.schema_tables.Types.{Text, Defs, is_composite}
 
 -- lists and non-null forms at each level; inside them a leaf by its name, or none for a composite type
 pub data Shape : Type 0 where

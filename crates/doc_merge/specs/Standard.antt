@@ -1,7 +1,7 @@
 -- The standard's own form of the same rule, with joined sets: of each pair of a set, then of the joined set of the pair
 -- (GraphQL, October 2021, section 5.3.2). The number bounds how many sets stand in one another.
 use Rattle.std.specs.Prelude.{ℕ, zero, suc, cond, not, List, [], ◌++◌, bytes_eq, max}
-use Rattle.gql_ast.specs.declared.place.FilePlace.{FilePlace}
+use Rattle.plan_ir.specs.gql_ast.declared.place.FilePlace.{FilePlace}
 use Rattle.doc_merge.specs.Merging.{Field, Fields, no_fields, field, meet}
 use Rattle.doc_merge.specs.Places.{wrong}
 use Rattle.doc_merge.specs.Shapes.{same_shape}

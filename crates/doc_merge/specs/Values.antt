@@ -1,19 +1,19 @@
 -- In an expanded operation each use of a variable is allowed, and each literal that was put in for a local variable fits (this project's
 -- own; GraphQL, October 2021, sections 5.6.1 and 5.8.5 for what is allowed and what fits).
 use Rattle.std.specs.Prelude.{Bool, true, false, not, ◌&&◌, cond, List, [], ◌∷◌, ◌++◌, Option, Some, None, option_map, bytes_eq}
-use Rattle.gql_ast.specs.TypeView.{ty_of}
-use Rattle.gql_ast.specs.Value.{Val, Vals, Members, variable, list, object, no_vals, val, no_members, member}
-use Rattle.gql_ast.specs.declared.member.InputTree.{InputTree}
-use Rattle.gql_ast.specs.declared.directive.Directive.{Directive}
-use Rattle.gql_ast.specs.declared.place.FilePlace.{FilePlace}
-use Rattle.gql_ast.specs.declared.variable.VariableDef.{VariableDef}
+use Rattle.plan_ir.specs.gql_ast.TypeView.{ty_of}
+use Rattle.plan_ir.specs.gql_ast.Value.{Val, Vals, Members, variable, list, object, no_vals, val, no_members, member}
+use Rattle.plan_ir.specs.gql_ast.declared.member.InputTree.{InputTree}
+use Rattle.plan_ir.specs.gql_ast.declared.directive.Directive.{Directive}
+use Rattle.plan_ir.specs.gql_ast.declared.place.FilePlace.{FilePlace}
+use Rattle.plan_ir.specs.gql_ast.declared.variable.VariableDef.{VariableDef}
 use Rattle.plan_ir.specs.Nodes.{Nodes, end, field, inline}
-use Rattle.schema_tables.specs.BuiltIn as known
-use Rattle.schema_tables.specs.Fits.{literal_fits, use_allowed}
-use Rattle.schema_tables.specs.Types.{Text, Defs, base_of, field_def, field_on}
-use Rattle.schema_tables.specs.Views.{DirectiveDef, FieldDef, InputDef}
-use Rattle.schema_tables.specs.Inputs.{input_among}
-use Rattle.schema_types.specs.ArgumentRules.{Place, fields_at, item_place, place_among, place_for}
+use Rattle.plan_ir.specs.schema_tables.BuiltIn as known
+use Rattle.plan_ir.specs.schema_tables.Fits.{literal_fits, use_allowed}
+use Rattle.plan_ir.specs.schema_tables.Types.{Text, Defs, base_of, field_def, field_on}
+use Rattle.plan_ir.specs.schema_tables.Views.{DirectiveDef, FieldDef, InputDef}
+use Rattle.plan_ir.specs.schema_tables.Inputs.{input_among}
+use Rattle.plan_ir.specs.schema_types.ArgumentRules.{Place, fields_at, item_place, place_among, place_for}
 use Rattle.doc_merge.specs.Gathering.{on_or}
 use Rattle.doc_merge.specs.Places.{wrong}
 use Rattle.doc_merge.specs.Signatures.{Argument}

@@ -1,13 +1,13 @@
 //! Cells of fields under the object types at the innermost level around them.
 ghost use Rattle.std.specs.Prelude.{◌≡◌, [], cond, bytes_eq, OnOk};
-ghost use Rattle.schema_tables.specs.Types.{Text};
+ghost use Rattle.plan_ir.specs.schema_tables.Types.{Text};
 ghost use Rattle.doc_merge.specs.Cells as spec;
 ghost use Rattle.doc_merge.specs.CellView.{cells_of, cells_under};
 ghost use Rattle.doc_merge.specs.RowView.{mark_of};
 
 use crate::cells::Cells;
 use crate::row::Row;
-use gql_plain::NoMemory;
+use plan_ir::NoMemory;
 use std::alloc::Global;
 use std::collections::BTreeMap;
 

@@ -9,7 +9,7 @@ ghost use Rattle.doc_merge.specs.RowView.{mark_of, pattern_of, signature_of};
 use crate::pattern::{all_meet, same_pattern};
 use crate::row::Row;
 use crate::signature::same_signature;
-use gql_plain::NoMemory;
+use plan_ir::NoMemory;
 use std::alloc::Global;
 
 /// The fields with one pattern: the first of them, and whether another differs from it.

@@ -6,9 +6,7 @@ ghost use Rattle.doc_merge.specs.Faults.{IsFirstFault, first_fault};
 use crate::fault::{MergeFault, PlaceFault};
 use crate::merging::least_difference;
 use crate::values::least_unfit;
-use gql_ast::FilePlace;
-use plan_ir::Expanded;
-use schema_types::{Rule, Schema};
+use plan_ir::{Expanded, FilePlace, Rule, Schema};
 use std::alloc::Global;
 
 /// Checks an expanded operation or fragment, in this order:

@@ -1,7 +1,5 @@
 //! Why a check of an expanded operation or fragment fails.
-use gql_ast::FilePlace;
-use gql_plain::NoMemory;
-use schema_types::Rule;
+use plan_ir::{FilePlace, NoMemory, Rule};
 
 /// A rule that an expanded operation or fragment does not meet, and the place where it does not.
 #[derive(Clone, Copy, Debug, PartialEq, Eq)]

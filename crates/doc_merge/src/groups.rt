@@ -1,12 +1,12 @@
 //! The fields of a set by their response keys.
 ghost use Rattle.std.specs.Prelude.{◌≡◌, ◌++◌, [], ◌∷◌, List, cond, bytes_eq, IfOk, OnOk};
 ghost use Rattle.std.specs.List.{filter};
-ghost use Rattle.schema_tables.specs.Types.{Text};
+ghost use Rattle.plan_ir.specs.schema_tables.Types.{Text};
 ghost use Rattle.doc_merge.specs.GroupView.{Gathers, has_key};
 ghost use Rattle.doc_merge.specs.declared.row.Row as declared;
 
 use crate::row::Row;
-use gql_plain::NoMemory;
+use plan_ir::NoMemory;
 use std::alloc::Global;
 use std::collections::BTreeMap;
 

@@ -1,7 +1,7 @@
 //! What holds of the definitions.
 ghost use Rattle.std.specs.Prelude.{◌≡◌, ◌≤◌, ℕ, Bool, [], ◌++◌};
 ghost use Rattle.std.specs.List.{list_any};
-ghost use Rattle.gql_ast.specs.declared.place.FilePlace.{FilePlace};
+ghost use Rattle.plan_ir.specs.gql_ast.declared.place.FilePlace.{FilePlace};
 ghost use Rattle.doc_merge.specs.Collected.{AreAlike, Pairwise};
 ghost use Rattle.doc_merge.specs.Merging.{Fields, differences};
 ghost use Rattle.doc_merge.specs.Paths.{paths};

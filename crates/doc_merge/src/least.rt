@@ -3,7 +3,7 @@ ghost use Rattle.std.specs.Prelude.{◌≡◌, [], ◌∷◌, None};
 ghost use Rattle.doc_merge.specs.Places as places;
 ghost use Rattle.doc_merge.specs.Places.{least_from, wrong};
 
-use gql_ast::FilePlace;
+use plan_ir::FilePlace;
 
 /// The least of the places that were noted, by file, line and column.
 #[derive(Clone, Copy, Debug)]

@@ -5,7 +5,7 @@
 //! Fields of one response key are judged together, and then the one set that all their
 //! sub-selections make. So each field is in one joined set.
 ghost use Rattle.std.specs.Prelude.{◌≡◌, map, IfOk, OnOk};
-ghost use Rattle.schema_tables.specs.Types.{Text};
+ghost use Rattle.plan_ir.specs.schema_tables.Types.{Text};
 ghost use Rattle.doc_merge.specs.Gathering.{fields_in};
 ghost use Rattle.doc_merge.specs.Joined as joined;
 ghost use Rattle.doc_merge.specs.Merging.{differences};
@@ -19,11 +19,8 @@ use crate::others::note_signatures;
 use crate::pattern::{has_two_objects, own_patterns, with_patterns};
 use crate::row::{Row, put_fields};
 use crate::shape::note_shapes;
-use gql_ast::FilePlace;
-use gql_plain::NoMemory;
-use plan_ir::Expanded;
-use schema_tables::type_forms::base_of;
-use schema_types::Schema;
+use plan_ir::type_forms::base_of;
+use plan_ir::{Expanded, FilePlace, NoMemory, Schema};
 use std::alloc::Global;
 
 /// The least place where the fields of an expanded operation or fragment differ.

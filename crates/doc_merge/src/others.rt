@@ -15,7 +15,7 @@ use crate::cells::Cells;
 use crate::least::Least;
 use crate::row::Row;
 use crate::signature::same_signature;
-use gql_plain::NoMemory;
+use plan_ir::NoMemory;
 use std::alloc::Global;
 
 /// The fields that were put.

@@ -3,11 +3,11 @@ ghost use Rattle.std.specs.Prelude.{◌≡◌, map, option_copied, IfOk};
 ghost use Rattle.doc_merge.specs.Joined as spec;
 ghost use Rattle.doc_merge.specs.Merging as merging;
 ghost use Rattle.doc_merge.specs.Paths as paths;
-ghost use Rattle.schema_tables.specs.Types.{Defs};
+ghost use Rattle.plan_ir.specs.schema_tables.Types.{Defs};
 ghost use Rattle.doc_merge.specs.RowView.{parent_of, pattern_of, pattern_items, row_of};
 
 use crate::row::Row;
-use gql_plain::NoMemory;
+use plan_ir::NoMemory;
 use std::alloc::Global;
 
 /// Whether two types are the same, or one is no object type.

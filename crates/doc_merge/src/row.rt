@@ -2,15 +2,12 @@
 //! section 5.3.2).
 ghost use Rattle.std.specs.Prelude.{◌≡◌, ◌++◌, map, option_copied, OnOk};
 ghost use Rattle.plan_ir.specs.NodesView.{node_of};
-ghost use Rattle.schema_rules.specs.Rules as types;
+ghost use Rattle.plan_ir.specs.schema_rules.Rules as types;
 ghost use Rattle.doc_merge.specs.Gathering as gathering;
 ghost use Rattle.doc_merge.specs.Paths.{rows_of};
 ghost use Rattle.doc_merge.specs.RowView.{row_of};
 
-use gql_ast::{Arguments, FilePlace, TypeTree};
-use gql_plain::{Name, NoMemory};
-use plan_ir::{Node, Nodes};
-use schema_types::{Schema, TypeKind};
+use plan_ir::{Arguments, FilePlace, Name, NoMemory, Node, Nodes, Schema, TypeKind, TypeTree};
 
 /// A field of a set.
 #[derive(Clone, Copy)]

@@ -1,6 +1,6 @@
 //! Shapes of types (GraphQL, October 2021, section 5.3.2, SameResponseShape).
 ghost use Rattle.std.specs.Prelude.{◌≡◌, false, not, map, ◌||◌};
-ghost use Rattle.gql_ast.specs.TypeView.{ty_of};
+ghost use Rattle.plan_ir.specs.gql_ast.TypeView.{ty_of};
 ghost use Rattle.doc_merge.specs.Joined.{from_first, row_place, shapes_unlike, unlike};
 ghost use Rattle.doc_merge.specs.Places.{least_from};
 ghost use Rattle.doc_merge.specs.RowView.{row_of};
@@ -8,8 +8,7 @@ ghost use Rattle.doc_merge.specs.Shapes as spec;
 
 use crate::least::Least;
 use crate::row::Row;
-use gql_ast::TypeTree;
-use schema_types::Schema;
+use plan_ir::{Schema, TypeTree};
 
 /// Notes the fields of one response key from the first on whose shape is not that of the first one.
 pub(crate) fn note_shapes(schema: &Schema, least: &mut Least, group: &[Row<'_, '_>])

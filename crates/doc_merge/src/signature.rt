@@ -1,13 +1,13 @@
 //! Names and arguments of fields (GraphQL, October 2021, section 5.3.2, FieldsInSetCanMerge).
 ghost use Rattle.std.specs.Prelude.{◌≡◌};
 ghost use Rattle.std.specs.List.{list_any};
-ghost use Rattle.gql_ast.specs.Value.{members_of, vals_of};
-ghost use Rattle.gql_ast.specs.ValueView as tree;
+ghost use Rattle.plan_ir.specs.gql_ast.Value.{members_of, vals_of};
+ghost use Rattle.plan_ir.specs.gql_ast.ValueView as tree;
 ghost use Rattle.doc_merge.specs.RowView.{signature_of};
 ghost use Rattle.doc_merge.specs.Signatures as spec;
 
 use crate::row::Field;
-use gql_ast::{Argument, Arguments, ValueTree, ValueTrees};
+use plan_ir::{Argument, Arguments, ValueTree, ValueTrees};
 
 /// Whether two fields have one name and the same arguments, in any order.
 pub(crate) fn same_signature(one: &Field<'_>, other: &Field<'_>) -> bool

@@ -2,10 +2,10 @@
 //! each literal that was put in for a local variable fits. Its place is that of the field, the inline
 //! fragment or the spread in whose arguments or directives it stands.
 ghost use Rattle.std.specs.Prelude.{◌≡◌, option_copied, option_map, IfOk, OnOk};
-ghost use Rattle.gql_ast.specs.Value.{members_of, vals_of};
-ghost use Rattle.gql_ast.specs.ValueView as tree;
+ghost use Rattle.plan_ir.specs.gql_ast.Value.{members_of, vals_of};
+ghost use Rattle.plan_ir.specs.gql_ast.ValueView as tree;
 ghost use Rattle.plan_ir.specs.NodesView.{node_of};
-ghost use Rattle.doc_uses.specs.UseView.{fields_of_name, place_of};
+ghost use Rattle.plan_ir.specs.doc_uses.UseView.{fields_of_name, place_of};
 ghost use Rattle.doc_merge.specs.Faults.{values_unfit};
 ghost use Rattle.doc_merge.specs.Places.{least, least_from};
 ghost use Rattle.doc_merge.specs.UseView.{Names};
@@ -14,14 +14,12 @@ ghost use Rattle.doc_merge.specs.Values as spec;
 use crate::least::Least;
 use crate::row::on_or;
 use crate::variables::Variables;
-use doc_uses::{Place, field_place, item_place, name_of_place, place_of_input};
-use gql_ast::{
-    Argument, Arguments, Directive, Directives, FilePlace, ValueTree, ValueTrees, VariableDef,
+use plan_ir::type_forms::base_of;
+use plan_ir::{
+    Argument, Arguments, Directive, Directives, Expanded, FilePlace, InputDef, InputDefs, NoMemory,
+    Node, Nodes, Place, Schema, ValueTree, ValueTrees, VariableDef, field_place, item_place,
+    name_of_place, place_of_input,
 };
-use gql_plain::NoMemory;
-use plan_ir::{Expanded, Node, Nodes};
-use schema_tables::type_forms::base_of;
-use schema_types::{InputDef, InputDefs, Schema};
 use std::alloc::Global;
 
 /// The least place in an operation where a value does not fit or a use is not allowed; none in a

@@ -3,8 +3,7 @@ ghost use Rattle.std.specs.Prelude.{◌≡◌, IfOk, option_copied};
 ghost use Rattle.doc_merge.specs.UseView.{Names};
 ghost use Rattle.doc_merge.specs.Values.{variable_named};
 
-use gql_ast::{VariableDef, VariableDefs};
-use gql_plain::NoMemory;
+use plan_ir::{NoMemory, VariableDef, VariableDefs};
 use std::alloc::Global;
 use std::collections::BTreeMap;
 

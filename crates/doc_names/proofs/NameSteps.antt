@@ -1,13 +1,13 @@
 -- Steps of noting names.
 use Rattle.std.proofs.Common.{◌≡◌, ℕ, ◌+◌, ◌<◌, List, [], ◌∷◌, Option, map, drop, length, get_or, add-one, sym, ap, ◌∙◌}
 use Rattle.std.proofs.Math.Seq.{drop-cons}
-use Rattle.gql_graph.specs.Leasts.{least_from}
-use Rattle.schema_types.specs.NameRules.{not_there, names_of_all, fragment_names, spreads_in, sites_of, without_root}
-use Rattle.gql_graph.specs.Rules.{each}
-use Rattle.schema_types.specs.Sites.{DefinitionAt}
-use Rattle.schema_tables.specs.Types.{Defs}
-use Rattle.schema_trees.specs.declared.located.NameAt.{NameAt}
-use Rattle.gql_graph.proofs.LeastSteps.{noted-append}
+use Rattle.doc_sites.specs.gql_graph.Leasts.{least_from}
+use Rattle.doc_sites.specs.schema_types.NameRules.{not_there, names_of_all, fragment_names, spreads_in, sites_of, without_root}
+use Rattle.doc_sites.specs.gql_graph.Rules.{each}
+use Rattle.doc_sites.specs.schema_types.Sites.{DefinitionAt}
+use Rattle.doc_sites.specs.schema_tables.Types.{Defs}
+use Rattle.doc_sites.specs.schema_trees.declared.located.NameAt.{NameAt}
+use Rattle.doc_sites.proofs.gql_graph_laws.LeastSteps.{noted-append}
 use Rattle.doc_sites.specs.Definitions.{on_operation}
 
 pub ruleset noting = (noted-append)

@@ -1,11 +1,11 @@
 -- Spreads that lead back to the fragment in which they stand.
 use Rattle.std.specs.Prelude.{ℕ, List}
-use Rattle.schema_trees.specs.Located.{Located}
-use Rattle.schema_types.specs.NameRules.{leads_back, spreads_in}
-use Rattle.gql_graph.specs.Reached.{leads}
-use Rattle.gql_graph.specs.Rules.{each, wrong}
-use Rattle.schema_types.specs.Sites.{FragmentAt}
-use Rattle.gql_graph.specs.Texts.{Text}
+use Rattle.doc_sites.specs.schema_trees.Located.{Located}
+use Rattle.doc_sites.specs.schema_types.NameRules.{leads_back, spreads_in}
+use Rattle.doc_sites.specs.gql_graph.Reached.{leads}
+use Rattle.doc_sites.specs.gql_graph.Rules.{each, wrong}
+use Rattle.doc_sites.specs.schema_types.Sites.{FragmentAt}
+use Rattle.doc_sites.specs.gql_graph.Texts.{Text}
 
 -- those in a fragment, among all
 abbrev pub leads_back_in : (all : List FragmentAt) → FragmentAt → List ℕ

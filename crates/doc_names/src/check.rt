@@ -2,8 +2,8 @@
 ghost use Rattle.std.specs.Prelude.{◌≡◌, map, IfErr, IfOk, OnOk};
 ghost use Rattle.doc_sites.specs.Definitions.{AreIn};
 ghost use Rattle.doc_sites.specs.SitesView.{definition_of};
-ghost use Rattle.schema_types.specs.DocumentRules.{AreFaulty, Meet, name_rules};
-ghost use Rattle.schema_rules.specs.Rules as rules;
+ghost use Rattle.doc_sites.specs.schema_types.DocumentRules.{AreFaulty, Meet, name_rules};
+ghost use Rattle.doc_sites.specs.schema_rules.Rules as rules;
 
 use crate::rules::conditions::conditions_wrong;
 use crate::rules::cycles::spreads_on_cycles;
@@ -11,12 +11,11 @@ use crate::rules::fragments::fragments_not_unique;
 use crate::rules::operations::operations_not_named;
 use crate::rules::roots::roots_missing;
 use crate::rules::spreads::fragments_not_there;
-use doc_sites::{DefinitionAt, definitions_at};
-use gql_ast::Documents;
-use gql_graph::first::First;
-use gql_graph::least::Least;
-use gql_plain::NoMemory;
-use schema_types::{NodeFault, Rule, RuleFault, Schema};
+use doc_sites::first::First;
+use doc_sites::least::Least;
+use doc_sites::{
+    DefinitionAt, Documents, NoMemory, NodeFault, Rule, RuleFault, Schema, definitions_at,
+};
 use std::alloc::Global;
 
 /// Checks the names of operations and fragments (GraphQL, October 2021). In the order of the rules:

@@ -2,12 +2,11 @@
 ghost use Rattle.std.specs.Prelude.{◌≡◌, map, option_map, IfOk};
 ghost use Rattle.std.specs.List.{filter_map};
 ghost use Rattle.doc_sites.specs.SitesView.{definition_of, site_of};
-ghost use Rattle.schema_trees.specs.LocatedView.{name_of};
-ghost use Rattle.schema_types.specs.NameRules as names;
+ghost use Rattle.doc_sites.specs.schema_trees.LocatedView.{name_of};
+ghost use Rattle.doc_sites.specs.schema_types.NameRules as names;
 
-use doc_sites::{DefinitionAt, Site};
-use gql_plain::NoMemory;
-use schema_trees::located::NameAt;
+use doc_sites::located::NameAt;
+use doc_sites::{DefinitionAt, NoMemory, Site};
 use std::alloc::Global;
 
 /// The names of operations, of those that have one.

@@ -4,11 +4,11 @@ use Rattle.doc_sites.specs.Definitions.{on_fragment, on_operation, spreading}
 use Rattle.doc_sites.specs.SitesView.{definition_of}
 use Rattle.doc_sites.specs.declared.site.DefinitionAt as code
 use Rattle.doc_sites.proofs.ListSteps.{each-map}
-use Rattle.gql_graph.specs.Graphs.{next_in}
+use Rattle.schema_types.specs.gql_graph.Graphs.{next_in}
 use Rattle.schema_types.specs.NameRules.{fragments, names_of_all, operations, spread_by, spreads_in, spreads_of_fragment}
-use Rattle.gql_graph.specs.Rules.{each}
+use Rattle.schema_types.specs.gql_graph.Rules.{each}
 use Rattle.schema_types.specs.Sites.{FragmentAt, OperationAt, DefinitionAt, operation, fragment}
-use Rattle.gql_graph.specs.Texts.{Text}
+use Rattle.schema_types.specs.gql_graph.Texts.{Text}
 
 -- what is said of each operation, and of each fragment, over all definitions
 pub over_operations : {A : Type 0} (says : OperationAt → List A) (ds : List DefinitionAt) → each says (operations ds) ≡ each (on_operation says) ds

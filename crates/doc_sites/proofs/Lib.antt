@@ -1,3 +1,8 @@
+pub use Rattle.schema_types.proofs.gql_graph_laws
+pub use Rattle.schema_types.proofs.gql_plain_laws
+pub use Rattle.schema_types.proofs.schema_rules_laws
+pub use Rattle.schema_types.proofs.schema_tables_laws
+pub use Rattle.schema_types.proofs.schema_trees_laws
 pub mod SiteSteps
 pub mod ListSteps
 pub mod DefinitionSteps

@@ -3,9 +3,9 @@ use Rattle.std.proofs.Common.{◌≡◌, Bool, true, false, cond, List, [], ◌�
 use Rattle.std.proofs.lemmas.List.{map-append}
 use Rattle.std.specs.Prelude.{codes}
 use Rattle.schema_types.specs.ArgumentRules.{argument_names, locals_in}
-use Rattle.schema_trees.specs.Located.{Located}
+use Rattle.schema_types.specs.schema_trees.Located.{Located}
 use Rattle.schema_types.specs.NameRules.{names_of_all}
-use Rattle.schema_rules.specs.Rules.{each, names_of}
+use Rattle.schema_types.specs.schema_rules.Rules.{each, names_of}
 use Rattle.schema_types.specs.Sites.{DirectiveAt}
 use Rattle.doc_sites.specs.Locals.{located_locals}
 

@@ -1,11 +1,11 @@
 -- Steps of the walk over selections.
 use Rattle.std.proofs.Common.{◌≡◌, ℕ, zero, suc, ◌<◌, ◌≤◌, Bool, true, false, not, IsTrue, List, [], ◌∷◌, length, get_or, refl, ap, sym, arith}
 use Rattle.std.specs.Prelude.{◌↔◌}
-use Rattle.gql_ast.specs.SelectionView.{sel_before, sels_of}
-use Rattle.gql_ast.specs.Sels.{Sels, end, depth, number_of}
-use Rattle.gql_ast.specs.Sels as sels
-use Rattle.gql_ast.specs.declared.selection.Selection.{Selection}
-use Rattle.gql_ast.specs.declared.selection.Selection.TheVariants as S
+use Rattle.schema_types.specs.gql_ast.SelectionView.{sel_before, sels_of}
+use Rattle.schema_types.specs.gql_ast.Sels.{Sels, end, depth, number_of}
+use Rattle.schema_types.specs.gql_ast.Sels as sels
+use Rattle.schema_types.specs.gql_ast.declared.selection.Selection.{Selection}
+use Rattle.schema_types.specs.gql_ast.declared.selection.Selection.TheVariants as S
 use Rattle.schema_types.specs.Sites.{is_set}
 use Rattle.doc_sites.specs.Firsts.{inside}
 

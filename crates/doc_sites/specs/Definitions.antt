@@ -1,11 +1,11 @@
 -- What is said of a definition, by what it is.
 use Rattle.std.specs.Prelude.{◌≡◌, List, [], ◌∷◌, map}
-use Rattle.gql_ast.specs.declared.document.Document.{Document}
-use Rattle.gql_ast.specs.declared.place.Placed.{Placed}
+use Rattle.schema_types.specs.gql_ast.declared.document.Document.{Document}
+use Rattle.schema_types.specs.gql_ast.declared.place.Placed.{Placed}
 use Rattle.schema_types.specs.DocumentRules.{trees_of}
 use Rattle.schema_types.specs.NameRules.{names_of_all, spreads_in}
 use Rattle.schema_types.specs.Sites.{OperationAt, FragmentAt, DefinitionAt, operation, fragment, all_definitions}
-use Rattle.schema_tables.specs.Types.{Text, Defs}
+use Rattle.schema_types.specs.schema_tables.Types.{Text, Defs}
 use Rattle.doc_sites.specs.SitesView.{definition_of}
 use Rattle.doc_sites.specs.declared.site.DefinitionAt as code
 

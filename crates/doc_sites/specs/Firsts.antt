@@ -1,14 +1,14 @@
 -- Parts of what stands in documents: a name and a value alone, and one selection apart from those inside it and behind it.
 use Rattle.std.specs.Prelude.{ℕ, ◌+◌, Option}
-use Rattle.gql_ast.specs.Sels.{Sels, end}
-use Rattle.gql_ast.specs.declared.document.Fragment.{Fragment}
-use Rattle.gql_ast.specs.declared.document.Operation.{Operation}
-use Rattle.gql_ast.specs.declared.selection.Selection.{Selection}
-use Rattle.gql_ast.specs.declared.selection.Selection.TheVariants as S
-use Rattle.gql_ast.specs.Value.{Val}
-use Rattle.schema_trees.specs.Located.{Located, directives_nodes}
+use Rattle.schema_types.specs.gql_ast.Sels.{Sels, end}
+use Rattle.schema_types.specs.gql_ast.declared.document.Fragment.{Fragment}
+use Rattle.schema_types.specs.gql_ast.declared.document.Operation.{Operation}
+use Rattle.schema_types.specs.gql_ast.declared.selection.Selection.{Selection}
+use Rattle.schema_types.specs.gql_ast.declared.selection.Selection.TheVariants as S
+use Rattle.schema_types.specs.gql_ast.Value.{Val}
+use Rattle.schema_types.specs.schema_trees.Located.{Located, directives_nodes}
 use Rattle.schema_types.specs.Sites.{ValueAt, Site, field, spread, inline, optional_name_nodes, optional_name_at, variables_nodes, selections_nodes, arguments_nodes, head_nodes, arguments_at, directives_at, is_set, below, condition_or}
-use Rattle.schema_tables.specs.Types.{Text, Defs}
+use Rattle.schema_types.specs.schema_tables.Types.{Text, Defs}
 
 -- a name, and a value, whose own node comes next
 abbrev pub name_here : (from : ℕ) → Text → Located

@@ -1,8 +1,8 @@
 -- What the located parts of documents in the code stand for.
 use Rattle.std.specs.Prelude.{List, map, option_map, option_copied}
 use denote.Ref.{Bor}
-use Rattle.gql_ast.specs.ValueView as tree
-use Rattle.schema_trees.specs.LocatedView.{name_of}
+use Rattle.schema_types.specs.gql_ast.ValueView as tree
+use Rattle.schema_types.specs.schema_trees.LocatedView.{name_of}
 use Rattle.schema_types.specs.Sites.{field, spread, inline, operation, fragment}
 use Rattle.schema_types.specs.Sites as spec
 use Rattle.doc_sites.specs.declared.site.ValueAt.{ValueAt}

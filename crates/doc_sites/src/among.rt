@@ -5,7 +5,7 @@ ghost use Rattle.schema_types.specs.NameRules as rules;
 ghost use Rattle.doc_sites.specs.SitesView.{definition_of, fragments_of, operations_of, site_of};
 
 use crate::site::{DefinitionAt, FragmentAt, OperationAt, Site};
-use gql_plain::NoMemory;
+use schema_types::NoMemory;
 use std::alloc::Global;
 
 impl<'a> DefinitionAt<'a> {

@@ -3,10 +3,8 @@ ghost use Rattle.std.specs.Prelude.{◌≡◌, Some, option_copied};
 ghost use Rattle.schema_types.specs.Sites as sites;
 ghost use Rattle.doc_sites.specs.Firsts.{around_inside};
 
-use gql_ast::Selection;
-use gql_plain::Name;
-use schema_tables::type_forms::base_of;
-use schema_types::Schema;
+use schema_types::type_forms::base_of;
+use schema_types::{Name, Schema, Selection};
 
 /// The name of the type of `__typename`, which each composite type has (section 4.1).
 fn typename_on<'a>(schema: &Schema, of: &str) -> Option<&'a str>

@@ -3,17 +3,17 @@ ghost use Rattle.std.specs.Prelude.{◌≡◌, ◌+◌, ◌++◌, map, option_co
 ghost use Rattle.schema_types.specs.DocumentRules.{trees_of};
 ghost use Rattle.schema_types.specs.Sites as spec;
 ghost use Rattle.schema_types.specs.Sites.{all_definitions, definition_nodes, document_nodes, selections_nodes};
-ghost use Rattle.schema_tables.specs.Types as types;
+ghost use Rattle.schema_types.specs.schema_tables.Types as types;
 ghost use Rattle.doc_sites.specs.Firsts.{fragment_nodes, operation_nodes};
 ghost use Rattle.doc_sites.specs.SitesView.{definition_of, fragment_of, operation_of, site_of};
 
 use crate::parts::{directives_at, name_here, optional_name_at, variables_at};
 use crate::selecting::put_sites;
 use crate::site::{DefinitionAt, FragmentAt, OperationAt, Site};
-use gql_ast::{Definition, Document, Documents, Fragment, Kind, Operation, Selections};
-use gql_plain::NoMemory;
-use schema_trees::located::pass;
-use schema_types::Schema;
+use schema_types::located::pass;
+use schema_types::{
+    Definition, Document, Documents, Fragment, Kind, NoMemory, Operation, Schema, Selections,
+};
 use std::alloc::Global;
 
 /// The selections of a set and those inside them, in text order.

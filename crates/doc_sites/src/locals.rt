@@ -1,17 +1,17 @@
 //! The local variables of fragments.
 ghost use Rattle.std.specs.Prelude.{◌≡◌, ◌++◌, map, IfOk, OnOk};
 ghost use Rattle.schema_types.specs.ArgumentRules as rules;
-ghost use Rattle.schema_trees.specs.LocatedView.{name_of};
-ghost use Rattle.gql_graph.specs.Rules.{each};
-ghost use Rattle.gql_graph.specs.Seen.{Knows};
+ghost use Rattle.schema_types.specs.schema_trees.LocatedView.{name_of};
+ghost use Rattle.schema_types.specs.gql_graph.Rules.{each};
+ghost use Rattle.schema_types.specs.gql_graph.Seen.{Knows};
 ghost use Rattle.doc_sites.specs.SitesView.{argument_of, directive_of};
 ghost use Rattle.doc_sites.specs.Locals.{located_locals};
 
 use crate::site::{ArgumentAt, DirectiveAt};
-use gql_graph::seen::Seen;
-use gql_plain::NoMemory;
-use schema_trees::located::NameAt;
-use schema_trees::repeats::seen_names;
+use schema_types::NoMemory;
+use schema_types::located::NameAt;
+use schema_types::repeats::seen_names;
+use schema_types::seen::Seen;
 use std::alloc::Global;
 
 /// Puts the names of arguments.

@@ -1,17 +1,16 @@
 //! Names, arguments, directives and variables with the numbers of their nodes.
 ghost use Rattle.std.specs.Prelude.{◌≡◌, ◌+◌, map, option_map, IfOk, OnOk};
-ghost use Rattle.gql_ast.specs.ValueView as tree;
-ghost use Rattle.schema_trees.specs.Located.{default_nodes, directives_nodes, value_nodes};
-ghost use Rattle.schema_trees.specs.LocatedView.{name_of};
+ghost use Rattle.schema_types.specs.gql_ast.ValueView as tree;
+ghost use Rattle.schema_types.specs.schema_trees.Located.{default_nodes, directives_nodes, value_nodes};
+ghost use Rattle.schema_types.specs.schema_trees.LocatedView.{name_of};
 ghost use Rattle.schema_types.specs.Sites as sites;
 ghost use Rattle.schema_types.specs.Sites.{arguments_nodes, optional_name_nodes, variable_nodes, variables_nodes};
 ghost use Rattle.doc_sites.specs.SitesView.{argument_of, directive_of, value_of, variable_of};
 ghost use Rattle.doc_sites.specs.Firsts.{name_here, value_here};
 
 use crate::site::{ArgumentAt, DirectiveAt, ValueAt, VariableAt};
-use gql_ast::{Arguments, Directives, ValueTree, VariableDef, VariableDefs};
-use gql_plain::{Name, NoMemory};
-use schema_trees::located::{NameAt, name_at, pass, pass_type, pass_value};
+use schema_types::located::{NameAt, name_at, pass, pass_type, pass_value};
+use schema_types::{Arguments, Directives, Name, NoMemory, ValueTree, VariableDef, VariableDefs};
 use std::alloc::Global;
 
 /// A name whose own node comes next.

@@ -8,10 +8,8 @@ ghost use Rattle.doc_sites.specs.SitesView.{site_of};
 use crate::around::around_inside;
 use crate::parts::{arguments_at, directives_at, name_here, optional_name_at};
 use crate::site::Site;
-use gql_ast::{Selection, Selections};
-use gql_plain::NoMemory;
-use schema_trees::located::{name_at, pass};
-use schema_types::Schema;
+use schema_types::located::{name_at, pass};
+use schema_types::{NoMemory, Schema, Selection, Selections};
 use std::alloc::Global;
 
 /// Whether there is a selection.

@@ -1,8 +1,7 @@
 //! What stands in documents, over borrowed trees.
 
-use gql_ast::document::Kind;
-use gql_ast::{Selections, ValueTree, VariableDef};
-use schema_trees::located::NameAt;
+use schema_types::located::NameAt;
+use schema_types::{Kind, Selections, ValueTree, VariableDef};
 
 /// A value (GraphQL, October 2021, section 2.9) and the number of its node.
 #[derive(Clone, Copy)]

@@ -1,17 +1,17 @@
 //! The fragments that are spread (GraphQL, October 2021, section 2.8).
 ghost use Rattle.std.specs.Prelude.{◌≡◌, ◌++◌, List, length, map, option_map, IfOk, OnOk};
-ghost use Rattle.gql_graph.specs.Graphs.{Holds, Tells};
-ghost use Rattle.gql_graph.specs.Texts.{Text};
-ghost use Rattle.schema_trees.specs.LocatedView.{name_of};
+ghost use Rattle.schema_types.specs.gql_graph.Graphs.{Holds, Tells};
+ghost use Rattle.schema_types.specs.gql_graph.Texts.{Text};
+ghost use Rattle.schema_types.specs.schema_trees.LocatedView.{name_of};
 ghost use Rattle.schema_types.specs.NameRules as names;
 ghost use Rattle.doc_sites.specs.Definitions.{spreading};
 ghost use Rattle.doc_sites.specs.SitesView.{definition_of, site_of};
 
 use crate::among::fragments;
 use crate::site::{DefinitionAt, Site};
-use gql_graph::graph::Graph;
-use gql_plain::NoMemory;
-use schema_trees::located::NameAt;
+use schema_types::NoMemory;
+use schema_types::graph::Graph;
+use schema_types::located::NameAt;
 use std::alloc::Global;
 
 /// The name of the fragment that a selection spreads, where it is a spread.

@@ -1,13 +1,13 @@
 -- Places that change nothing, since they are noted already.
 use Rattle.std.proofs.Common.{◌≡◌, ℕ, Bool, true, false, true≢false, cond, ◌||◌, List, [], ◌∷◌, ◌++◌, Option, Some, None, bytes_eq, refl, ap, sym, ◌∙◌, arith}
 use Rattle.std.proofs.lemmas.Slice.Eq.{bytes_eq-Decides}
-use Rattle.gql_plain.specs.Order.{has_text}
-use Rattle.schema_types.specs.ArgumentRules.{Use}
-use Rattle.gql_graph.specs.Leasts.{lower, least_from}
-use Rattle.gql_graph.specs.Rules.{each}
-use Rattle.gql_graph.specs.Texts.{Text}
-use Rattle.gql_graph.proofs.LeastSteps.{noted-append, each-append}
-use Rattle.gql_graph.proofs.TextSteps.{same_text}
+use Rattle.doc_sites.specs.gql_plain.Order.{has_text}
+use Rattle.doc_sites.specs.schema_types.ArgumentRules.{Use}
+use Rattle.doc_sites.specs.gql_graph.Leasts.{lower, least_from}
+use Rattle.doc_sites.specs.gql_graph.Rules.{each}
+use Rattle.doc_sites.specs.gql_graph.Texts.{Text}
+use Rattle.doc_sites.proofs.gql_graph_laws.LeastSteps.{noted-append, each-append}
+use Rattle.doc_sites.proofs.gql_graph_laws.TextSteps.{same_text}
 use Rattle.doc_uses.specs.UsesByName.{named_uses, uses_named}
 
 -- ---- the order of places does not matter

@@ -2,9 +2,9 @@
 use Rattle.std.proofs.Common.{◌≡◌, Bool, true, false, cond, List, [], ◌++◌, map, Option, Some, None, option_map, unwrap_or, bytes_eq, refl, ap, sym, ◌∙◌}
 use Rattle.std.proofs.lemmas.List.{append-nil}
 use Rattle.std.specs.Option.{UnwrapsOrElse}
-use Rattle.schema_types.specs.ArgumentRules.{Use}
-use Rattle.gql_graph.specs.Texts.{Text}
-use Rattle.gql_graph.proofs.TextSteps.{same_text}
+use Rattle.doc_sites.specs.schema_types.ArgumentRules.{Use}
+use Rattle.doc_sites.specs.gql_graph.Texts.{Text}
+use Rattle.doc_sites.proofs.gql_graph_laws.TextSteps.{same_text}
 use denote.Ref.{Bor}
 
 -- the uses of a name with those that are put behind them

@@ -3,18 +3,18 @@ use Rattle.std.proofs.Common.{◌≡◌, ℕ, zero, suc, ◌+◌, ◌<◌, ◌�
 use Rattle.std.proofs.Math.Seq.{drop-cons}
 use Rattle.std.proofs.lemmas.List.{append-nil, drop_all}
 use Rattle.std.specs.List.{list_any}
-use Rattle.gql_ast.specs.Ty.{Ty}
-use Rattle.gql_ast.specs.Ty as ty
-use Rattle.gql_plain.specs.Order.{has_text}
-use Rattle.schema_types.specs.ArgumentRules.{Use, Place, is_allowed, use_wrong, variable_named}
-use Rattle.gql_graph.specs.Leasts.{least_from}
-use Rattle.schema_types.specs.NameRules.{spread_by, spreads_in, names_of_all}
-use Rattle.gql_graph.specs.Reached.{leads, any_leads}
-use Rattle.schema_rules.specs.Rules.{each, same_type, wrong}
-use Rattle.schema_types.specs.Sites.{FragmentAt, OperationAt, VariableAt}
-use Rattle.gql_graph.specs.Texts.{Text}
-use Rattle.gql_graph.proofs.LeastSteps.{each-append}
-use Rattle.gql_graph.proofs.TextSteps.{same_text, either_of, some_of}
+use Rattle.doc_sites.specs.gql_ast.Ty.{Ty}
+use Rattle.doc_sites.specs.gql_ast.Ty as ty
+use Rattle.doc_sites.specs.gql_plain.Order.{has_text}
+use Rattle.doc_sites.specs.schema_types.ArgumentRules.{Use, Place, is_allowed, use_wrong, variable_named}
+use Rattle.doc_sites.specs.gql_graph.Leasts.{least_from}
+use Rattle.doc_sites.specs.schema_types.NameRules.{spread_by, spreads_in, names_of_all}
+use Rattle.doc_sites.specs.gql_graph.Reached.{leads, any_leads}
+use Rattle.doc_sites.specs.schema_rules.Rules.{each, same_type, wrong}
+use Rattle.doc_sites.specs.schema_types.Sites.{FragmentAt, OperationAt, VariableAt}
+use Rattle.doc_sites.specs.gql_graph.Texts.{Text}
+use Rattle.doc_sites.proofs.gql_graph_laws.LeastSteps.{each-append}
+use Rattle.doc_sites.proofs.gql_graph_laws.TextSteps.{same_text, either_of, some_of}
 use Rattle.doc_uses.specs.Needs.{AreHarmless, Covers, CoversKnown, HasNeed, IsKnownHarmless, IsSameNeed, Sums, SumsUp, uses_needed}
 use Rattle.doc_uses.specs.Parts.{part_for, uses_wrong_in}
 use Rattle.doc_uses.specs.UsesByName.{uses_among}

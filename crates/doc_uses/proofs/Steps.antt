@@ -1,7 +1,7 @@
 -- What is noted, in other words.
 use Rattle.std.proofs.Common.{◌≡◌, ℕ, Bool, not, List, Option, ap, ◌∙◌}
-use Rattle.gql_graph.specs.Leasts.{least_from}
-use Rattle.gql_graph.specs.Rules.{wrong}
+use Rattle.doc_sites.specs.gql_graph.Leasts.{least_from}
+use Rattle.doc_sites.specs.gql_graph.Rules.{wrong}
 
 -- what is noted for one that is wrong in the same case
 pub noted_if_not : (o p : Option ℕ) (a b : Bool) (at : ℕ) → p ≡ least_from o (wrong (not a) at) → a ≡ b → p ≡ least_from o (wrong (not b) at)

@@ -2,14 +2,14 @@
 use Rattle.std.proofs.Common.{◌≡◌, ℕ, suc, ◌+◌, ◌<◌, Bool, true, false, not, cond, ◌&&◌, List, [], ◌∷◌, ◌++◌, map, drop, length, get_or, add-one, Option, Some, bytes_eq, refl, ap, sym, ◌∙◌}
 use Rattle.std.proofs.Math.Seq.{drop-cons}
 use Rattle.std.proofs.lemmas.List.{append-nil, length-map}
-use Rattle.gql_plain.specs.Order.{has_text}
-use Rattle.schema_types.specs.ArgumentRules.{Use, is_allowed, local_names, use_wrong, variable_named}
-use Rattle.schema_types.specs.NameRules.{spread_by, spreads_in, names_of_all, fragments}
-use Rattle.gql_graph.specs.Reached.{any_leads}
-use Rattle.schema_rules.specs.Rules.{each, wrong}
-use Rattle.schema_types.specs.Sites.{FragmentAt, OperationAt, VariableAt, DefinitionAt, operation, fragment}
-use Rattle.gql_graph.specs.Texts.{Text}
-use Rattle.gql_graph.proofs.LeastSteps.{each-append}
+use Rattle.doc_sites.specs.gql_plain.Order.{has_text}
+use Rattle.doc_sites.specs.schema_types.ArgumentRules.{Use, is_allowed, local_names, use_wrong, variable_named}
+use Rattle.doc_sites.specs.schema_types.NameRules.{spread_by, spreads_in, names_of_all, fragments}
+use Rattle.doc_sites.specs.gql_graph.Reached.{any_leads}
+use Rattle.doc_sites.specs.schema_rules.Rules.{each, wrong}
+use Rattle.doc_sites.specs.schema_types.Sites.{FragmentAt, OperationAt, VariableAt, DefinitionAt, operation, fragment}
+use Rattle.doc_sites.specs.gql_graph.Texts.{Text}
+use Rattle.doc_sites.proofs.gql_graph_laws.LeastSteps.{each-append}
 use Rattle.doc_uses.specs.UsesByName.{named_in, named_uses, uses_among}
 use Rattle.doc_uses.specs.Parts.{fragment_name, free_use, free_uses, part_for, part_wrong, uses_wrong_in}
 

@@ -1,9 +1,9 @@
 -- What is known of the uses in fragments.
 use Rattle.std.specs.Prelude.{◌≡◌, List, length}
-use Rattle.schema_types.specs.ArgumentRules.{Use}
-use Rattle.gql_graph.specs.Graphs.{Tells}
-use Rattle.schema_types.specs.NameRules.{spread_by}
-use Rattle.schema_types.specs.Sites.{FragmentAt}
+use Rattle.doc_sites.specs.schema_types.ArgumentRules.{Use}
+use Rattle.doc_sites.specs.gql_graph.Graphs.{Tells}
+use Rattle.doc_sites.specs.schema_types.NameRules.{spread_by}
+use Rattle.doc_sites.specs.schema_types.Sites.{FragmentAt}
 use Rattle.doc_uses.specs.UsesByName.{Gathers, uses_among}
 use Rattle.doc_uses.specs.Needs.{SumsUp}
 use Rattle.doc_uses.specs.declared.fragment_uses.FragmentUses.{FragmentUses}

@@ -3,9 +3,9 @@ use Rattle.std.specs.Prelude.{◌≡◌, List, option_map}
 use Rattle.std.specs.BTreeMap.{get_by}
 use Rattle.std.specs.Cmp.Lexicographic.{slice_cmp}
 use Rattle.std.specs.Ordering.{nat_cmp}
-use Rattle.schema_types.specs.ArgumentRules.{variable_named}
-use Rattle.schema_types.specs.Sites as spec
-use Rattle.gql_graph.specs.Texts.{Text}
+use Rattle.doc_sites.specs.schema_types.ArgumentRules.{variable_named}
+use Rattle.doc_sites.specs.schema_types.Sites as spec
+use Rattle.doc_sites.specs.gql_graph.Texts.{Text}
 use Rattle.doc_sites.specs.SitesView.{variable_of}
 use Rattle.doc_uses.specs.declared.variables.Variables.{Variables}
 

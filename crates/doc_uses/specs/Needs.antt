@@ -3,12 +3,12 @@ use Rattle.std.specs.Prelude.{◌≡◌, ℕ, ◌<◌, true, List, [], map, leng
 use Rattle.std.specs.BTreeMap.{get_by}
 use Rattle.std.specs.Cmp.Lexicographic.{slice_cmp}
 use Rattle.std.specs.Ordering.{nat_cmp}
-use Rattle.gql_plain.specs.Order.{has_text}
-use Rattle.schema_types.specs.ArgumentRules.{Use, use_wrong}
-use Rattle.gql_graph.specs.Leasts.{least_from}
-use Rattle.gql_graph.specs.Rules.{each}
-use Rattle.schema_types.specs.Sites.{VariableAt}
-use Rattle.gql_graph.specs.Texts.{Text}
+use Rattle.doc_sites.specs.gql_plain.Order.{has_text}
+use Rattle.doc_sites.specs.schema_types.ArgumentRules.{Use, use_wrong}
+use Rattle.doc_sites.specs.gql_graph.Leasts.{least_from}
+use Rattle.doc_sites.specs.gql_graph.Rules.{each}
+use Rattle.doc_sites.specs.schema_types.Sites.{VariableAt}
+use Rattle.doc_sites.specs.gql_graph.Texts.{Text}
 use Rattle.doc_uses.specs.UseView.{use_of}
 use Rattle.doc_uses.specs.declared.needs.Needs.{Needs}
 use Rattle.doc_uses.specs.declared.uses.Use as code

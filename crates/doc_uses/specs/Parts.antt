@@ -1,12 +1,12 @@
 -- Fragments with the variables that are used in them, whichever uses of them are looked at.
 use Rattle.std.specs.Prelude.{ℕ, Bool, cond, List, [], ◌∷◌, length}
-use Rattle.gql_plain.specs.Order.{has_text}
-use Rattle.schema_types.specs.ArgumentRules.{Use, local_names, use_wrong}
-use Rattle.schema_types.specs.NameRules.{names_of_all, spread_by, spreads_in}
-use Rattle.gql_graph.specs.Reached.{any_leads}
-use Rattle.gql_graph.specs.Rules.{each}
-use Rattle.gql_graph.specs.Texts.{Text}
-use Rattle.schema_types.specs.Sites.{FragmentAt, OperationAt, VariableAt, DefinitionAt, operation, fragment}
+use Rattle.doc_sites.specs.gql_plain.Order.{has_text}
+use Rattle.doc_sites.specs.schema_types.ArgumentRules.{Use, local_names, use_wrong}
+use Rattle.doc_sites.specs.schema_types.NameRules.{names_of_all, spread_by, spreads_in}
+use Rattle.doc_sites.specs.gql_graph.Reached.{any_leads}
+use Rattle.doc_sites.specs.gql_graph.Rules.{each}
+use Rattle.doc_sites.specs.gql_graph.Texts.{Text}
+use Rattle.doc_sites.specs.schema_types.Sites.{FragmentAt, OperationAt, VariableAt, DefinitionAt, operation, fragment}
 
 -- the uses of variables that are no local ones
 abbrev pub free_use : (locals : List Text) → Use → List Use

@@ -1,12 +1,12 @@
 -- What places and uses of variables in the code stand for.
 use Rattle.std.specs.Prelude.{List, Option, option_map, option_and_then}
-use Rattle.gql_ast.specs.TypeView.{ty_of}
-use Rattle.gql_ast.specs.declared.member.InputTree.{InputTree}
-use Rattle.schema_types.specs.ArgumentRules as spec
-use Rattle.schema_types.specs.ArgumentRules.{uses_in}
-use Rattle.schema_trees.specs.LocatedView.{name_of}
-use Rattle.schema_types.specs.Sites.{ArgumentAt}
-use Rattle.schema_tables.specs.Types.{Text, Defs, base_of, inputs_of}
+use Rattle.doc_sites.specs.gql_ast.TypeView.{ty_of}
+use Rattle.doc_sites.specs.gql_ast.declared.member.InputTree.{InputTree}
+use Rattle.doc_sites.specs.schema_types.ArgumentRules as spec
+use Rattle.doc_sites.specs.schema_types.ArgumentRules.{uses_in}
+use Rattle.doc_sites.specs.schema_trees.LocatedView.{name_of}
+use Rattle.doc_sites.specs.schema_types.Sites.{ArgumentAt}
+use Rattle.doc_sites.specs.schema_tables.Types.{Text, Defs, base_of, inputs_of}
 use Rattle.doc_uses.specs.declared.uses.Place.{Place}
 use Rattle.doc_uses.specs.declared.uses.Use.{Use}
 

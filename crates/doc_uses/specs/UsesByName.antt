@@ -3,10 +3,10 @@ use Rattle.std.specs.Prelude.{◌≡◌, List, [], cond, map, Option, option_map
 use Rattle.std.specs.BTreeMap.{get_by}
 use Rattle.std.specs.Cmp.Lexicographic.{slice_cmp}
 use Rattle.std.specs.Ordering.{nat_cmp}
-use Rattle.schema_types.specs.ArgumentRules.{Use}
-use Rattle.gql_graph.specs.Rules.{each}
-use Rattle.gql_graph.specs.Texts.{Text}
-use Rattle.schema_types.specs.Sites.{FragmentAt, DefinitionAt, operation, fragment}
+use Rattle.doc_sites.specs.schema_types.ArgumentRules.{Use}
+use Rattle.doc_sites.specs.gql_graph.Rules.{each}
+use Rattle.doc_sites.specs.gql_graph.Texts.{Text}
+use Rattle.doc_sites.specs.schema_types.Sites.{FragmentAt, DefinitionAt, operation, fragment}
 use Rattle.doc_uses.specs.Parts.{part_for}
 use Rattle.doc_uses.specs.UseView.{use_of}
 use Rattle.doc_uses.specs.declared.uses_by_name.UsesByName.{UsesByName}

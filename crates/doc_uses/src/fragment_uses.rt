@@ -1,10 +1,10 @@
 //! What is known of the uses in fragments: what each fragment spreads, the variables that are used in
 //! it, and what all that it reaches needs of an operation.
 ghost use Rattle.std.specs.Prelude.{◌≡◌, ◌++◌, List, map, IfOk, OnOk};
-ghost use Rattle.schema_types.specs.ArgumentRules as rules;
-ghost use Rattle.schema_types.specs.NameRules.{fragments};
-ghost use Rattle.schema_types.specs.Sites as spec;
-ghost use Rattle.gql_graph.specs.Rules.{each};
+ghost use Rattle.doc_sites.specs.schema_types.ArgumentRules as rules;
+ghost use Rattle.doc_sites.specs.schema_types.NameRules.{fragments};
+ghost use Rattle.doc_sites.specs.schema_types.Sites as spec;
+ghost use Rattle.doc_sites.specs.gql_graph.Rules.{each};
 ghost use Rattle.doc_sites.specs.SitesView.{definition_of};
 ghost use Rattle.doc_uses.specs.FragmentUses.{Describes};
 ghost use Rattle.doc_uses.specs.Parts.{fragment_name};
@@ -12,9 +12,8 @@ ghost use Rattle.doc_uses.specs.UsesByName.{Gathers, uses_among};
 
 use crate::needs::Needs;
 use crate::uses_by_name::UsesByName;
-use doc_sites::{DefinitionAt, spread_graph};
-use gql_graph::graph::Graph;
-use gql_plain::NoMemory;
+use doc_sites::graph::Graph;
+use doc_sites::{DefinitionAt, NoMemory, spread_graph};
 use std::alloc::Global;
 
 /// What is known of the uses in fragments.

@@ -1,10 +1,10 @@
 //! What fragments need of the operations that reach them: the variables used in a fragment and in all
 //! that it reaches, without local ones. Of uses of one variable at places of one type the first counts.
 ghost use Rattle.std.specs.Prelude.{◌≡◌, ◌<◌, ◌++◌, ◌∷◌, [], true, List, None, map, option_map, IfOk, IfSome, IsTrue, OnOk};
-ghost use Rattle.gql_plain.specs.Order.{has_text};
-ghost use Rattle.schema_types.specs.ArgumentRules as rules;
-ghost use Rattle.gql_graph.specs.Graphs.{Tells};
-ghost use Rattle.gql_graph.specs.Texts.{Text};
+ghost use Rattle.doc_sites.specs.gql_plain.Order.{has_text};
+ghost use Rattle.doc_sites.specs.schema_types.ArgumentRules as rules;
+ghost use Rattle.doc_sites.specs.gql_graph.Graphs.{Tells};
+ghost use Rattle.doc_sites.specs.gql_graph.Texts.{Text};
 ghost use Rattle.doc_uses.specs.UsesByName.{Gathers};
 ghost use Rattle.doc_uses.specs.Needs.{Covers, CoversKnown, HasNeed, IsSameNeed, SumsUp, uses_needed};
 ghost use Rattle.doc_uses.specs.UseView.{place_of, use_of};
@@ -12,9 +12,8 @@ ghost use Rattle.doc_uses.specs.UseView.{place_of, use_of};
 use crate::order::order_of;
 use crate::uses::{Place, Use};
 use crate::uses_by_name::UsesByName;
-use gql_graph::graph::Graph;
-use gql_plain::NoMemory;
-use schema_rules::same_type;
+use doc_sites::graph::Graph;
+use doc_sites::{NoMemory, same_type};
 use std::alloc::Global;
 use std::collections::BTreeMap;
 

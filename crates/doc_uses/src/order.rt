@@ -3,9 +3,9 @@
 //! promised of it: who asks has to look at it.
 ghost use Rattle.std.specs.Prelude.{◌≡◌};
 
-use gql_graph::graph::Graph;
-use gql_graph::seen::Seen;
-use gql_plain::NoMemory;
+use doc_sites::NoMemory;
+use doc_sites::graph::Graph;
+use doc_sites::seen::Seen;
 use std::alloc::Global;
 
 /// Where a search stands.

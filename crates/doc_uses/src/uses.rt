@@ -1,19 +1,18 @@
 //! Variables where they are used, each with the type of its place, where that is known (GraphQL,
 //! October 2021, section 5.8.5).
 ghost use Rattle.std.specs.Prelude.{◌≡◌, ◌+◌, ◌++◌, map, option_copied, option_map, OnOk};
-ghost use Rattle.gql_ast.specs.Value.{members_of, vals_of};
-ghost use Rattle.gql_ast.specs.ValueView as tree;
-ghost use Rattle.schema_types.specs.ArgumentRules as rules;
-ghost use Rattle.schema_trees.specs.Located.{members_nodes, value_nodes, values_nodes};
+ghost use Rattle.doc_sites.specs.gql_ast.Value.{members_of, vals_of};
+ghost use Rattle.doc_sites.specs.gql_ast.ValueView as tree;
+ghost use Rattle.doc_sites.specs.schema_types.ArgumentRules as rules;
+ghost use Rattle.doc_sites.specs.schema_trees.Located.{members_nodes, value_nodes, values_nodes};
 ghost use Rattle.doc_sites.specs.SitesView.{argument_of};
 ghost use Rattle.doc_uses.specs.UseView.{fields_of_name, name_of_place, place_of, use_of, uses_at};
 
-use doc_sites::ArgumentAt;
-use gql_ast::{Arguments, TypeTree, ValueTree, ValueTrees};
-use gql_plain::NoMemory;
-use schema_tables::type_forms::{base_of, item_of};
-use schema_trees::located::{NameAt, name_at, pass};
-use schema_types::{InputDef, Schema};
+use doc_sites::located::{NameAt, name_at, pass};
+use doc_sites::type_forms::{base_of, item_of};
+use doc_sites::{
+    ArgumentAt, Arguments, InputDef, NoMemory, Schema, TypeTree, ValueTree, ValueTrees,
+};
 
 /// A place for values: its type, and whether it has a default.
 #[derive(Clone, Copy)]

@@ -1,17 +1,16 @@
 //! The variables that are used in fragments, by the names of the fragments.
 ghost use Rattle.std.specs.Prelude.{◌≡◌, ◌++◌, [], List, map, option_map, IfOk, OnOk};
-ghost use Rattle.schema_types.specs.ArgumentRules as rules;
-ghost use Rattle.gql_graph.specs.Seen.{Knows};
-ghost use Rattle.gql_graph.specs.Texts.{Text};
+ghost use Rattle.doc_sites.specs.schema_types.ArgumentRules as rules;
+ghost use Rattle.doc_sites.specs.gql_graph.Seen.{Knows};
+ghost use Rattle.doc_sites.specs.gql_graph.Texts.{Text};
 ghost use Rattle.doc_sites.specs.SitesView.{fragment_of};
 ghost use Rattle.doc_uses.specs.UsesByName.{Gathers, uses_found, named_uses};
 ghost use Rattle.doc_uses.specs.Parts.{free_part, free_use, free_uses};
 ghost use Rattle.doc_uses.specs.UseView.{use_of};
 
 use crate::uses::Use;
-use doc_sites::{FragmentAt, locals_in};
-use gql_graph::seen::Seen;
-use gql_plain::NoMemory;
+use doc_sites::seen::Seen;
+use doc_sites::{FragmentAt, NoMemory, locals_in};
 use std::alloc::Global;
 use std::collections::BTreeMap;
 

@@ -1,12 +1,11 @@
 //! Variables by their names; of several of one name the first counts.
 ghost use Rattle.std.specs.Prelude.{◌≡◌, List, IfOk, option_map};
-ghost use Rattle.schema_types.specs.ArgumentRules.{variable_named};
-ghost use Rattle.schema_types.specs.Sites as spec;
+ghost use Rattle.doc_sites.specs.schema_types.ArgumentRules.{variable_named};
+ghost use Rattle.doc_sites.specs.schema_types.Sites as spec;
 ghost use Rattle.doc_sites.specs.SitesView.{operation_of, variable_of};
 ghost use Rattle.doc_uses.specs.Named.{NamesVariables};
 
-use doc_sites::{OperationAt, VariableAt};
-use gql_plain::NoMemory;
+use doc_sites::{NoMemory, OperationAt, VariableAt};
 use std::alloc::Global;
 use std::collections::BTreeMap;
 

@@ -1,11 +1,11 @@
 //! The uses of variables that are wrong: of an operation, and of the fragments that it reaches.
 ghost use Rattle.std.specs.Prelude.{◌≡◌, ◌++◌, [], true, List, map, option_map, IsTrue, OnOk};
-ghost use Rattle.gql_plain.specs.Order.{has_text};
-ghost use Rattle.schema_types.specs.ArgumentRules as rules;
-ghost use Rattle.gql_graph.specs.Leasts.{least_from};
-ghost use Rattle.gql_graph.specs.Rules.{each};
-ghost use Rattle.gql_graph.specs.Texts.{Text};
-ghost use Rattle.schema_types.specs.Sites as spec;
+ghost use Rattle.doc_sites.specs.gql_plain.Order.{has_text};
+ghost use Rattle.doc_sites.specs.schema_types.ArgumentRules as rules;
+ghost use Rattle.doc_sites.specs.gql_graph.Leasts.{least_from};
+ghost use Rattle.doc_sites.specs.gql_graph.Rules.{each};
+ghost use Rattle.doc_sites.specs.gql_graph.Texts.{Text};
+ghost use Rattle.doc_sites.specs.schema_types.Sites as spec;
 ghost use Rattle.doc_sites.specs.SitesView.{operation_of, variable_of};
 ghost use Rattle.doc_uses.specs.FragmentUses.{Describes};
 ghost use Rattle.doc_uses.specs.UsesByName.{Gathers};
@@ -19,10 +19,8 @@ use crate::needs::Needs;
 use crate::uses::{Place, Use};
 use crate::uses_by_name::UsesByName;
 use crate::variables::Variables;
-use doc_sites::{OperationAt, VariableAt, spread_names};
-use gql_graph::least::Least;
-use gql_plain::NoMemory;
-use schema_types::Schema;
+use doc_sites::least::Least;
+use doc_sites::{NoMemory, OperationAt, Schema, VariableAt, spread_names};
 use std::alloc::Global;
 
 /// Notes uses of variables that are not defined, and uses that are not allowed (sections 5.8.3 and

@@ -1,11 +1,10 @@
 //! Want of memory: a line for which it is lacking changes nothing, so that the same line can be given
 //! again.
 use crate::replaying::{begun, put_lines};
-use gql_plain::Counts;
-use relay_engine::{Engine, Lines};
+use plan_ir::Counts;
+use relay_engine::{Engine, Lines, Versions};
 use std::alloc::Global;
 use std::test::Fail;
-use store_source::Versions;
 
 const DOCUMENT: &str =
     r#"query K($after:String){me{age friends(first:1,after:$after)@connection(key:"K_friends"){edges{node{name}}}}}"#;

@@ -1,12 +1,11 @@
 //! Transcripts: the events of a script, a line each behind `> `, and below each what it is answered.
 ghost use Rattle.std.specs.Prelude.{◌<◌, length};
 
-use gql_plain::{Counts, Words};
+use plan_ir::{Counts, Words};
 use plan_project::{CompileFault, Project, ProjectFile, compile};
-use relay_engine::{Engine, Lines};
+use relay_engine::{Engine, Flat, Lines, RecordSource, Versions};
 use std::alloc::Global;
 use std::test::Fail;
-use store_source::{Flat, RecordSource, Versions};
 
 const SCHEMA: &str = "interface Node { id: ID! }
 type Query { me: User  node(id: ID!): Node  team(size: Int): [User] }

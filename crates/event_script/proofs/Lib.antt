@@ -1,3 +1,4 @@
+pub use Rattle.store_model.proofs as store_model_laws
 pub mod CommandLists
 pub mod Lines
 pub mod OnlyMembers

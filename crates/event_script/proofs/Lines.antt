@@ -4,8 +4,8 @@ use Rattle.std.proofs.lemmas.Bool.{le-leb, false_from_ne_true}
 use Rattle.std.proofs.lemmas.Str.{IsUtf8-from_is_utf8, is_utf8-from_IsUtf8}
 use Rattle.std.specs.Str.{IsUtf8, is_utf8}
 use Rattle.serde_json.specs.Read.{read as read_text}
-use Rattle.store_record.specs.Keys.{Text}
-use Rattle.gql_plain.specs.Limits.{max_line}
+use Rattle.store_model.specs.store_record.Keys.{Text}
+use Rattle.store_model.specs.gql_plain.Limits.{max_line}
 use Rattle.store_model.specs.Events.{not_json, too_long, of_text, of_value, line_of}
 
 line_of-within : (bytes : Text) (is_text : Bool) → length bytes ≤ max_line → is_utf8 bytes ≡ is_text → of_text is_text bytes ≡ line_of bytes

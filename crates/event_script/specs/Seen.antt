@@ -1,7 +1,7 @@
 -- What the code reads, as the store's meaning has it.
 use Rattle.std.specs.Prelude.{◌≡◌, List, [], Option, Some, None, option_map, option_and_then, codes, Result, Ok, Err}
 use Rattle.serde_json.specs.Data as J
-use Rattle.store_record.specs.Keys.{Text}
+use Rattle.store_model.specs.store_record.Keys.{Text}
 use Rattle.store_model.specs.Events as events
 use Rattle.store_model.specs.declared.command.Command.{Command}
 use Rattle.serde_json.specs.Find.{get_member}

@@ -8,9 +8,9 @@ ghost use Rattle.event_script.specs.Seen.{place_seen, edges_seen, only_member, c
 
 use crate::members::{field_name_at, has_only, id_at, member_at, other_id_at, text_at};
 use crate::values::{id_or_null_at, ids_at, object_at, plain_at, plain_or_null, whole_at};
-use gql_plain::{Id, Name, NoMemory, Pairs, Plain, Words};
 use serde_json::{Map, Value};
 use std::alloc::Global;
+use store_model::gql_plain::{Id, Name, NoMemory, Pairs, Plain, Words};
 use store_model::{Command, Commands, EdgeEdit};
 
 /// The record, the field and the arguments that a command names.

@@ -8,11 +8,11 @@ ghost use Rattle.event_script.specs.Seen.{event_seen, Says};
 use crate::fault::LineFault;
 use crate::rows::event_in;
 use crate::text::{TextFault, value_of};
-use gql_plain::{MAX_LINE, NoMemory};
 use json::Scratch;
 use serde_json::Value;
 use std::alloc::Global;
 use store_model::Event;
+use store_model::gql_plain::{MAX_LINE, NoMemory};
 
 /// A reader of lines, one after another (this project's own). Memory for strings with escapes is
 /// kept from line to line: 16 KiB, and as many bytes as the longest line had.

@@ -1,5 +1,5 @@
 //! Why a line gives no event.
-use gql_plain::NoMemory;
+use store_model::gql_plain::NoMemory;
 
 /// Why a line gives no event (this project's own), in the order in which it is asked:
 /// `LineTooLong`, `NotJson`, `EventShape`, `UpdateShape`. Want of memory may come at any point.

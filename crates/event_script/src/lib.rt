@@ -12,4 +12,7 @@ mod values;
 
 pub use event::{LineReader, read_event};
 pub use fault::LineFault;
-pub use store_model::{Answer, Command, Commands, EdgeEdit, Event, Part, Target};
+pub use store_model;
+pub use store_model::{
+    Answer, Command, Commands, EdgeEdit, Event, Part, Target, gql_plain, store_record,
+};

@@ -1,13 +1,13 @@
 //! The members of JSON objects.
 ghost use Rattle.std.specs.Prelude.{◌≡◌, map, option_map, IfOk};
-ghost use Rattle.gql_plain.specs.Order.{has_text};
+ghost use Rattle.store_model.specs.gql_plain.Order.{has_text};
 ghost use Rattle.serde_json.specs.Find.{get_member};
 ghost use Rattle.serde_json.specs.View.{view, members_view};
 ghost use Rattle.store_model.specs.Events as events;
 
-use gql_plain::{Id, Name, NoMemory, Words, is_name};
 use serde_json::{Map, Value};
 use std::alloc::Global;
+use store_model::gql_plain::{Id, Name, NoMemory, Words, is_name};
 
 /// The name of a handle, a layer or a watch has at most this many bytes.
 const MAX_NAME: usize = 200;

@@ -9,9 +9,9 @@ use crate::commands::updates_at;
 use crate::fault::LineFault;
 use crate::members::{has_only, id_at, member_at, name_at, text_at, text_ref};
 use crate::values::object_at;
-use gql_plain::{NoMemory, Words};
 use serde_json::{Map, Value};
 use std::alloc::Global;
+use store_model::gql_plain::{NoMemory, Words};
 use store_model::{Answer, Event, Part, Target};
 
 fn retain_of(alloc: Global, members: &Map<String, Value>) -> Result<Event, LineFault>

@@ -5,9 +5,9 @@ ghost use Rattle.serde_json.specs.View.{view, members_view, items_view};
 ghost use Rattle.store_model.specs.Events as events;
 
 use crate::members::{is_there, member_at};
-use gql_plain::{Id, NoMemory, OptIds, Pairs, Plain, PlainFault, Words, plain_of};
 use serde_json::{Map, Value};
 use std::alloc::Global;
+use store_model::gql_plain::{Id, NoMemory, OptIds, Pairs, Plain, PlainFault, Words, plain_of};
 
 /// The plain value of a JSON value whose numbers are all whole.
 pub fn plain_in(alloc: Global, value: &Value) -> Result<Option<Plain>, NoMemory>

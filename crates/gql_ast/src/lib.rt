@@ -23,6 +23,7 @@ pub mod variable;
 pub use directive::{Directive, Directives};
 pub use document::{Definition, Definitions, Document, Documents, Fragment, Kind, Operation};
 pub use fault::{ParseFault, SyntaxFault};
+pub use gql_plain;
 pub use location::{Location, Locations};
 pub use member::{EnumValue, EnumValues, FieldTree, FieldTrees, InputTree, InputTrees};
 pub use names::Names;

@@ -1,3 +1,4 @@
+pub use Rattle.gql_plain.proofs as gql_plain_laws
 pub mod TextSteps
 pub mod LeastSteps
 pub mod SeenSteps

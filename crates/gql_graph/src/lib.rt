@@ -8,3 +8,5 @@ pub mod graph;
 pub mod least;
 pub mod ranks;
 pub mod seen;
+
+pub use gql_plain;

@@ -1,21 +1,21 @@
 -- Every document in which not too much stands in one another is read.
 use Rattle.std.proofs.Common.{◌≡◌, ◌≤◌, ℕ, zero, suc, ◌+◌, Bool, true, false, bytes_eq, List, [], ◌∷◌, ◌++◌, Option, Some, None, Result, Ok, refl, sym, ap, subst, ◌∙◌, arith, append_assoc, append-nil}
 use Rattle.std.specs.List.{AllByRecursion}
-use Rattle.gql_lex.specs.Toks as tok
-use Rattle.gql_lex.specs.Toks.{Tok}
-use Rattle.gql_ast.specs.Sels.{Sels, end, field, spread, inline, sels_append}
-use Rattle.gql_ast.specs.Ty.{Ty}
-use Rattle.gql_ast.specs.TypeView.{ty_of}
-use Rattle.gql_ast.specs.Value.{Val, members_of}
-use Rattle.gql_ast.specs.ValueView.{value_of}
-use Rattle.gql_ast.specs.declared.directive.Directive.{Directive}
-use Rattle.gql_ast.specs.declared.document.Definition.TheVariants as D
-use Rattle.gql_ast.specs.declared.document.Fragment.{Fragment}
-use Rattle.gql_ast.specs.declared.document.Kind.{Kind}
-use Rattle.gql_ast.specs.declared.document.Kind.TheVariants.{Query, Mutation, Subscription}
-use Rattle.gql_ast.specs.declared.document.Operation.{Operation}
-use Rattle.gql_ast.specs.declared.value.ValueTree.{ValueTree}
-use Rattle.gql_ast.specs.declared.variable.VariableDef.{VariableDef}
+use Rattle.gql_syntax.specs.gql_lex.Toks as tok
+use Rattle.gql_syntax.specs.gql_lex.Toks.{Tok}
+use Rattle.gql_syntax.specs.gql_ast.Sels.{Sels, end, field, spread, inline, sels_append}
+use Rattle.gql_syntax.specs.gql_ast.Ty.{Ty}
+use Rattle.gql_syntax.specs.gql_ast.TypeView.{ty_of}
+use Rattle.gql_syntax.specs.gql_ast.Value.{Val, members_of}
+use Rattle.gql_syntax.specs.gql_ast.ValueView.{value_of}
+use Rattle.gql_syntax.specs.gql_ast.declared.directive.Directive.{Directive}
+use Rattle.gql_syntax.specs.gql_ast.declared.document.Definition.TheVariants as D
+use Rattle.gql_syntax.specs.gql_ast.declared.document.Fragment.{Fragment}
+use Rattle.gql_syntax.specs.gql_ast.declared.document.Kind.{Kind}
+use Rattle.gql_syntax.specs.gql_ast.declared.document.Kind.TheVariants.{Query, Mutation, Subscription}
+use Rattle.gql_syntax.specs.gql_ast.declared.document.Operation.{Operation}
+use Rattle.gql_syntax.specs.gql_ast.declared.value.ValueTree.{ValueTree}
+use Rattle.gql_syntax.specs.gql_ast.declared.variable.VariableDef.{VariableDef}
 use Rattle.gql_syntax.proofs.BuiltTrees.{value_tree-value_of, type_tree-ty_of}
 use Rattle.gql_parse.specs.Documents.{Written, bare, full, documents, spell_braces, spell_name, spell_on, spell_selections, spell_set, spell_optional_name, spell_variables, spell_variables_part, spell_operation, spell_fragment, spell_definition, spell_definitions, SomeSelection, SomeDefinition, fragment_word}
 use Rattle.gql_parse.proofs.Shapes.{ShapedSelections, ShapedVariable, ShapedDefinition, ShapedWritten, ShapedDocument}

@@ -1,15 +1,15 @@
 -- How the machine goes on by what lies ahead: it takes the token that comes next, or it tells what is wrong.
 use Rattle.std.proofs.Common.{◌≡◌, ℕ, suc, ◌+◌, Bool, true, false, cond, List, [], Option, Some, None, Result, Ok, Err, IfSome, is_some, not, refl, sym, ap, subst, ◌∙◌, arith}
-use Rattle.gql_lex.specs.Sources.{Piece, Source, ended, faulty, token}
-use Rattle.gql_lex.specs.Toks as tok
-use Rattle.gql_lex.specs.Toks.{Tok, tok_of_piece}
-use Rattle.gql_ast.specs.Sels.{Sels, end, field, spread, inline, sels_append}
-use Rattle.gql_ast.specs.SelectionView.{sel_of}
-use Rattle.gql_ast.specs.declared.selection.Selection.{Selection}
-use Rattle.gql_ast.specs.declared.selection.Selection.TheVariants as S
-use Rattle.gql_ast.specs.Ty.{Ty}
-use Rattle.gql_ast.specs.Value.{Val}
-use Rattle.gql_ast.specs.declared.directive.Directive.{Directive}
+use Rattle.gql_syntax.specs.gql_lex.Sources.{Piece, Source, ended, faulty, token}
+use Rattle.gql_syntax.specs.gql_lex.Toks as tok
+use Rattle.gql_syntax.specs.gql_lex.Toks.{Tok, tok_of_piece}
+use Rattle.gql_syntax.specs.gql_ast.Sels.{Sels, end, field, spread, inline, sels_append}
+use Rattle.gql_syntax.specs.gql_ast.SelectionView.{sel_of}
+use Rattle.gql_syntax.specs.gql_ast.declared.selection.Selection.{Selection}
+use Rattle.gql_syntax.specs.gql_ast.declared.selection.Selection.TheVariants as S
+use Rattle.gql_syntax.specs.gql_ast.Ty.{Ty}
+use Rattle.gql_syntax.specs.gql_ast.Value.{Val}
+use Rattle.gql_syntax.specs.gql_ast.declared.directive.Directive.{Directive}
 use Rattle.gql_parse.specs.Documents.{Written, SomeSelection}
 use Rattle.gql_parse.specs.Reads.{run_on, before_set, behind_set, empty_set, MaySet, set_at, then_selections}
 use Rattle.gql_parse.specs.Machine.{VariableName, Typed, Up, of_bare, of_operation, of_fragment, of_field, of_inline, Inside, OpenField, Owner, on_operation, on_fragment, on_field, on_spread, on_inline, State, in_type, typed, in_value, set, named, aliased, field_named, dotted, on, in_arguments, in_directives, advance, finish, then_selection, open_set, close_set, field_of, after_directives, with_arguments, with_default, typed_variable, after_type}

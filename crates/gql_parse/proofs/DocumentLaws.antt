@@ -1,6 +1,6 @@
 -- The machine of documents has the laws of a machine that reads a grammar.
 use Rattle.std.proofs.Common.{◌≡◌, ℕ, Ok, refl, subst}
-use Rattle.gql_lex.specs.Toks.{Tok}
+use Rattle.gql_syntax.specs.gql_lex.Toks.{Tok}
 use Rattle.gql_parse.specs.Documents.{documents}
 use Rattle.gql_parse.specs.Machine.{State, advance}
 use Rattle.gql_parse.proofs.Complete.{complete}

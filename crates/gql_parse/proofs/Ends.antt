@@ -1,14 +1,14 @@
 -- Every state can be ended where one more may stand in another.
 use Rattle.std.proofs.Common.{◌≡◌, ℕ, suc, ◌+◌, Bool, true, false, List, [], ◌∷◌, ◌++◌, Some, None, Ok, refl, ap, ◌∙◌, arith}
-use Rattle.gql_lex.specs.Toks as tok
-use Rattle.gql_lex.specs.Toks.{Tok}
-use Rattle.gql_ast.specs.Sels.{Sels, end, field, spread, inline, sels_append}
-use Rattle.gql_ast.specs.Ty.{Ty}
-use Rattle.gql_ast.specs.Ty as ty
-use Rattle.gql_ast.specs.Value.{Val}
-use Rattle.gql_ast.specs.declared.directive.Directive.{Directive}
-use Rattle.gql_ast.specs.declared.document.Definition.TheVariants as D
-use Rattle.gql_ast.specs.declared.variable.VariableDef.{VariableDef}
+use Rattle.gql_syntax.specs.gql_lex.Toks as tok
+use Rattle.gql_syntax.specs.gql_lex.Toks.{Tok}
+use Rattle.gql_syntax.specs.gql_ast.Sels.{Sels, end, field, spread, inline, sels_append}
+use Rattle.gql_syntax.specs.gql_ast.Ty.{Ty}
+use Rattle.gql_syntax.specs.gql_ast.Ty as ty
+use Rattle.gql_syntax.specs.gql_ast.Value.{Val}
+use Rattle.gql_syntax.specs.gql_ast.declared.directive.Directive.{Directive}
+use Rattle.gql_syntax.specs.gql_ast.declared.document.Definition.TheVariants as D
+use Rattle.gql_syntax.specs.gql_ast.declared.variable.VariableDef.{VariableDef}
 use Rattle.gql_syntax.specs.Built.{value_tree}
 use Rattle.gql_parse.specs.Documents.{Written, bare, full, SomeSelection}
 use Rattle.gql_parse.specs.Machine.{Opening, VariableName, Typed, Up, of_bare, of_operation, of_fragment, of_field, of_inline, Inside, OpenField, Owner, on_variable, on_operation, on_fragment, on_field, on_spread, on_inline, State, between, kinded, called, variables, dollar, variable_named, in_type, typed, in_value, fragment_begun, fragment_named, fragment_on, set, named, aliased, field_named, dotted, on, in_arguments, in_directives, advance, open_set, operation_of, fragment_of, close_set, may_close, at_variables, variable_of, variables_with, field_of, some_written, with_default, with_arguments, after_directives, typed_variable, after_type}

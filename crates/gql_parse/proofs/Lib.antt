@@ -1,3 +1,4 @@
+pub use Rattle.gql_syntax.proofs as gql_syntax_laws
 pub mod Shapes
 pub mod Fronts
 pub mod Standing

@@ -1,11 +1,11 @@
 -- A machine with a greater limit goes the same way, and takes what is too deep for this one.
 use Rattle.std.proofs.Common.{◌≡◌, ℕ, zero, suc, ◌+◌, Bool, true, false, bytes_eq, List, [], ◌∷◌, None, Result, Ok, refl, sym, ap, arith}
-use Rattle.gql_lex.specs.Toks as tok
-use Rattle.gql_lex.specs.Toks.{Tok}
-use Rattle.gql_ast.specs.Sels.{Sels, end, field, spread, inline, sels_append}
-use Rattle.gql_ast.specs.declared.directive.Directive.{Directive}
-use Rattle.gql_ast.specs.declared.document.Kind.{Kind}
-use Rattle.gql_ast.specs.declared.variable.VariableDef.{VariableDef}
+use Rattle.gql_syntax.specs.gql_lex.Toks as tok
+use Rattle.gql_syntax.specs.gql_lex.Toks.{Tok}
+use Rattle.gql_syntax.specs.gql_ast.Sels.{Sels, end, field, spread, inline, sels_append}
+use Rattle.gql_syntax.specs.gql_ast.declared.directive.Directive.{Directive}
+use Rattle.gql_syntax.specs.gql_ast.declared.document.Kind.{Kind}
+use Rattle.gql_syntax.specs.gql_ast.declared.variable.VariableDef.{VariableDef}
 use Rattle.gql_parse.specs.Documents.{Written}
 use Rattle.gql_parse.specs.Machine.{Opening, Typed, Up, of_bare, of_operation, of_fragment, of_field, of_inline, Inside, OpenField, Owner, on_variable, on_operation, on_fragment, on_field, on_spread, on_inline, State, between, kinded, called, variables, dollar, variable_named, in_type, typed, in_value, fragment_begun, fragment_named, fragment_on, set, named, aliased, field_named, dotted, on, in_arguments, in_directives, advance, finish, then_selection, open_set, close_set, may_close, at_set, at_variables, variables_with, field_of, within_field, after_directives, at_directives, at_called, at_kinded, Word, kind, fragment, other, word_of, begin_definition, at_definition, at_typed, at_field, at_named, dotted_name, at_dotted, fragment_name, fragment_condition, with_default, with_arguments, typed_variable, after_type}
 use Rattle.gql_parse.proofs.Standing.{so_far, level_at, owner_level, SeatedInside, Seated, SeatedOwner, lift_inside, lift_field, lift_owner, lift, variable_ground, typed_ground, field_ground, owner_ground}

@@ -2,11 +2,11 @@
 use Rattle.std.specs.Borrow.{MutBor}
 use Rattle.std.proofs.Common.{◌≡◌, ℕ, ◌+◌, true, false, List, [], ◌∷◌, ◌++◌, Option, Some, None, Result, Ok, Err, IfOk, IfErr, OnOk, bytes_eq, length, refl, sym, ap, subst, ◌∙◌}
 use Rattle.std.proofs.lemmas.List.{append-nil, append_assoc}
-use Rattle.gql_lex.specs.Sources.{Source, ended, faulty, token}
-use Rattle.gql_ast.specs.Sels.{Sels, end, field, spread, inline, sels_append}
-use Rattle.gql_ast.specs.SelectionView.{sel_of}
-use Rattle.gql_ast.specs.declared.selection.Selection.{Selection}
-use Rattle.gql_ast.specs.declared.variable.VariableDef.{VariableDef}
+use Rattle.gql_syntax.specs.gql_lex.Sources.{Source, ended, faulty, token}
+use Rattle.gql_syntax.specs.gql_ast.Sels.{Sels, end, field, spread, inline, sels_append}
+use Rattle.gql_syntax.specs.gql_ast.SelectionView.{sel_of}
+use Rattle.gql_syntax.specs.gql_ast.declared.selection.Selection.{Selection}
+use Rattle.gql_syntax.specs.gql_ast.declared.variable.VariableDef.{VariableDef}
 use Rattle.gql_parse.specs.Documents.{SomeSelection, spell_braces, spell_name, spell_on, spell_selections, spell_set, spell_variables, spell_variables_part}
 use Rattle.gql_parse.specs.Machine.{Opening, Up, of_field, called, variables, fragment_begun, fragment_named, fragment_name}
 use Rattle.gql_parse.specs.Reads.{Read, Fails, Reads, behind_variables, MayVariable, variables_at, variable_at, spell_variable, spell_inside, spell_closed, set_at, selection_at, spell_selection, MaySelect, FieldAt, before_field_set, behind_field_set, before_set, behind_set, MaySet, empty_set, InlineParts, inline_of, spell_inline_parts}

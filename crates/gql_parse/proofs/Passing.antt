@@ -1,9 +1,9 @@
 -- How a reader goes on, part by part, from wherever it may stand.
 use Rattle.std.proofs.Common.{◌≡◌, ◌≤◌, ◌<◌, ℕ, Bool, true, List, [], ◌∷◌, length, Some, Result, Ok, Err, OnOk, refl, sym, ap, subst, ◌∙◌, arith}
-use Rattle.gql_lex.specs.Sources.{Source}
-use Rattle.gql_lex.specs.Toks as tok
-use Rattle.gql_lex.specs.Toks.{Tok, punctuator_of}
-use Rattle.gql_ast.specs.declared.directive.Directive.{Directive}
+use Rattle.gql_syntax.specs.gql_lex.Sources.{Source}
+use Rattle.gql_syntax.specs.gql_lex.Toks as tok
+use Rattle.gql_syntax.specs.gql_lex.Toks.{Tok, punctuator_of}
+use Rattle.gql_syntax.specs.gql_ast.declared.directive.Directive.{Directive}
 use Rattle.gql_parse.specs.Machine.{Owner, State, in_directives, advance}
 use Rattle.gql_parse.specs.Reads.{run_on, Read, Fails, Reads}
 use Rattle.gql_syntax.specs.Answers.{Tells, Misses, node_count, wrong_at}

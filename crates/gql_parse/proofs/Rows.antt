@@ -1,13 +1,14 @@
 -- Texts, as tokens, that are documents, and such that are none.
 use Rattle.std.proofs.Common.{◌≡◌, ℕ, codes, List, [], ◌∷◌, Some, None, Result, Ok, Err, pos, refl}
-use Rattle.gql_lex.specs.Toks as tok
-use Rattle.gql_lex.specs.Toks.{Tok}
-use Rattle.gql_ast.specs.Sels.{Sels, end, field, spread, inline}
-use Rattle.gql_ast.specs.Value.{int}
-use Rattle.gql_ast.specs.declared.document.Definition.TheVariants as D
-use Rattle.gql_ast.specs.declared.document.Kind.TheVariants.{Query, Mutation, Subscription}
-use Rattle.gql_ast.specs.declared.type_tree.TypeTree.TheVariants as T
-use Rattle.gql_ast.specs.declared.value.ValueTree.TheVariants as V
+use Rattle.gql_syntax.specs.gql_lex.Toks as tok
+use Rattle.gql_syntax.specs.gql_lex.Toks.{Tok}
+use Rattle.gql_syntax.specs.gql_ast.Sels.{Sels, end, field, spread, inline}
+use Rattle.gql_syntax.specs.gql_ast.Ty as ty
+use Rattle.gql_syntax.specs.gql_ast.Value.{int}
+use Rattle.gql_syntax.specs.gql_ast.declared.document.Definition.TheVariants as D
+use Rattle.gql_syntax.specs.gql_ast.declared.document.Kind.TheVariants.{Query, Mutation, Subscription}
+use Rattle.gql_syntax.specs.gql_ast.declared.type_tree.TypeTree.TheVariants as T
+use Rattle.gql_syntax.specs.gql_ast.declared.value.ValueTree.TheVariants as V
 use Rattle.gql_parse.specs.Documents.{bare, full, documents, nodes_of}
 use Rattle.gql_parse.specs.Machine.{State, between, advance, finish}
 use Rattle.gql_syntax.proofs.Laws.{reach}
@@ -54,7 +55,7 @@ variables : read (name (codes "query") ∷ tok.open_paren ∷ tok.dollar ∷ nam
     ≡ Ok (between (full (D.Operation (record {
       kind = Query;
       name = None;
-      variables = record { name = codes "a"; of = T.NonNull (Rattle.gql_ast.specs.Ty.named (codes "B")); default = Some (V.Int (pos 1)); directives = [] } ∷ [];
+      variables = record { name = codes "a"; of = T.NonNull (ty.named (codes "B")); default = Some (V.Int (pos 1)); directives = [] } ∷ [];
       directives = [];
       selections = alone (codes "c");
     })) ∷ []))

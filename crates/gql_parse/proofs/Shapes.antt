@@ -2,15 +2,15 @@
 -- that is written with tokens such as texts have is formed.
 use Rattle.std.proofs.Common.{ℕ, ◌+◌, true, false, List, [], ◌∷◌, Option, Some, None, IfSome}
 use Rattle.std.specs.List.{AllByRecursion}
-use Rattle.gql_lex.specs.Toks as tok
-use Rattle.gql_lex.specs.Toks.{Tok}
-use Rattle.gql_ast.specs.Sels.{Sels, end, field, spread, inline}
-use Rattle.gql_ast.specs.TypeView.{ty_of}
-use Rattle.gql_ast.specs.declared.document.Definition.{Definition}
-use Rattle.gql_ast.specs.declared.document.Definition.TheVariants as D
-use Rattle.gql_ast.specs.declared.document.Fragment.{Fragment}
-use Rattle.gql_ast.specs.declared.document.Operation.{Operation}
-use Rattle.gql_ast.specs.declared.variable.VariableDef.{VariableDef}
+use Rattle.gql_syntax.specs.gql_lex.Toks as tok
+use Rattle.gql_syntax.specs.gql_lex.Toks.{Tok}
+use Rattle.gql_syntax.specs.gql_ast.Sels.{Sels, end, field, spread, inline}
+use Rattle.gql_syntax.specs.gql_ast.TypeView.{ty_of}
+use Rattle.gql_syntax.specs.gql_ast.declared.document.Definition.{Definition}
+use Rattle.gql_syntax.specs.gql_ast.declared.document.Definition.TheVariants as D
+use Rattle.gql_syntax.specs.gql_ast.declared.document.Fragment.{Fragment}
+use Rattle.gql_syntax.specs.gql_ast.declared.document.Operation.{Operation}
+use Rattle.gql_syntax.specs.gql_ast.declared.variable.VariableDef.{VariableDef}
 use Rattle.gql_parse.specs.Documents.{Written, bare, full, documents, spell_braces, spell_name, spell_on, spell_selections, spell_set, spell_optional_name, spell_variables, spell_variables_part, spell_operation, spell_fragment, spell_definition, spell_definitions, IsSpreadName, SomeSelection, SomeDefinition, FormedSelections, FormedSet, FormedVariable, FormedDefinition, FormedWritten, FormedDocument}
 use Rattle.gql_syntax.proofs.Forms.{AreToks, arguments_forms, directives_forms, type_forms, default_forms, arguments_shape, directives_shape, type_shape, default_shape}
 use Rattle.gql_syntax.proofs.Shapes.{ShapedArguments, ShapedDirectives, ShapedDefault, ShapedType}

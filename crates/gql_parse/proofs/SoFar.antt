@@ -1,7 +1,7 @@
 -- Definitions that were read one behind the other.
 use Rattle.std.proofs.Common.{◌≡◌, ◌≢◌, ℕ, List, [], ◌∷◌, ◌++◌, map, inl, inr, refl, sym, ap, ◌∙◌}
-use Rattle.gql_lex.specs.Sources.{ended}
-use Rattle.gql_ast.specs.declared.document.Definition.{Definition}
+use Rattle.gql_syntax.specs.gql_lex.Sources.{ended}
+use Rattle.gql_syntax.specs.gql_ast.declared.document.Definition.{Definition}
 use Rattle.std.proofs.lemmas.List.{map-append}
 use Rattle.gql_parse.specs.Documents.{Written, definition_of, spell_definition, spell_definitions}
 use Rattle.gql_parse.specs.Machine.{between}

@@ -1,9 +1,9 @@
 -- The states of the machine of documents: what was read before each, what a token opens there, and what holds of it.
 use Rattle.std.proofs.Common.{◌≡◌, ℕ, ◌+◌, Bool, true, false, List, [], ◌∷◌}
 use Rattle.std.specs.List.{AllByRecursion}
-use Rattle.gql_lex.specs.Toks as tok
-use Rattle.gql_lex.specs.Toks.{Tok}
-use Rattle.gql_ast.specs.declared.variable.VariableDef.{VariableDef}
+use Rattle.gql_syntax.specs.gql_lex.Toks as tok
+use Rattle.gql_syntax.specs.gql_lex.Toks.{Tok}
+use Rattle.gql_syntax.specs.gql_ast.declared.variable.VariableDef.{VariableDef}
 use Rattle.gql_parse.specs.Documents.{Written, IsSpreadName, fragment_word}
 use Rattle.gql_parse.proofs.Shapes.{ShapedSelections, ShapedVariable, ShapedWritten}
 use Rattle.gql_parse.specs.Machine.{Opening, VariableName, Typed, Up, of_bare, of_operation, of_fragment, of_field, of_inline, Inside, OpenField, Owner, on_variable, on_operation, on_fragment, on_field, on_spread, on_inline, State, between, kinded, called, variables, dollar, variable_named, in_type, typed, in_value, fragment_begun, fragment_named, fragment_on, set, named, aliased, field_named, dotted, on, in_arguments, in_directives, advance, finish}

@@ -1,11 +1,11 @@
 -- The text of a file as a document.
 use Rattle.std.proofs.Common.{◌≡◌, ℕ, List, [], map, Result, Ok, IsUtf8, length, refl, sym, ap, subst, ◌∙◌}
-use Rattle.gql_lex.specs.Sources.{lex_from}
-use Rattle.gql_ast.specs.declared.document.Definition.{Definition}
-use Rattle.gql_ast.specs.declared.document.Document.{Document}
-use Rattle.gql_ast.specs.declared.fault.ParseFault.TheVariants as parse
-use Rattle.gql_ast.specs.declared.place.FilePlace.{FilePlace}
-use Rattle.gql_ast.specs.declared.place.Placed.{Placed}
+use Rattle.gql_syntax.specs.gql_lex.Sources.{lex_from}
+use Rattle.gql_syntax.specs.gql_ast.declared.document.Definition.{Definition}
+use Rattle.gql_syntax.specs.gql_ast.declared.document.Document.{Document}
+use Rattle.gql_syntax.specs.gql_ast.declared.fault.ParseFault.TheVariants as parse
+use Rattle.gql_syntax.specs.gql_ast.declared.place.FilePlace.{FilePlace}
+use Rattle.gql_syntax.specs.gql_ast.declared.place.Placed.{Placed}
 use Rattle.gql_parse.specs.Documents.{Written, definition_of, documents, nodes_of}
 use Rattle.gql_parse.specs.Reads.{run_on, Fails, ReadDocument}
 use Rattle.gql_parse.specs.Machine.{between, advance, finish}

@@ -1,11 +1,11 @@
 -- How many nodes a document has: each definition with what it holds, and each name that is written in it.
 use Rattle.std.specs.Prelude.{ℕ, ◌+◌, List, [], ◌∷◌}
-use Rattle.gql_ast.specs.Sels.{Sels, end, field, spread, inline}
-use Rattle.gql_ast.specs.TypeView.{ty_of}
-use Rattle.gql_ast.specs.declared.document.Definition.{Definition}
-use Rattle.gql_ast.specs.declared.document.Definition.TheVariants as D
-use Rattle.gql_ast.specs.declared.document.Document.{Document}
-use Rattle.gql_ast.specs.declared.variable.VariableDef.{VariableDef}
+use Rattle.gql_syntax.specs.gql_ast.Sels.{Sels, end, field, spread, inline}
+use Rattle.gql_syntax.specs.gql_ast.TypeView.{ty_of}
+use Rattle.gql_syntax.specs.gql_ast.declared.document.Definition.{Definition}
+use Rattle.gql_syntax.specs.gql_ast.declared.document.Definition.TheVariants as D
+use Rattle.gql_syntax.specs.gql_ast.declared.document.Document.{Document}
+use Rattle.gql_syntax.specs.gql_ast.declared.variable.VariableDef.{VariableDef}
 use Rattle.gql_syntax.specs.Nodes.{name_nodes, arguments_nodes, directives_nodes, type_nodes, default_nodes}
 
 -- a field with its name and perhaps an alias; a spread with its name; an inline fragment with perhaps a type condition

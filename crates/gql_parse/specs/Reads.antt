@@ -1,18 +1,18 @@
 -- What the parts of the parser have read: from wherever a part stands, the machine goes on behind it.
 use Rattle.std.specs.Prelude.{◌≡◌, map, ℕ, true, false, List, [], ◌∷◌, ◌++◌, Option, Result}
-use Rattle.gql_lex.specs.Sources.{Source}
-use Rattle.gql_ast.specs.SelectionView.{sel_of}
-use Rattle.gql_ast.specs.Sels.{Sels, end, field, inline}
-use Rattle.gql_ast.specs.Value.{Val}
-use Rattle.gql_ast.specs.declared.directive.Directive.{Directive}
-use Rattle.gql_ast.specs.declared.document.Definition.{Definition}
-use Rattle.gql_ast.specs.declared.document.Definition.TheVariants as D
-use Rattle.gql_ast.specs.declared.document.Fragment.{Fragment}
-use Rattle.gql_ast.specs.declared.document.Kind.{Kind}
-use Rattle.gql_ast.specs.declared.document.Operation.{Operation}
-use Rattle.gql_ast.specs.declared.selection.Selection.{Selection}
-use Rattle.gql_ast.specs.declared.selection.Selection.TheVariants as S
-use Rattle.gql_ast.specs.declared.variable.VariableDef.{VariableDef}
+use Rattle.gql_syntax.specs.gql_lex.Sources.{Source}
+use Rattle.gql_syntax.specs.gql_ast.SelectionView.{sel_of}
+use Rattle.gql_syntax.specs.gql_ast.Sels.{Sels, end, field, inline}
+use Rattle.gql_syntax.specs.gql_ast.Value.{Val}
+use Rattle.gql_syntax.specs.gql_ast.declared.directive.Directive.{Directive}
+use Rattle.gql_syntax.specs.gql_ast.declared.document.Definition.{Definition}
+use Rattle.gql_syntax.specs.gql_ast.declared.document.Definition.TheVariants as D
+use Rattle.gql_syntax.specs.gql_ast.declared.document.Fragment.{Fragment}
+use Rattle.gql_syntax.specs.gql_ast.declared.document.Kind.{Kind}
+use Rattle.gql_syntax.specs.gql_ast.declared.document.Operation.{Operation}
+use Rattle.gql_syntax.specs.gql_ast.declared.selection.Selection.{Selection}
+use Rattle.gql_syntax.specs.gql_ast.declared.selection.Selection.TheVariants as S
+use Rattle.gql_syntax.specs.gql_ast.declared.variable.VariableDef.{VariableDef}
 use Rattle.gql_parse.specs.Documents.{Written, bare, full, definition_of, nodes_of, spell_name, spell_selections, spell_set, spell_variables}
 use Rattle.gql_parse.specs.Machine.{Opening, Up, of_bare, of_operation, of_fragment, of_field, of_inline, Inside, OpenField, on_operation, on_fragment, on_field, on_inline, State, between, kinded, called, variables, set, field_named, in_directives, advance, finish, then_selection, operation_of, fragment_of}
 use Rattle.gql_parse.specs.declared.selections.FieldName.{FieldName}

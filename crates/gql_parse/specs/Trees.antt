@@ -1,7 +1,7 @@
 -- The document that a text is.
 use Rattle.std.specs.Prelude.{◌≡◌, ℕ, List, map}
-use Rattle.gql_ast.specs.declared.document.Document.{Document}
-use Rattle.gql_ast.specs.declared.place.Placed.{Placed}
+use Rattle.gql_syntax.specs.gql_ast.declared.document.Document.{Document}
+use Rattle.gql_syntax.specs.gql_ast.declared.place.Placed.{Placed}
 use Rattle.gql_parse.specs.Documents.{Written, definition_of, documents, nodes_of}
 use Rattle.gql_syntax.specs.Texts.{IsTree}
 

@@ -9,8 +9,8 @@ ghost use Rattle.gql_syntax.specs.Reads.{Anywhere, MayDefine};
 
 use crate::selections::read_set;
 use crate::variables::read_variables;
-use gql_ast::{Definition, Directives, Fragment, Kind, Operation, VariableDefs};
-use gql_plain::Name;
+use gql_syntax::gql_ast::{Definition, Directives, Fragment, Kind, Operation, VariableDefs};
+use gql_syntax::gql_plain::Name;
 use gql_syntax::{Cursor, Fault, NESTING_LIMIT, expect_word, kind_of, read_directives, read_name};
 use std::alloc::Global;
 

@@ -1,9 +1,9 @@
 //! What holds of every text.
 ghost use Rattle.std.specs.Prelude.{◌≡◌, ℕ, List, length};
-ghost use Rattle.gql_ast.specs.declared.document.Document.{Document};
-ghost use Rattle.gql_ast.specs.declared.fault.ParseFault.TheVariants.{Syntax};
-ghost use Rattle.gql_ast.specs.declared.fault.SyntaxFault.{SyntaxFault};
-ghost use Rattle.gql_ast.specs.declared.place.Placed.{Placed};
+ghost use Rattle.gql_syntax.specs.gql_ast.declared.document.Document.{Document};
+ghost use Rattle.gql_syntax.specs.gql_ast.declared.fault.ParseFault.TheVariants.{Syntax};
+ghost use Rattle.gql_syntax.specs.gql_ast.declared.fault.SyntaxFault.{SyntaxFault};
+ghost use Rattle.gql_syntax.specs.gql_ast.declared.place.Placed.{Placed};
 ghost use Rattle.gql_parse.specs.Documents.{documents};
 ghost use Rattle.gql_parse.specs.Nodes.{document_nodes};
 ghost use Rattle.gql_parse.specs.Trees.{IsDocument};

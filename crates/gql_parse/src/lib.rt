@@ -2,9 +2,9 @@
 #![tactic(auto)]
 
 ghost use Rattle.std.specs.Prelude.{◌≡◌, ◌<◌, ◌-◌, ◌^◌, ◌⊎◌, Ok, Err, length, IfOk, IfErr};
-ghost use Rattle.gql_ast.specs.declared.document.Document.{Document};
-ghost use Rattle.gql_ast.specs.declared.fault.ParseFault.TheVariants.{NoMemory};
-ghost use Rattle.gql_ast.specs.declared.place.Placed.{Placed};
+ghost use Rattle.gql_syntax.specs.gql_ast.declared.document.Document.{Document};
+ghost use Rattle.gql_syntax.specs.gql_ast.declared.fault.ParseFault.TheVariants.{NoMemory};
+ghost use Rattle.gql_syntax.specs.gql_ast.declared.place.Placed.{Placed};
 ghost use Rattle.gql_parse.specs.Documents.{documents};
 ghost use Rattle.gql_parse.specs.Reads.{ReadsDocument};
 ghost use Rattle.gql_parse.specs.Trees.{IsDocument};
@@ -16,7 +16,9 @@ mod selections;
 mod variables;
 
 use crate::definitions::read_definition;
-use gql_ast::{Definitions, Document, ParseFault, Placed};
+pub use gql_syntax;
+use gql_syntax::gql_ast::{Definitions, Document, ParseFault, Placed};
+pub use gql_syntax::{gql_ast, gql_lex, gql_plain};
 use gql_syntax::{Cursor, Fault, text_of};
 use std::alloc::Global;
 

@@ -1,6 +1,6 @@
 //! Selection sets (GraphQL, October 2021, sections 2.4 to 2.8).
 ghost use Rattle.std.specs.Prelude.{◌≡◌, ◌+◌, ◌<◌, ◌∷◌, ℕ, List, IfOk, OnOk};
-ghost use Rattle.gql_ast.specs.Sels.{Sels};
+ghost use Rattle.gql_syntax.specs.gql_ast.Sels.{Sels};
 ghost use Rattle.gql_parse.specs.Documents.{SomeSelection, spell_set};
 ghost use Rattle.gql_parse.specs.Machine.{set};
 ghost use Rattle.gql_parse.specs.Reads.{before_field_set, before_inline, before_set, behind_field_set, behind_inline, behind_set, BeginsSpread, empty_set, behind_field_name, inline_of, MayField, MaySelect, MaySet, Reads, selection_at, set_at, spell_closed, spell_field_name, spell_inline_parts, spell_selection};
@@ -8,9 +8,9 @@ ghost use Rattle.gql_syntax.specs.Answers.{node_count};
 ghost use Rattle.gql_syntax.specs.Nexts.{token_count};
 ghost use Rattle.gql_syntax.specs.Reads.{Anywhere, NoDirective};
 
-use gql_ast::{Selection, Selections};
-use gql_plain::Name;
 use gql_syntax::arguments::read_call;
+use gql_syntax::gql_ast::{Selection, Selections};
+use gql_syntax::gql_plain::Name;
 use gql_syntax::{Cursor, Fault, read_directives, read_name};
 use std::alloc::Global;
 

@@ -7,7 +7,7 @@ ghost use Rattle.gql_syntax.specs.Answers.{node_count};
 ghost use Rattle.gql_syntax.specs.Nexts.{token_count};
 ghost use Rattle.gql_syntax.specs.Reads.{Anywhere};
 
-use gql_ast::{VariableDef, VariableDefs};
+use gql_syntax::gql_ast::{VariableDef, VariableDefs};
 use gql_syntax::{
     Cursor, Fault, expect, read_default, read_directives, read_members, read_name, read_type,
 };

@@ -1,12 +1,12 @@
 -- What has been read of definitions.
 use Rattle.std.proofs.Common.{◌≡◌, ◌≢◌, ◌≤◌, ◌<◌, ◌⊎◌, inl, inr, ℕ, ◌+◌, Bool, true, false, bytes_eq, List, [], ◌∷◌, ◌++◌, map, length, codes, Some, None, Result, Ok, Err, OnOk, refl, sym, ap, subst, ◌∙◌, arith}
-use Rattle.gql_lex.specs.Sources.{Source, ended}
-use Rattle.gql_ast.specs.declared.member.InputTree.{InputTree}
-use Rattle.gql_ast.specs.declared.location.Location.{Location}
-use Rattle.gql_lex.specs.Toks as tok
-use Rattle.gql_lex.specs.Toks.{Tok, punctuator_of}
-use Rattle.gql_ast.specs.declared.directive.Directive.{Directive}
-use Rattle.gql_ast.specs.declared.schema.SchemaDef.{SchemaDef}
+use Rattle.gql_syntax.specs.gql_lex.Sources.{Source, ended}
+use Rattle.gql_syntax.specs.gql_ast.declared.member.InputTree.{InputTree}
+use Rattle.gql_syntax.specs.gql_ast.declared.location.Location.{Location}
+use Rattle.gql_syntax.specs.gql_lex.Toks as tok
+use Rattle.gql_syntax.specs.gql_lex.Toks.{Tok, punctuator_of}
+use Rattle.gql_syntax.specs.gql_ast.declared.directive.Directive.{Directive}
+use Rattle.gql_syntax.specs.gql_ast.declared.schema.SchemaDef.{SchemaDef}
 use Rattle.gql_syntax.proofs.Tokens.{not_at, no_word}
 use Rattle.gql_syntax.specs.Answers.{node_count, Misses, wrong_at, Tells}
 use Rattle.gql_syntax.specs.Machine.{further}
@@ -24,8 +24,8 @@ use Rattle.gql_sdl.specs.Reads.{run_on, Read, Fails, Reads, Anywhere, Begins, Ma
 use Rattle.gql_sdl.specs.Schemas as written
 use Rattle.gql_sdl.specs.Schemas.{Description, Described, NotEmpty, Written, WrittenInput, definition_of, inputs_of, spell_described, spell_definitions, spell_repeatable, written_of, field_of, spell_written, spell_implements, spell_fields_part, spell_argument_defs, spell_input_fields}
 use Rattle.gql_sdl.specs.declared.definitions.TypeWithFields.{TypeWithFields}
-use Rattle.gql_ast.specs.declared.member.FieldTree.{FieldTree}
-use Rattle.gql_ast.specs.declared.schema.SchemaDef.TheVariants as S
+use Rattle.gql_syntax.specs.gql_ast.declared.member.FieldTree.{FieldTree}
+use Rattle.gql_syntax.specs.gql_ast.declared.schema.SchemaDef.TheVariants as S
 use Rattle.gql_sdl.proofs.Goings.{on-token, on-name, on-sign, alike, stops, stops-open, on-directives, fails-behind, fails-missed, fails-directives}
 use Rattle.gql_sdl.proofs.InputReads.{behind-count, comes_text, not_text}
 use Rattle.gql_sdl.proofs.Loops.{map-then}

@@ -1,11 +1,11 @@
 -- Worked rows: the tokens of texts with the schemas that they are, and texts that are none.
 use Rattle.std.proofs.Common.{◌≡◌, true, false, [], ◌∷◌, codes, Some, None, Err, refl}
-use Rattle.gql_lex.specs.Toks as tok
-use Rattle.gql_lex.specs.Toks.{Tok}
-use Rattle.gql_ast.specs.declared.document.Kind.TheVariants as K
-use Rattle.gql_ast.specs.declared.location.Location.TheVariants as L
-use Rattle.gql_ast.specs.declared.type_tree.TypeTree.TheVariants as T
-use Rattle.gql_ast.specs.Ty as ty
+use Rattle.gql_syntax.specs.gql_lex.Toks as tok
+use Rattle.gql_syntax.specs.gql_lex.Toks.{Tok}
+use Rattle.gql_syntax.specs.gql_ast.declared.document.Kind.TheVariants as K
+use Rattle.gql_syntax.specs.gql_ast.declared.location.Location.TheVariants as L
+use Rattle.gql_syntax.specs.gql_ast.declared.type_tree.TypeTree.TheVariants as T
+use Rattle.gql_syntax.specs.gql_ast.Ty as ty
 use Rattle.gql_syntax.proofs.Laws.{reach}
 use Rattle.gql_syntax.proofs.Outcomes.{outcome}
 use Rattle.gql_syntax.specs.Run.{unexpected, too_deep}

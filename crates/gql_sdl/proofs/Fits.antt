@@ -1,12 +1,12 @@
 -- What stands in one another in a schema, by the numbers of what its tokens open.
 use Rattle.std.proofs.Common.{◌≤◌, ℕ, ◌+◌, Bool, true, false, List, [], ◌∷◌, map, Option, Some, None, arith}
 use Rattle.std.specs.List.{AllByRecursion}
-use Rattle.gql_ast.specs.Ty.{Ty}
-use Rattle.gql_ast.specs.TypeView.{ty_of}
-use Rattle.gql_ast.specs.ValueView.{value_of}
-use Rattle.gql_ast.specs.declared.directive.Directive.{Directive}
-use Rattle.gql_ast.specs.declared.schema.Root.{Root}
-use Rattle.gql_ast.specs.declared.value.ValueTree.{ValueTree}
+use Rattle.gql_syntax.specs.gql_ast.Ty.{Ty}
+use Rattle.gql_syntax.specs.gql_ast.TypeView.{ty_of}
+use Rattle.gql_syntax.specs.gql_ast.ValueView.{value_of}
+use Rattle.gql_syntax.specs.gql_ast.declared.directive.Directive.{Directive}
+use Rattle.gql_syntax.specs.gql_ast.declared.schema.Root.{Root}
+use Rattle.gql_syntax.specs.gql_ast.declared.value.ValueTree.{ValueTree}
 use Rattle.gql_syntax.proofs.DirectiveLaws.{directives_depth_from}
 use Rattle.gql_syntax.proofs.Standing.{level_mark}
 use Rattle.gql_syntax.proofs.TypeLaws.{list_depth, type_depth_from}
@@ -14,8 +14,8 @@ use Rattle.gql_syntax.proofs.ValueLaws.{value_depth_from}
 use Rattle.gql_syntax.specs.FirstFault.{Shallow}
 use Rattle.gql_syntax.specs.Spelling.{spell_directives, spell_type, spell_default}
 use Rattle.gql_sdl.specs.Schemas.{Description, WrittenInput, WrittenField, WrittenValue, Written, schema, scalar, object, interface, union, enum, input, directive, Described, spell_description, spell_input, spell_inputs, spell_argument_defs, spell_input_fields, spell_field, spell_fields, spell_fields_part, spell_enum_values, spell_enum_values_part, spell_roots, spell_leading, spell_further, spell_separated, spell_implements, spell_members_part, spell_repeatable, spell_written, spell_described, spell_definitions, location_word}
-use Rattle.gql_lex.specs.Toks as tok
-use Rattle.gql_lex.specs.Toks.{Tok}
+use Rattle.gql_syntax.specs.gql_lex.Toks as tok
+use Rattle.gql_syntax.specs.gql_lex.Toks.{Tok}
 use Rattle.gql_sdl.proofs.Complete.{DirectivesFit, DefaultFits, InputFits, FieldFits, ValueFits, WrittenFits}
 
 module _ (limit : ℕ) where

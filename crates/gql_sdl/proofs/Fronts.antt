@@ -1,10 +1,10 @@
 -- What was read before a state: tokens, each with the number of the value or list type that it opens.
 use Rattle.std.proofs.Common.{◌≡◌, ℕ, Bool, List, [], ◌∷◌, ◌++◌, codes, refl, ap, ◌∙◌}
-use Rattle.gql_lex.specs.Toks as tok
-use Rattle.gql_lex.specs.Toks.{Tok}
-use Rattle.gql_ast.specs.TypeView.{ty_of}
-use Rattle.gql_ast.specs.declared.directive.Directive.{Directive}
-use Rattle.gql_ast.specs.declared.schema.Root.{Root}
+use Rattle.gql_syntax.specs.gql_lex.Toks as tok
+use Rattle.gql_syntax.specs.gql_lex.Toks.{Tok}
+use Rattle.gql_syntax.specs.gql_ast.TypeView.{ty_of}
+use Rattle.gql_syntax.specs.gql_ast.declared.directive.Directive.{Directive}
+use Rattle.gql_syntax.specs.gql_ast.declared.schema.Root.{Root}
 use Rattle.gql_syntax.proofs.Laws.{Leveled}
 use Rattle.gql_syntax.proofs.Standing.{mark_level}
 use Rattle.gql_syntax.specs.Spelling.{Mark, spell_directives, spell_type, spell_default}

@@ -1,11 +1,11 @@
 -- Where the machine of schemas goes from a state, by what lies ahead.
 use Rattle.std.proofs.Common.{◌≡◌, ◌≢◌, ℕ, Bool, true, false, cond, List, length, Option, Some, None, option_map, Result, Ok, Err, refl, sym, ap, subst, ◌∙◌}
-use Rattle.gql_lex.specs.Sources.{Source, ended, faulty, token}
-use Rattle.gql_lex.specs.Toks as tok
-use Rattle.gql_lex.specs.Toks.{Tok, punctuator_of, tok_of_piece}
-use Rattle.gql_ast.specs.Ty.{Ty}
-use Rattle.gql_ast.specs.Value.{Val}
-use Rattle.gql_ast.specs.declared.directive.Directive.{Directive}
+use Rattle.gql_syntax.specs.gql_lex.Sources.{Source, ended, faulty, token}
+use Rattle.gql_syntax.specs.gql_lex.Toks as tok
+use Rattle.gql_syntax.specs.gql_lex.Toks.{Tok, punctuator_of, tok_of_piece}
+use Rattle.gql_syntax.specs.gql_ast.Ty.{Ty}
+use Rattle.gql_syntax.specs.gql_ast.Value.{Val}
+use Rattle.gql_syntax.specs.gql_ast.declared.directive.Directive.{Directive}
 use Rattle.gql_syntax.proofs.PartLaws.{EndsAs, directives_read_ok, directives_read_err, type_read_ok, type_read_err, value_read_ok, value_read_err}
 use Rattle.gql_syntax.proofs.Tokens.{comes_at, comes_word, not_at}
 use Rattle.gql_syntax.proofs.Standing.{directives_on, type_on}

@@ -1,10 +1,10 @@
 -- Lists of inputs.
 use Rattle.std.proofs.Common.{◌≡◌, ℕ, false, List, [], ◌∷◌, None, Ok, Err, refl, sym, subst}
-use Rattle.gql_lex.specs.Sources.{Source}
-use Rattle.gql_lex.specs.Toks as tok
-use Rattle.gql_lex.specs.Toks.{Tok, punctuator_of}
-use Rattle.gql_ast.specs.declared.directive.Directive.{Directive}
-use Rattle.gql_ast.specs.declared.member.InputTree.{InputTree}
+use Rattle.gql_syntax.specs.gql_lex.Sources.{Source}
+use Rattle.gql_syntax.specs.gql_lex.Toks as tok
+use Rattle.gql_syntax.specs.gql_lex.Toks.{Tok, punctuator_of}
+use Rattle.gql_syntax.specs.gql_ast.declared.directive.Directive.{Directive}
+use Rattle.gql_syntax.specs.gql_ast.declared.member.InputTree.{InputTree}
 use Rattle.gql_syntax.proofs.Tokens.{not_at}
 use Rattle.gql_syntax.specs.Answers.{node_count}
 use Rattle.gql_syntax.specs.Nexts.{is_at, next_is, Comes}

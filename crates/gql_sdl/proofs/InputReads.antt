@@ -1,13 +1,13 @@
 -- What has been read of inputs.
 use Rattle.std.proofs.Common.{◌≡◌, ◌≤◌, ◌<◌, ℕ, true, false, List, [], ◌∷◌, length, Option, Some, None, option_map, Result, Ok, Err, IfOk, IfErr, OnOk, refl, sym, ap, subst, ◌∙◌, arith}
-use Rattle.gql_lex.specs.Sources.{Source, ended, faulty, token}
-use Rattle.gql_lex.specs.Toks as tok
-use Rattle.gql_lex.specs.Toks.{Tok, punctuator_of, tok_of_piece}
-use Rattle.gql_ast.specs.TypeView.{ty_of}
-use Rattle.gql_ast.specs.ValueView.{value_of}
-use Rattle.gql_ast.specs.declared.directive.Directive.{Directive}
-use Rattle.gql_ast.specs.declared.type_tree.TypeTree.{TypeTree}
-use Rattle.gql_ast.specs.declared.value.ValueTree.{ValueTree}
+use Rattle.gql_syntax.specs.gql_lex.Sources.{Source, ended, faulty, token}
+use Rattle.gql_syntax.specs.gql_lex.Toks as tok
+use Rattle.gql_syntax.specs.gql_lex.Toks.{Tok, punctuator_of, tok_of_piece}
+use Rattle.gql_syntax.specs.gql_ast.TypeView.{ty_of}
+use Rattle.gql_syntax.specs.gql_ast.ValueView.{value_of}
+use Rattle.gql_syntax.specs.gql_ast.declared.directive.Directive.{Directive}
+use Rattle.gql_syntax.specs.gql_ast.declared.type_tree.TypeTree.{TypeTree}
+use Rattle.gql_syntax.specs.gql_ast.declared.value.ValueTree.{ValueTree}
 use Rattle.gql_syntax.proofs.Tokens.{not_at, no_word}
 use Rattle.gql_syntax.specs.Answers.{node_count, Misses, default_read}
 use Rattle.gql_syntax.specs.Machine.{further, want_type, whole}

@@ -1,9 +1,9 @@
 -- What has been read of names and locations.
 use Rattle.std.proofs.Common.{◌≡◌, ◌≢◌, ◌≤◌, ◌⊎◌, inl, inr, ℕ, Bool, true, false, not, cond, bytes_eq, IfOk, List, [], ◌∷◌, ◌++◌, map, length, Option, Some, None, option_map, Result, Ok, Err, refl, sym, ap, subst, ◌∙◌, arith}
-use Rattle.gql_lex.specs.Sources.{Source}
-use Rattle.gql_lex.specs.Toks as tok
-use Rattle.gql_lex.specs.Toks.{Tok, punctuator_of}
-use Rattle.gql_ast.specs.declared.location.Location.{Location}
+use Rattle.gql_syntax.specs.gql_lex.Sources.{Source}
+use Rattle.gql_syntax.specs.gql_lex.Toks as tok
+use Rattle.gql_syntax.specs.gql_lex.Toks.{Tok, punctuator_of}
+use Rattle.gql_syntax.specs.gql_ast.declared.location.Location.{Location}
 use Rattle.gql_syntax.proofs.Tokens.{not_at, no_word}
 use Rattle.gql_syntax.specs.Answers.{node_count, Misses, wrong_at}
 use Rattle.gql_syntax.specs.Nexts.{behind, is_at, word_of, next_is, next_word, Comes, stopped_at, token_count}

@@ -2,9 +2,9 @@
 use Rattle.std.specs.Borrow.{MutBor}
 use Rattle.std.proofs.Common.{◌≡◌, ◌≢◌, ◌≤◌, ℕ, true, false, List, [], ◌∷◌, ◌++◌, map, length, None, Result, Ok, Err, refl, sym, ap, subst, ◌∙◌, arith}
 use Rattle.std.proofs.lemmas.List.{append-nil, append_assoc}
-use Rattle.gql_lex.specs.Sources.{Source, ended, faulty, token}
+use Rattle.gql_syntax.specs.gql_lex.Sources.{Source, ended, faulty, token}
 use Rattle.gql_syntax.proofs.Tokens.{comes_at}
-use Rattle.gql_lex.specs.Toks.{Tok, punctuator_of}
+use Rattle.gql_syntax.specs.gql_lex.Toks.{Tok, punctuator_of}
 use Rattle.gql_syntax.specs.Answers.{wrong_at}
 use Rattle.gql_syntax.specs.Nexts.{next_is, Comes, stopped_at, token_count}
 use Rattle.gql_syntax.specs.Places.{Ahead, lay}

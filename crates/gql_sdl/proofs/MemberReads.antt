@@ -1,16 +1,16 @@
 -- What has been read of fields, of values of enums, and of roots.
 use Rattle.std.proofs.Common.{◌≡◌, ◌≤◌, ◌⊎◌, inl, inr, ℕ, true, false, cond, List, [], ◌∷◌, map, length, Option, Some, None, Result, Ok, Err, IfOk, IfErr, OnOk, refl, sym, ap, subst, ◌∙◌, arith}
-use Rattle.gql_lex.specs.Sources.{Source, ended, faulty, token}
-use Rattle.gql_lex.specs.Toks as tok
-use Rattle.gql_lex.specs.Toks.{Tok, punctuator_of, tok_of_piece}
-use Rattle.gql_ast.specs.TypeView.{ty_of}
-use Rattle.gql_ast.specs.declared.directive.Directive.{Directive}
-use Rattle.gql_ast.specs.declared.document.Kind.{Kind}
-use Rattle.gql_ast.specs.declared.member.FieldTree.{FieldTree}
-use Rattle.gql_ast.specs.declared.member.InputTree.{InputTree}
-use Rattle.gql_ast.specs.declared.member.EnumValue.{EnumValue}
-use Rattle.gql_ast.specs.declared.schema.Root.{Root}
-use Rattle.gql_ast.specs.declared.type_tree.TypeTree.{TypeTree}
+use Rattle.gql_syntax.specs.gql_lex.Sources.{Source, ended, faulty, token}
+use Rattle.gql_syntax.specs.gql_lex.Toks as tok
+use Rattle.gql_syntax.specs.gql_lex.Toks.{Tok, punctuator_of, tok_of_piece}
+use Rattle.gql_syntax.specs.gql_ast.TypeView.{ty_of}
+use Rattle.gql_syntax.specs.gql_ast.declared.directive.Directive.{Directive}
+use Rattle.gql_syntax.specs.gql_ast.declared.document.Kind.{Kind}
+use Rattle.gql_syntax.specs.gql_ast.declared.member.FieldTree.{FieldTree}
+use Rattle.gql_syntax.specs.gql_ast.declared.member.InputTree.{InputTree}
+use Rattle.gql_syntax.specs.gql_ast.declared.member.EnumValue.{EnumValue}
+use Rattle.gql_syntax.specs.gql_ast.declared.schema.Root.{Root}
+use Rattle.gql_syntax.specs.gql_ast.declared.type_tree.TypeTree.{TypeTree}
 use Rattle.gql_syntax.proofs.Tokens.{not_at, no_word}
 use Rattle.gql_syntax.specs.Answers.{node_count, Misses, wrong_at, Tells}
 use Rattle.gql_syntax.specs.Machine.{further, want_type, whole}

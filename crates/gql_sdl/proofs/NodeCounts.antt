@@ -1,13 +1,13 @@
 -- A schema has as many places as nodes.
 use Rattle.std.proofs.Common.{◌≡◌, ℕ, ◌+◌, Bool, true, false, List, [], ◌∷◌, length, map, Some, None, refl, sym, ap, ◌∙◌, arith}
-use Rattle.gql_lex.specs.Sources.{lex_from}
-use Rattle.gql_lex.specs.Toks as tok
-use Rattle.gql_lex.specs.Toks.{Tok}
-use Rattle.gql_ast.specs.TypeView.{ty_of}
-use Rattle.gql_ast.specs.declared.directive.Directive.{Directive}
-use Rattle.gql_ast.specs.declared.place.Placed.{Placed}
-use Rattle.gql_ast.specs.declared.schema.Root.{Root}
-use Rattle.gql_ast.specs.declared.schema.SchemaTree.{SchemaTree}
+use Rattle.gql_syntax.specs.gql_lex.Sources.{lex_from}
+use Rattle.gql_syntax.specs.gql_lex.Toks as tok
+use Rattle.gql_syntax.specs.gql_lex.Toks.{Tok}
+use Rattle.gql_syntax.specs.gql_ast.TypeView.{ty_of}
+use Rattle.gql_syntax.specs.gql_ast.declared.directive.Directive.{Directive}
+use Rattle.gql_syntax.specs.gql_ast.declared.place.Placed.{Placed}
+use Rattle.gql_syntax.specs.gql_ast.declared.schema.Root.{Root}
+use Rattle.gql_syntax.specs.gql_ast.declared.schema.SchemaTree.{SchemaTree}
 use Rattle.gql_sdl.specs.Nodes.{inputs_nodes, fields_nodes, enum_values_nodes, roots_nodes, definition_nodes, definitions_nodes, schema_nodes}
 use Rattle.gql_sdl.specs.Schemas.{location_word, Description, WrittenInput, WrittenField, WrittenValue, Written, schema, scalar, object, interface, union, enum, input, directive, Described, NotEmpty, inputs_of, field_of, values_of, written_of, definition_of, schemas, nodes_of, spell_description, spell_inputs, spell_argument_defs, spell_input_fields, spell_fields, spell_fields_part, spell_enum_values, spell_enum_values_part, spell_roots, spell_leading, spell_further, spell_separated, spell_implements, spell_members_part, spell_repeatable, spell_written, spell_described, spell_definitions}
 use Rattle.gql_sdl.specs.Trees.{IsSchema}

@@ -1,12 +1,12 @@
 -- A machine of schemas with a greater limit goes the same way, from each state that reads no value, type or directive.
 use Rattle.std.proofs.Common.{◌≡◌, ℕ, ◌+◌, Bool, true, false, cond, bytes_eq, List, [], ◌∷◌, ◌++◌, Option, Some, None, option_map, Result, Ok, Err, refl}
-use Rattle.gql_lex.specs.Toks as tok
-use Rattle.gql_lex.specs.Toks.{Tok}
-use Rattle.gql_ast.specs.Ty.{Ty}
-use Rattle.gql_ast.specs.declared.directive.Directive.{Directive}
-use Rattle.gql_ast.specs.declared.document.Kind.{Kind}
-use Rattle.gql_ast.specs.declared.location.Location.{Location}
-use Rattle.gql_ast.specs.declared.schema.Root.{Root}
+use Rattle.gql_syntax.specs.gql_lex.Toks as tok
+use Rattle.gql_syntax.specs.gql_lex.Toks.{Tok}
+use Rattle.gql_syntax.specs.gql_ast.Ty.{Ty}
+use Rattle.gql_syntax.specs.gql_ast.declared.directive.Directive.{Directive}
+use Rattle.gql_syntax.specs.gql_ast.declared.document.Kind.{Kind}
+use Rattle.gql_syntax.specs.gql_ast.declared.location.Location.{Location}
+use Rattle.gql_syntax.specs.gql_ast.declared.schema.Root.{Root}
 use Rattle.gql_syntax.specs.Run.{Halt, unexpected, too_deep}
 use Rattle.gql_syntax.specs.Words.{on_word}
 use Rattle.gql_sdl.specs.Machine.{Fielded, Titled, a_scalar, with_fields, a_union, an_enum, an_input, Word, a_schema, titled, a_directive, word_of, kind_of, location_of, implements_word, repeatable_word, is_reserved, Front, Fields, Inputs, of_field, of_directive, of_object, TypedInput, Values, Typed, input_type, field_type, Owner, on_schema, on_scalar, on_fielded, on_union, on_enum, on_object, on_input, on_field, on_value, Listing, implementing, uniting, locating, listing_then, is_separator, State, head, title, entitled, directive_sign, directive_title, directive_arguments, directive_on, listing, listing_led, listing_more, listing_next, roots, root_colon, root_name, fields, field_arguments, field_colon, inputs, input_colon, input_default, enum_values, in_directives, in_type, in_value, front_then, heading_then, heading_of, field_then, input_then, value_then, describe, begin_definition, at_head, entitle, close, at_fields, close_parens, close_braces, at_inputs, at_values, open_root, at_roots, after_directives, at_directives, after_listing, listing_more_of, listing_name, at_repeatable, at_entitled, at_default, after_type, advance}

@@ -2,8 +2,8 @@
 -- has no separator in front of an empty list.
 use Rattle.std.proofs.Common.{◌≡◌, ◌≤◌, ◌<◌, ℕ, ◌+◌, List, [], ◌∷◌, map, Some, Result, Ok, Err, IfOk, refl, ap, ◌∙◌, arith}
 use Rattle.std.specs.List.{AllByRecursion}
-use Rattle.gql_lex.specs.Toks.{Tok}
-use Rattle.gql_ast.specs.Ty.{Ty}
+use Rattle.gql_syntax.specs.gql_lex.Toks.{Tok}
+use Rattle.gql_syntax.specs.gql_ast.Ty.{Ty}
 use Rattle.gql_syntax.proofs.DirectiveLaws.{directives_sound, directives_shallow, directives_seated, directives_deep, directives_lift_step, directives_lift_unexpected, directives_lift_too_deep, lift_directives_level, lift_directives_so_far, lift_directives_seated}
 use Rattle.gql_syntax.proofs.Laws.{Leveled, Laws, Written, Stepped, Finishes}
 use Rattle.gql_syntax.proofs.Outcomes.{finishes}

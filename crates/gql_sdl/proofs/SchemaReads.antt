@@ -1,16 +1,16 @@
 -- A text that is read is a schema, and the one that it is.
 use Rattle.std.proofs.Common.{◌≡◌, ◌<◌, ◌⊎◌, inl, inr, ℕ, ◌+◌, Bool, true, false, List, [], ◌∷◌, ◌++◌, map, length, Some, None, slice_index, Result, Ok, Err, IsUtf8, refl, sym, ap, subst, ◌∙◌}
 use Rattle.std.specs.List.{AllByRecursion}
-use Rattle.gql_lex.specs.Lines.{place_at}
-use Rattle.gql_lex.specs.Sources.{Source, ended, faulty, token, lex_from}
-use Rattle.gql_lex.specs.Toks as tok
-use Rattle.gql_lex.specs.Toks.{Tok, tok_of_piece}
-use Rattle.gql_ast.specs.declared.fault.ParseFault.{ParseFault}
-use Rattle.gql_ast.specs.declared.fault.ParseFault.TheVariants as parse
-use Rattle.gql_ast.specs.declared.fault.SyntaxFault.{SyntaxFault}
-use Rattle.gql_ast.specs.declared.place.Placed.{Placed}
-use Rattle.gql_ast.specs.declared.schema.SchemaDef.{SchemaDef}
-use Rattle.gql_ast.specs.declared.schema.SchemaTree.{SchemaTree}
+use Rattle.gql_syntax.specs.gql_lex.Lines.{place_at}
+use Rattle.gql_syntax.specs.gql_lex.Sources.{Source, ended, faulty, token, lex_from}
+use Rattle.gql_syntax.specs.gql_lex.Toks as tok
+use Rattle.gql_syntax.specs.gql_lex.Toks.{Tok, tok_of_piece}
+use Rattle.gql_syntax.specs.gql_ast.declared.fault.ParseFault.{ParseFault}
+use Rattle.gql_syntax.specs.gql_ast.declared.fault.ParseFault.TheVariants as parse
+use Rattle.gql_syntax.specs.gql_ast.declared.fault.SyntaxFault.{SyntaxFault}
+use Rattle.gql_syntax.specs.gql_ast.declared.place.Placed.{Placed}
+use Rattle.gql_syntax.specs.gql_ast.declared.schema.SchemaDef.{SchemaDef}
+use Rattle.gql_syntax.specs.gql_ast.declared.schema.SchemaTree.{SchemaTree}
 use Rattle.gql_syntax.proofs.Lying.{fault_lies}
 use Rattle.gql_syntax.proofs.Reading.{tree_found, tree_only, parse_fault_found, read_text}
 use Rattle.gql_syntax.specs.Answers.{LiesIn, fault_in}

@@ -1,7 +1,7 @@
 -- What holds of the states that are reached: what was read is formed.
 use Rattle.std.proofs.Common.{Bool, true, List, [], ◌∷◌, ◌++◌}
 use Rattle.std.specs.List.{AllByRecursion}
-use Rattle.gql_ast.specs.TypeView.{ty_of}
+use Rattle.gql_syntax.specs.gql_ast.TypeView.{ty_of}
 use Rattle.gql_syntax.proofs.Shapes.{ShapedDirectives, ShapedDefault, ShapedType}
 use Rattle.gql_syntax.specs.Words.{IsEnumName}
 use Rattle.gql_sdl.specs.Machine.{Front, Heading, Fields, OpenField, Inputs, of_field, of_directive, of_object, OpenInput, TypedInput, ArguedField, Values, OpenValue, Typed, input_type, field_type, Owner, on_schema, on_scalar, on_fielded, on_union, on_enum, on_object, on_input, on_field, on_value, Listing, implementing, uniting, locating}

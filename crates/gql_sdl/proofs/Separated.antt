@@ -1,8 +1,8 @@
 -- What has been read of a list with separators.
 use Rattle.std.proofs.Common.{◌≡◌, ◌≤◌, ℕ, true, false, List, [], ◌∷◌, ◌++◌, map, length, Some, None, Ok, Err, refl, sym, ap, subst, ◌∙◌, arith}
-use Rattle.gql_lex.specs.Sources.{Source}
-use Rattle.gql_lex.specs.Toks as tok
-use Rattle.gql_lex.specs.Toks.{Tok, punctuator_of}
+use Rattle.gql_syntax.specs.gql_lex.Sources.{Source}
+use Rattle.gql_syntax.specs.gql_lex.Toks as tok
+use Rattle.gql_syntax.specs.gql_lex.Toks.{Tok, punctuator_of}
 use Rattle.gql_syntax.specs.Answers.{node_count, Misses}
 use Rattle.gql_syntax.specs.Nexts.{behind, next_is, next_word, Comes, stopped_at, token_count}
 use Rattle.gql_syntax.specs.Places.{Ahead, lay}

@@ -1,10 +1,10 @@
 -- The word that a name is told as, is that name.
 use Rattle.std.proofs.Common.{◌≡◌, ℕ, Bool, true, false, cond, bytes_eq, List, [], ◌∷◌, Some, refl}
 use Rattle.std.proofs.lemmas.Slice.Eq.{bytes_eq-Decides}
-use Rattle.gql_ast.specs.declared.document.Kind.{Kind}
-use Rattle.gql_ast.specs.declared.document.Kind.TheVariants as K
-use Rattle.gql_ast.specs.declared.location.Location.{Location}
-use Rattle.gql_ast.specs.declared.location.Location.TheVariants as L
+use Rattle.gql_syntax.specs.gql_ast.declared.document.Kind.{Kind}
+use Rattle.gql_syntax.specs.gql_ast.declared.document.Kind.TheVariants as K
+use Rattle.gql_syntax.specs.gql_ast.declared.location.Location.{Location}
+use Rattle.gql_syntax.specs.gql_ast.declared.location.Location.TheVariants as L
 use Rattle.gql_syntax.specs.Words.{kind_word, IsEnumName, true_word, false_word, null_word}
 use Rattle.gql_sdl.specs.Machine.{an_object, an_interface, a_scalar, with_fields, a_union, an_enum, an_input, Word, a_schema, titled, a_directive, word_text, find_by, words, word_of, kinds, kind_of, all_locations, location_of, is_reserved}
 use Rattle.gql_sdl.specs.Schemas.{location_word}

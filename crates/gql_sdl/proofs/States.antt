@@ -1,7 +1,7 @@
 -- The machine of schemas with what its laws speak of.
 use Rattle.std.proofs.Common.{ℕ, true, List, ◌∷◌, codes}
-use Rattle.gql_lex.specs.Toks as tok
-use Rattle.gql_lex.specs.Toks.{Tok}
+use Rattle.gql_syntax.specs.gql_lex.Toks as tok
+use Rattle.gql_syntax.specs.gql_lex.Toks.{Tok}
 use Rattle.gql_syntax.proofs.Laws.{Leveled, Machine}
 use Rattle.gql_syntax.proofs.Standing.{mark_level, Ground, value_level, value_so_far, lift_value, SeatedValue, directives_level, directives_so_far, lift_directives, SeatedDirectives, type_level, type_so_far, lift_type, SeatedType}
 use Rattle.gql_syntax.proofs.Shapes.{ShapedDirectives}

@@ -1,16 +1,16 @@
 -- A step reads its token, opens not too much, and comes to a state of the same kind.
 use Rattle.std.proofs.Common.{◌≡◌, ◌≤◌, ◌<◌, ℕ, Bool, true, false, cond, bytes_eq, List, [], ◌∷◌, ◌++◌, map, codes, Option, Some, None, option_map, Result, Ok, Err, refl, sym, ap, subst, ◌∙◌, arith}
 use Rattle.std.specs.List.{AllByRecursion}
-use Rattle.gql_lex.specs.Toks as tok
-use Rattle.gql_lex.specs.Toks.{Tok}
-use Rattle.gql_ast.specs.Ty.{Ty}
-use Rattle.gql_ast.specs.Value.{Val}
+use Rattle.gql_syntax.specs.gql_lex.Toks as tok
+use Rattle.gql_syntax.specs.gql_lex.Toks.{Tok}
+use Rattle.gql_syntax.specs.gql_ast.Ty.{Ty}
+use Rattle.gql_syntax.specs.gql_ast.Value.{Val}
 use Rattle.gql_syntax.specs.Built.{type_tree}
 use Rattle.gql_syntax.proofs.BuiltTrees.{ty_of-type_tree, value_of-value_tree}
-use Rattle.gql_ast.specs.declared.directive.Directive.{Directive}
-use Rattle.gql_ast.specs.declared.document.Kind.{Kind}
-use Rattle.gql_ast.specs.declared.location.Location.{Location}
-use Rattle.gql_ast.specs.declared.schema.Root.{Root}
+use Rattle.gql_syntax.specs.gql_ast.declared.directive.Directive.{Directive}
+use Rattle.gql_syntax.specs.gql_ast.declared.document.Kind.{Kind}
+use Rattle.gql_syntax.specs.gql_ast.declared.location.Location.{Location}
+use Rattle.gql_syntax.specs.gql_ast.declared.schema.Root.{Root}
 use Rattle.gql_syntax.proofs.Laws.{Leveled}
 use Rattle.gql_syntax.proofs.Standing.{mark_level}
 use Rattle.gql_syntax.proofs.Shapes.{ShapedDirectives, ShapedType, ShapedValue}

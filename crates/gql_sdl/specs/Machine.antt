@@ -1,17 +1,17 @@
 -- The machine that reads schemas, one token at a time: what may come next, and all that is open, with what was read of it.
 use Rattle.std.specs.Prelude.{ℕ, Bool, true, false, cond, bytes_eq, List, [], ◌∷◌, ◌++◌, map, Option, Some, None, option_map, Result, Ok, Err, codes}
-use Rattle.gql_lex.specs.Toks as tok
-use Rattle.gql_lex.specs.Toks.{Tok}
-use Rattle.gql_ast.specs.Ty.{Ty}
-use Rattle.gql_ast.specs.Value.{Val}
-use Rattle.gql_ast.specs.declared.directive.Directive.{Directive}
-use Rattle.gql_ast.specs.declared.document.Kind.{Kind}
-use Rattle.gql_ast.specs.declared.document.Kind.TheVariants as K
-use Rattle.gql_ast.specs.declared.location.Location.{Location}
-use Rattle.gql_ast.specs.declared.location.Location.TheVariants as L
-use Rattle.gql_ast.specs.declared.schema.Root.{Root}
-use Rattle.gql_ast.specs.declared.type_tree.TypeTree.{TypeTree}
-use Rattle.gql_ast.specs.declared.value.ValueTree.{ValueTree}
+use Rattle.gql_syntax.specs.gql_lex.Toks as tok
+use Rattle.gql_syntax.specs.gql_lex.Toks.{Tok}
+use Rattle.gql_syntax.specs.gql_ast.Ty.{Ty}
+use Rattle.gql_syntax.specs.gql_ast.Value.{Val}
+use Rattle.gql_syntax.specs.gql_ast.declared.directive.Directive.{Directive}
+use Rattle.gql_syntax.specs.gql_ast.declared.document.Kind.{Kind}
+use Rattle.gql_syntax.specs.gql_ast.declared.document.Kind.TheVariants as K
+use Rattle.gql_syntax.specs.gql_ast.declared.location.Location.{Location}
+use Rattle.gql_syntax.specs.gql_ast.declared.location.Location.TheVariants as L
+use Rattle.gql_syntax.specs.gql_ast.declared.schema.Root.{Root}
+use Rattle.gql_syntax.specs.gql_ast.declared.type_tree.TypeTree.{TypeTree}
+use Rattle.gql_syntax.specs.gql_ast.declared.value.ValueTree.{ValueTree}
 use Rattle.gql_syntax.specs.Machine.{Reading, want, outer, value_step, Directing, further, at_name, applied, arguing, with_arguments, directives_step, next_directive, Typing, want_type, whole, type_step}
 use Rattle.gql_syntax.specs.Run.{Halt, unexpected}
 use Rattle.gql_syntax.specs.Words.{on_word, kind_word, true_word, false_word, null_word}

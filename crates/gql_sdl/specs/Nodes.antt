@@ -1,13 +1,13 @@
 -- How many nodes a schema has: each definition with its members, and each name that is written in it. Descriptions are none.
 use Rattle.std.specs.Prelude.{ℕ, ◌+◌, List, [], ◌∷◌, length}
-use Rattle.gql_ast.specs.TypeView.{ty_of}
-use Rattle.gql_ast.specs.declared.member.EnumValue.{EnumValue}
-use Rattle.gql_ast.specs.declared.member.FieldTree.{FieldTree}
-use Rattle.gql_ast.specs.declared.member.InputTree.{InputTree}
-use Rattle.gql_ast.specs.declared.schema.Root.{Root}
-use Rattle.gql_ast.specs.declared.schema.SchemaDef.{SchemaDef}
-use Rattle.gql_ast.specs.declared.schema.SchemaDef.TheVariants as S
-use Rattle.gql_ast.specs.declared.schema.SchemaTree.{SchemaTree}
+use Rattle.gql_syntax.specs.gql_ast.TypeView.{ty_of}
+use Rattle.gql_syntax.specs.gql_ast.declared.member.EnumValue.{EnumValue}
+use Rattle.gql_syntax.specs.gql_ast.declared.member.FieldTree.{FieldTree}
+use Rattle.gql_syntax.specs.gql_ast.declared.member.InputTree.{InputTree}
+use Rattle.gql_syntax.specs.gql_ast.declared.schema.Root.{Root}
+use Rattle.gql_syntax.specs.gql_ast.declared.schema.SchemaDef.{SchemaDef}
+use Rattle.gql_syntax.specs.gql_ast.declared.schema.SchemaDef.TheVariants as S
+use Rattle.gql_syntax.specs.gql_ast.declared.schema.SchemaTree.{SchemaTree}
 use Rattle.gql_syntax.specs.Nodes.{directives_nodes, type_nodes, default_nodes}
 
 -- each input, field and enum value with its name

@@ -1,9 +1,9 @@
 -- What the parts of the parser have read: from wherever a part stands, the machine goes on behind it.
 use Rattle.std.specs.Prelude.{◌≡◌, ℕ, Bool, true, false, List, [], ◌∷◌, ◌++◌, Some, None, Result}
-use Rattle.gql_lex.specs.Sources.{Source}
-use Rattle.gql_ast.specs.declared.directive.Directive.{Directive}
-use Rattle.gql_ast.specs.declared.location.Location.{Location}
-use Rattle.gql_ast.specs.declared.schema.Root.{Root}
+use Rattle.gql_syntax.specs.gql_lex.Sources.{Source}
+use Rattle.gql_syntax.specs.gql_ast.declared.directive.Directive.{Directive}
+use Rattle.gql_syntax.specs.gql_ast.declared.location.Location.{Location}
+use Rattle.gql_syntax.specs.gql_ast.declared.schema.Root.{Root}
 use Rattle.gql_syntax.specs.Answers.{node_count}
 use Rattle.gql_syntax.specs.Machine.{further}
 use Rattle.gql_syntax.specs.Nexts.{next_is, next_is_text, next_word}
@@ -16,10 +16,10 @@ use Rattle.gql_syntax.specs.declared.fault.Fault.{Fault}
 use Rattle.gql_sdl.specs.Machine.{Front, Fielded, Fields, Inputs, of_field, of_directive, of_object, Values, on_schema, on_fielded, on_union, on_enum, on_object, on_value, Listing, implementing, uniting, locating, State, head, entitled, fields, field_arguments, inputs, input_colon, enum_values, roots, directive_arguments, directive_on, listing, listing_led, in_directives, directives_of, heading_of, front_then, heading_then, fielded_word, fielded_written, advance, finish, no_front}
 use Rattle.gql_sdl.specs.Schemas.{Description, WrittenInput, WrittenField, WrittenValue, Written, schema, enum, union, directive, Described, spell_description, spell_separated, spell_implements, spell_fields_part, spell_written, definition_of, nodes_of, field_of, location_word}
 use Rattle.gql_syntax.specs.Spelling.{spell_directives}
-use Rattle.gql_ast.specs.declared.schema.SchemaDef.{SchemaDef}
+use Rattle.gql_syntax.specs.gql_ast.declared.schema.SchemaDef.{SchemaDef}
 use Rattle.gql_sdl.specs.declared.definitions.TypeWithFields.{TypeWithFields}
 use Rattle.std.specs.Prelude.{map}
-use Rattle.gql_lex.specs.Toks as tok
+use Rattle.gql_syntax.specs.gql_lex.Toks as tok
 
 abbrev pub run_on : (size : ℕ) → State → Source → Result (List Described) Stopped
 run_on size s ahead = run (advance nesting_limit) finish size s ahead

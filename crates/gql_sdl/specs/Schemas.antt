@@ -2,19 +2,19 @@
 -- them those that are given; `mark` says what is kept of a token, as for values.
 use Rattle.std.specs.Prelude.{ℕ, ◌+◌, Bool, true, false, List, [], ◌∷◌, map, Option, Some, None, codes}
 use Rattle.std.specs.List.{AllByRecursion}
-use Rattle.gql_lex.specs.Toks as tok
-use Rattle.gql_lex.specs.Toks.{Tok}
-use Rattle.gql_ast.specs.TypeView.{ty_of}
-use Rattle.gql_ast.specs.declared.directive.Directive.{Directive}
-use Rattle.gql_ast.specs.declared.location.Location.{Location}
-use Rattle.gql_ast.specs.declared.location.Location.TheVariants as L
-use Rattle.gql_ast.specs.declared.member.EnumValue.{EnumValue}
-use Rattle.gql_ast.specs.declared.member.FieldTree.{FieldTree}
-use Rattle.gql_ast.specs.declared.member.InputTree.{InputTree}
-use Rattle.gql_ast.specs.declared.schema.Root.{Root}
-use Rattle.gql_ast.specs.declared.schema.SchemaDef.{SchemaDef}
-use Rattle.gql_ast.specs.declared.schema.SchemaDef.TheVariants as S
-use Rattle.gql_ast.specs.declared.type_tree.TypeTree.{TypeTree}
+use Rattle.gql_syntax.specs.gql_lex.Toks as tok
+use Rattle.gql_syntax.specs.gql_lex.Toks.{Tok}
+use Rattle.gql_syntax.specs.gql_ast.TypeView.{ty_of}
+use Rattle.gql_syntax.specs.gql_ast.declared.directive.Directive.{Directive}
+use Rattle.gql_syntax.specs.gql_ast.declared.location.Location.{Location}
+use Rattle.gql_syntax.specs.gql_ast.declared.location.Location.TheVariants as L
+use Rattle.gql_syntax.specs.gql_ast.declared.member.EnumValue.{EnumValue}
+use Rattle.gql_syntax.specs.gql_ast.declared.member.FieldTree.{FieldTree}
+use Rattle.gql_syntax.specs.gql_ast.declared.member.InputTree.{InputTree}
+use Rattle.gql_syntax.specs.gql_ast.declared.schema.Root.{Root}
+use Rattle.gql_syntax.specs.gql_ast.declared.schema.SchemaDef.{SchemaDef}
+use Rattle.gql_syntax.specs.gql_ast.declared.schema.SchemaDef.TheVariants as S
+use Rattle.gql_syntax.specs.gql_ast.declared.type_tree.TypeTree.{TypeTree}
 use Rattle.gql_syntax.specs.FirstFault.{Grammar}
 use Rattle.gql_syntax.specs.Formed.{FormedDirectives, FormedDefault, FormedType}
 use Rattle.gql_syntax.specs.Spelling.{Mark, plain, spell_directives, spell_type, spell_default}

@@ -1,7 +1,7 @@
 -- The schema that a text is.
 use Rattle.std.specs.Prelude.{◌≡◌, ℕ, List, map}
-use Rattle.gql_ast.specs.declared.place.Placed.{Placed}
-use Rattle.gql_ast.specs.declared.schema.SchemaTree.{SchemaTree}
+use Rattle.gql_syntax.specs.gql_ast.declared.place.Placed.{Placed}
+use Rattle.gql_syntax.specs.gql_ast.declared.schema.SchemaTree.{SchemaTree}
 use Rattle.gql_sdl.specs.Schemas.{Described, definition_of, schemas, nodes_of}
 use Rattle.gql_syntax.specs.Texts.{IsTree}
 

@@ -9,8 +9,8 @@ ghost use Rattle.gql_syntax.specs.Nexts.{next_word, token_count};
 use crate::inputs::read_inputs;
 use crate::lists::{read_implements, read_locations, read_repeatable, read_union_members};
 use crate::members::{read_enum_values, read_fields, read_roots};
-use gql_ast::{Directives, FieldTrees, Names, SchemaDef, SchemaDefs};
-use gql_plain::Name;
+use gql_syntax::gql_ast::{Directives, FieldTrees, Names, SchemaDef, SchemaDefs};
+use gql_syntax::gql_plain::Name;
 use gql_syntax::{Cursor, Fault, expect, read_directives, read_name};
 use std::alloc::Global;
 

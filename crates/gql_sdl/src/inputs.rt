@@ -7,8 +7,8 @@ ghost use Rattle.gql_sdl.specs.Schemas.{inputs_of, spell_argument_defs, spell_in
 ghost use Rattle.gql_syntax.specs.Answers.{node_count};
 ghost use Rattle.gql_syntax.specs.Nexts.{next_is, token_count};
 
-use gql_ast::{InputTree, InputTrees};
-use gql_plain::Name;
+use gql_syntax::gql_ast::{InputTree, InputTrees};
+use gql_syntax::gql_plain::Name;
 use gql_syntax::{
     Cursor, Fault, expect, read_default, read_directives, read_members, read_name, read_type,
 };

@@ -1,9 +1,9 @@
 //! What holds of every text.
 ghost use Rattle.std.specs.Prelude.{◌≡◌, ℕ, List, length};
-ghost use Rattle.gql_ast.specs.declared.schema.SchemaTree.{SchemaTree};
-ghost use Rattle.gql_ast.specs.declared.fault.ParseFault.TheVariants.{Syntax};
-ghost use Rattle.gql_ast.specs.declared.fault.SyntaxFault.{SyntaxFault};
-ghost use Rattle.gql_ast.specs.declared.place.Placed.{Placed};
+ghost use Rattle.gql_syntax.specs.gql_ast.declared.schema.SchemaTree.{SchemaTree};
+ghost use Rattle.gql_syntax.specs.gql_ast.declared.fault.ParseFault.TheVariants.{Syntax};
+ghost use Rattle.gql_syntax.specs.gql_ast.declared.fault.SyntaxFault.{SyntaxFault};
+ghost use Rattle.gql_syntax.specs.gql_ast.declared.place.Placed.{Placed};
 ghost use Rattle.gql_sdl.specs.Schemas.{schemas};
 ghost use Rattle.gql_sdl.specs.Nodes.{schema_nodes};
 ghost use Rattle.gql_sdl.specs.Trees.{IsSchema};

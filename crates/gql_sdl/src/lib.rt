@@ -9,15 +9,15 @@ mod members;
 mod words;
 
 ghost use Rattle.std.specs.Prelude.{◌≡◌, ◌⊎◌, ◌<◌, ◌-◌, ◌^◌, length, Err, Ok, IfErr, IfOk};
-ghost use Rattle.gql_ast.specs.declared.fault.ParseFault.TheVariants.{NoMemory};
-ghost use Rattle.gql_ast.specs.declared.place.Placed.{Placed};
-ghost use Rattle.gql_ast.specs.declared.schema.SchemaTree.{SchemaTree};
+ghost use Rattle.gql_syntax.specs.gql_ast.declared.fault.ParseFault.TheVariants.{NoMemory};
+ghost use Rattle.gql_syntax.specs.gql_ast.declared.place.Placed.{Placed};
+ghost use Rattle.gql_syntax.specs.gql_ast.declared.schema.SchemaTree.{SchemaTree};
 ghost use Rattle.gql_sdl.specs.Schemas.{schemas};
 ghost use Rattle.gql_sdl.specs.Trees.{IsSchema};
 ghost use Rattle.gql_syntax.specs.Texts.{IsParseFault, TellsText};
 
 use definitions::read_definitions;
-use gql_ast::{ParseFault, Placed, SchemaTree};
+use gql_syntax::gql_ast::{ParseFault, Placed, SchemaTree};
 use gql_syntax::{Cursor, text_of};
 use std::alloc::Global;
 

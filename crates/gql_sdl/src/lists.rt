@@ -1,7 +1,7 @@
 //! Lists with `&` or `|` between, and perhaps one in front (GraphQL, October 2021, sections 3.6, 3.8 and
 //! 3.13).
 ghost use Rattle.std.specs.Prelude.{◌≡◌, ◌∷◌, ◌<◌, ℕ, List, length, Bool, Some, OnOk, IfOk, IfErr};
-ghost use Rattle.gql_ast.specs.declared.location.Location.{Location};
+ghost use Rattle.gql_syntax.specs.gql_ast.declared.location.Location.{Location};
 ghost use Rattle.gql_sdl.specs.Reads.{Anywhere, behind_implements, Led, behind_led_locations, led_locating, behind_led_names, led_names, behind_locations, MayList, MayLocate, MayNames, behind_names, NoDirective, Reads, set_repeatable, spell_led, spell_locations, spell_names, behind_union_members, before_locations, before_repeatable, before_names, before_implements, before_union_members};
 ghost use Rattle.gql_sdl.specs.Schemas.{location_word, NotEmpty, spell_implements, spell_members_part, spell_repeatable};
 ghost use Rattle.gql_syntax.specs.Answers.{Misses, node_count};
@@ -9,7 +9,7 @@ ghost use Rattle.gql_syntax.specs.Nexts.{behind, next_word, stopped_at};
 ghost use Rattle.gql_syntax.specs.Places.{lay};
 
 use crate::words::location_of;
-use gql_ast::{Location, Locations, Names};
+use gql_syntax::gql_ast::{Location, Locations, Names};
 use gql_syntax::{Cursor, Fault, expect_word, read_name};
 use std::alloc::Global;
 

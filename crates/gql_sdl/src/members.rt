@@ -4,15 +4,15 @@ ghost use Rattle.std.specs.Prelude.{◌≡◌, ◌∷◌, ◌<◌, ℕ, List, le
 ghost use Rattle.gql_sdl.specs.Machine.{is_reserved};
 ghost use Rattle.gql_sdl.specs.Reads.{behind_fields, closed_roots, behind_values, field_at, fields_at, MayField, Named, NoDirective, Reads, root_at, roots_at, spell_named, before_fields, unopened_roots, before_values, value_at, behind_value_name, values_at};
 ghost use Rattle.gql_sdl.specs.Schemas.{field_of, spell_enum_value, spell_enum_values_part, spell_field, spell_fields_part, spell_roots, values_of, WrittenValue};
-ghost use Rattle.gql_ast.specs.declared.schema.Root.{Root};
+ghost use Rattle.gql_syntax.specs.gql_ast.declared.schema.Root.{Root};
 ghost use Rattle.gql_syntax.specs.Answers.{Misses, node_count};
 ghost use Rattle.gql_syntax.specs.Nexts.{behind, next_word, stopped_at, token_count};
 ghost use Rattle.gql_syntax.specs.Places.{lay};
 
 use crate::inputs::{read_inputs, read_member_name};
 use crate::words::is_reserved_word;
-use gql_ast::{EnumValue, EnumValues, FieldTree, FieldTrees, Root, Roots};
-use gql_plain::Name;
+use gql_syntax::gql_ast::{EnumValue, EnumValues, FieldTree, FieldTrees, Root, Roots};
+use gql_syntax::gql_plain::Name;
 use gql_syntax::{
     Cursor, Fault, expect, kind_of, read_directives, read_members, read_name, read_type,
 };

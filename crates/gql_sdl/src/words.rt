@@ -3,7 +3,7 @@ ghost use Rattle.std.specs.Prelude.{◌≡◌};
 ghost use Rattle.gql_sdl.specs.Machine.{executable_locations, is_reserved, location_of as location_named, find_by, type_system_locations};
 ghost use Rattle.gql_sdl.specs.Schemas.{location_word};
 
-use gql_ast::Location;
+use gql_syntax::gql_ast::Location;
 
 /// The location that a word names (section 3.13).
 pub(crate) fn location_of(word: &str) -> Option<Location>

@@ -8,7 +8,7 @@ use Rattle.gql_lex.specs.Numbers.{sign_len, digits_len, int_len, is_in_i64}
 use Rattle.gql_lex.specs.Sources.{Source, ended, faulty, token, read_head, read, lex_from}
 use Rattle.gql_lex.specs.Strings.{further, and_then, is_simple_escape, is_four_hex, is_surrogate, code_of_hex, escape_len, text_step, text_end, block_step, block_end}
 use Rattle.gql_lex.specs.Toks.{Tok}
-use Rattle.gql_plain.specs.Names.{is_name_start, is_name_byte}
+use Rattle.gql_lex.specs.gql_plain.Names.{is_name_start, is_name_byte}
 use Rattle.std.specs.List.{prefix_len}
 use Rattle.std.specs.Prelude.{◌||◌, ◌==◌}
 use Rattle.gql_syntax.specs.FirstFault.{Leads}

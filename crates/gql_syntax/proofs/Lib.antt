@@ -1,3 +1,5 @@
+pub use Rattle.gql_lex.proofs as gql_lex_laws
+pub use Rattle.gql_ast.proofs.gql_plain_laws
 pub mod Shapes
 pub mod Forms
 pub mod Laws

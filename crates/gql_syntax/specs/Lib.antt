@@ -1,3 +1,6 @@
+pub use Rattle.gql_ast.specs as gql_ast
+pub use Rattle.gql_lex.specs as gql_lex
+pub use Rattle.gql_lex.specs.gql_plain
 pub mod Answers
 pub mod Built
 pub mod Codes

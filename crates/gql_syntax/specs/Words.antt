@@ -1,7 +1,7 @@
 -- The words of the grammars that documents and schemas share, as bytes of Names, and the forms of Names and Ints.
 use Rattle.std.specs.Prelude.{◌≡◌, ℕ, Bool, true, false, cond, List, codes, bytes_eq, ℤ, FitsSigned}
 use Rattle.std.specs.Int.{w64}
-use Rattle.gql_plain.specs.Names.{is_name}
+use Rattle.gql_lex.specs.gql_plain.Names.{is_name}
 use Rattle.gql_ast.specs.declared.document.Kind.{Kind}
 use Rattle.gql_ast.specs.declared.document.Kind.TheVariants.{Query, Mutation, Subscription}
 

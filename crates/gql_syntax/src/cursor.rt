@@ -8,9 +8,9 @@ ghost use Rattle.gql_syntax.specs.Nexts.{behind, IsLast, next_is, next_is_text, 
 ghost use Rattle.gql_syntax.specs.Places.{lay};
 
 use crate::fault::{Fault, TOO_DEEP, UNEXPECTED};
+use gql_ast::gql_plain::NoMemory;
 use gql_ast::{FilePlace, FilePlaces};
 use gql_lex::{LexFault, Lexer, Locator, Token, TokenKind};
-use gql_plain::NoMemory;
 use std::alloc::Global;
 use std::marker::Model;
 

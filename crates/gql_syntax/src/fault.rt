@@ -4,9 +4,9 @@ ghost use Rattle.gql_ast.specs.declared.fault.ParseFault.TheVariants.{Syntax};
 ghost use Rattle.gql_syntax.specs.Answers.{fault_in, LiesIn};
 ghost use Rattle.gql_syntax.specs.Texts.{no_text};
 
+use gql_ast::gql_plain::NoMemory;
 use gql_ast::{ParseFault, SyntaxFault};
 use gql_lex::place;
-use gql_plain::NoMemory;
 use std::alloc::{AllocError, AllocFailed};
 
 /// The code of a token that may not stand where it stands, and of an end that comes too early. Codes

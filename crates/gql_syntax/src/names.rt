@@ -9,7 +9,7 @@ ghost use Rattle.gql_syntax.specs.Words.{kind_word};
 use crate::cursor::Cursor;
 use crate::fault::Fault;
 use gql_ast::Kind;
-use gql_plain::{Name, Words};
+use gql_ast::gql_plain::{Name, Words};
 use std::alloc::Global;
 
 /// Takes a Name, at which so many nodes begin.

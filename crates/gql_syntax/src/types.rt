@@ -15,8 +15,8 @@ use crate::NESTING_LIMIT;
 use crate::cursor::Cursor;
 use crate::fault::Fault;
 use crate::names::{expect, read_name};
+use gql_ast::gql_plain::NoMemory;
 use gql_ast::{TypeBox, TypeTree};
-use gql_plain::NoMemory;
 use std::alloc::Global;
 
 /// Reads a type.

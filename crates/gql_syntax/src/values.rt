@@ -20,9 +20,9 @@ use crate::NESTING_LIMIT;
 use crate::cursor::Cursor;
 use crate::fault::Fault;
 use crate::names::{expect, read_name};
+use gql_ast::gql_plain::Words;
 use gql_ast::{Argument, Arguments, ValueTree, ValueTrees};
 use gql_lex::{Token, TokenKind, string_value};
-use gql_plain::Words;
 use std::alloc::Global;
 
 /// Reads a value in which so many lists and objects may nest; in a constant no variable

@@ -1,25 +1,25 @@
 -- Two maps of records with the same slots but at some ids: what entries and reads that look at none of these ids make of them.
 use Rattle.std.proofs.Common.{◌≡◌, ℕ, ◌+◌, Bool, false, List, [], ◌∷◌, ◌++◌, map, Option, Some, None, cond, refl, ap, ◌∙◌}
-use Rattle.gql_plain.proofs.SortedTexts.{has_text-sorted_texts}
-use Rattle.gql_plain.specs.Order.{sorted_texts}
+use Rattle.plan_ir.proofs.gql_plain_laws.SortedTexts.{has_text-sorted_texts}
+use Rattle.plan_ir.specs.gql_plain.Order.{sorted_texts}
 use Rattle.later_lines.specs.Looked.{looks_of_all, seen_by_watches}
 use Rattle.plan_ir.specs.Expansion as plans
 use Rattle.relay_machine.specs.Machine.{Handle, PartShown, Project, Watch, documents_of, fragment_read, is_changed, notices_of, operation_read, read_again, root_type, shown, shown_by, slots_of, started}
 use Rattle.relay_machine.specs.Printed.{notice_line}
-use Rattle.relay_model.specs.Collection.{Part, collect, part_of}
-use Rattle.relay_model.specs.Readings.{depth_of, fragment_part, masked_setting, part_reads, with_marked}
-use Rattle.schema_tables.specs.Types.{Text, possible, root}
-use Rattle.schema_types.specs.Environments.{Values}
-use Rattle.schema_types.specs.Sites.{FragmentAt}
-use Rattle.store_model.proofs.Enough.{looks_enough}
-use Rattle.store_model.proofs.Least.{Each, each_append, each_from, each_left, each_right, each_so, of_member}
-use Rattle.store_model.proofs.SameSlots.{read_same_seen}
-use Rattle.store_model.specs.Enough.{SameAt}
-use Rattle.store_model.specs.Entries.{apply, fold_entries, looks}
-use Rattle.store_model.specs.Records.{Records, slot_at}
-use Rattle.store_model.specs.Walks.{reading, type_of_record}
-use Rattle.store_model.specs.declared.entry.Entry.{Entry}
-use Rattle.store_record.specs.Keys as keys
+use Rattle.relay_machine.specs.relay_model.Collection.{Part, collect, part_of}
+use Rattle.relay_machine.specs.relay_model.Readings.{depth_of, fragment_part, masked_setting, part_reads, with_marked}
+use Rattle.plan_ir.specs.schema_tables.Types.{Text, possible, root}
+use Rattle.plan_ir.specs.schema_types.Environments.{Values}
+use Rattle.plan_ir.specs.schema_types.Sites.{FragmentAt}
+use Rattle.plan_ir.proofs.store_model_laws.Enough.{looks_enough}
+use Rattle.plan_ir.proofs.store_model_laws.Least.{Each, each_append, each_from, each_left, each_right, each_so, of_member}
+use Rattle.plan_ir.proofs.store_model_laws.SameSlots.{read_same_seen}
+use Rattle.plan_ir.specs.store_model.Enough.{SameAt}
+use Rattle.plan_ir.specs.store_model.Entries.{apply, fold_entries, looks}
+use Rattle.plan_ir.specs.store_model.Records.{Records, slot_at}
+use Rattle.plan_ir.specs.store_model.Walks.{reading, type_of_record}
+use Rattle.plan_ir.specs.store_model.declared.entry.Entry.{Entry}
+use Rattle.plan_ir.specs.store_record.Keys as keys
 
 module _ (D : Text → Bool) where
   abbrev pub IsAway : Text → Type 0

@@ -7,25 +7,25 @@ use Rattle.later_lines.specs.Alike.{AreAlike, StepsAlike}
 use Rattle.later_lines.specs.Laws.{LinesStayAlike}
 use Rattle.later_lines.specs.Looked.{event_sweeps, looked, looked_by_entries, looks_of_all, seen_by_all, seen_by_watches, sweeps}
 use Rattle.plan_ir.specs.Expansion.{operation_named, variable_trees}
-use Rattle.relay_dirs.specs.Locals.{locals_of}
+use Rattle.plan_ir.specs.relay_dirs.Locals.{locals_of}
 use Rattle.relay_machine.specs.Effects.{answer_reads, entries_in, layer_entries, newly_confirmed, reads_of_fragment, reads_of_part, reads_of_target}
 use Rattle.relay_machine.specs.Machine.{Confirmation, confirmed, swept, Handle, PartShown, Project, State, Step, Watch, accept, act, answer_to, base, confirm, definitions_in, drop_layer, entry_of, first_local_failure, first_refused, fold_confirmed, fragment_read, handle_named, is_in_use, is_layer, is_watch, noticed, notices_of, nothing_said, of_fragment, of_part, of_target, of_verdict, operation_read, read_again, refuse, release_handle, result_of, retain_named, said_to, scope_given, shown, start_watch, started, step_line, sweep_base, unless, unless_failure, unless_unknown, view, with_entries, with_handle, with_layer, with_watches, without_watch}
 use Rattle.relay_machine.specs.Printed.{collect_line, event_line, read_line, watch_line}
 use Rattle.relay_machine.specs.Refusals as refusals
 use Rattle.relay_machine.specs.Refusals.{Refusal}
-use Rattle.schema_tables.specs.Types.{Text}
-use Rattle.schema_types.specs.Environments.{Failure, Values, environment, first_failure}
-use Rattle.schema_types.specs.NameRules.{fragment_named, fragments, operations}
-use Rattle.schema_types.specs.Sites.{FragmentAt, OperationAt}
-use Rattle.store_model.proofs.Least.{each_left, each_right}
-use Rattle.store_model.specs.Entries.{fold_entries}
-use Rattle.store_model.specs.Events as e
-use Rattle.store_model.specs.Events.{Event, Line}
-use Rattle.store_model.specs.Records.{Records, no_records, slot_at}
-use Rattle.store_model.specs.Verdicts.{Verdict, refusal, content}
-use Rattle.store_model.specs.Walks.{Found, reading}
-use Rattle.store_model.specs.declared.command.Command.{Command}
-use Rattle.store_model.specs.declared.entry.Entry.{Entry}
+use Rattle.plan_ir.specs.schema_tables.Types.{Text}
+use Rattle.plan_ir.specs.schema_types.Environments.{Failure, Values, environment, first_failure}
+use Rattle.plan_ir.specs.schema_types.NameRules.{fragment_named, fragments, operations}
+use Rattle.plan_ir.specs.schema_types.Sites.{FragmentAt, OperationAt}
+use Rattle.plan_ir.proofs.store_model_laws.Least.{each_left, each_right}
+use Rattle.plan_ir.specs.store_model.Entries.{fold_entries}
+use Rattle.plan_ir.specs.store_model.Events as e
+use Rattle.plan_ir.specs.store_model.Events.{Event, Line}
+use Rattle.plan_ir.specs.store_model.Records.{Records, no_records, slot_at}
+use Rattle.plan_ir.specs.store_model.Verdicts.{Verdict, refusal, content}
+use Rattle.plan_ir.specs.store_model.Walks.{Found, reading}
+use Rattle.plan_ir.specs.store_model.declared.command.Command.{Command}
+use Rattle.plan_ir.specs.store_model.declared.entry.Entry.{Entry}
 
 -- ---- what was confirmed
 

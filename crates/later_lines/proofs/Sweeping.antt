@@ -5,9 +5,9 @@ use Rattle.std.proofs.lemmas.Bool.{or_parts}
 use Rattle.std.proofs.lemmas.List.{append-nil}
 use Rattle.std.specs.Cmp.Lexicographic.{nat_list_cmp_total}
 use Rattle.std.specs.FinMap.{same_map}
-use Rattle.gql_plain.specs.Order.{has_text}
-use Rattle.gql_plain.specs.ToJson.{compact}
-use Rattle.gql_plain.specs.Tree.{Tree, truth, text, list, trees_of}
+use Rattle.plan_ir.specs.gql_plain.Order.{has_text}
+use Rattle.plan_ir.specs.gql_plain.ToJson.{compact}
+use Rattle.plan_ir.specs.gql_plain.Tree.{Tree, truth, text, list, trees_of}
 use Rattle.later_lines.proofs.AlikeReads.{SameElsewhere}
 use Rattle.later_lines.proofs.AlikeSteps.{other_is}
 use Rattle.later_lines.specs.Alike.{dropped_ids, swept_state}
@@ -16,20 +16,20 @@ use Rattle.plan_ir.specs.Expansion as plans
 use Rattle.relay_machine.specs.Effects.{layer_entries}
 use Rattle.relay_machine.specs.Machine.{Confirmation, swept, Project, Retained, State, Watch, accept, base, documents_of, fold_confirmed, is_changed, is_reached, noticed, notices_of, read_again, retained, shown_by, slots_of, started, step_line, sweep_base, sweep_of, view, with_entries, with_watches}
 use Rattle.relay_machine.specs.Printed.{collect_line, in_order, line, notice_line, number}
-use Rattle.relay_model.specs.Collection.{collect, part_of}
-use Rattle.relay_model.specs.Reaches.{operation_reaches, whole_depth}
-use Rattle.relay_model.specs.Readings.{no_place}
-use Rattle.relay_model.specs.Responses.{whole_setting}
+use Rattle.relay_machine.specs.relay_model.Collection.{collect, part_of}
+use Rattle.relay_machine.specs.relay_model.Reaches.{operation_reaches, whole_depth}
+use Rattle.relay_machine.specs.relay_model.Readings.{no_place}
+use Rattle.relay_machine.specs.relay_model.Responses.{whole_setting}
 use Rattle.relay_machine.proofs.Sweeps.{confirmed_after, same_swept, slot_at-sweep, ties_alone}
-use Rattle.schema_tables.specs.Types.{Text, root}
-use Rattle.store_model.proofs.Least.{In, each_from}
-use Rattle.store_model.proofs.SameReach.{reach_same}
-use Rattle.store_model.specs.Entries.{fold_entries}
-use Rattle.store_model.specs.Events as e
-use Rattle.store_model.specs.Records.{Records, no_records, slot_at}
-use Rattle.store_model.specs.Walks.{Reading, shown_object, type_of_record}
-use Rattle.store_record.specs.Keys as keys_of
-use Rattle.store_record.specs.declared.record.Slot.{Slot}
+use Rattle.plan_ir.specs.schema_tables.Types.{Text, root}
+use Rattle.plan_ir.proofs.store_model_laws.Least.{In, each_from}
+use Rattle.plan_ir.proofs.store_model_laws.SameReach.{reach_same}
+use Rattle.plan_ir.specs.store_model.Entries.{fold_entries}
+use Rattle.plan_ir.specs.store_model.Events as e
+use Rattle.plan_ir.specs.store_model.Records.{Records, no_records, slot_at}
+use Rattle.plan_ir.specs.store_model.Walks.{Reading, shown_object, type_of_record}
+use Rattle.plan_ir.specs.store_record.Keys as keys_of
+use Rattle.plan_ir.specs.store_record.declared.record.Slot.{Slot}
 
 -- ---- a sweep added
 

@@ -1,9 +1,9 @@
 -- States of the machine that are alike but for the records at some ids.
 use Rattle.std.specs.Prelude.{◌≡◌, ℕ, Bool, false, List, [], ◌∷◌, ◌++◌}
 use Rattle.relay_machine.specs.Machine.{Project, State, Step, base, is_reached, retained, swept, with_entries}
-use Rattle.schema_tables.specs.Types.{Text}
-use Rattle.store_model.specs.Records.{slot_at}
-use Rattle.store_model.specs.Sweeps.{dropped}
+use Rattle.plan_ir.specs.schema_tables.Types.{Text}
+use Rattle.plan_ir.specs.store_model.Records.{slot_at}
+use Rattle.plan_ir.specs.store_model.Sweeps.{dropped}
 
 -- all parts but what was confirmed are the same, and the bases have the same slot at each other id
 pub record AreAlike (p : Project) (D : Text → Bool) (s t : State) : Type 0 where

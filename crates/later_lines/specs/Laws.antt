@@ -1,14 +1,14 @@
 -- The laws of later lines: what a sweep drops makes no difference to a line that does not look at it. They need no accepted project.
 use Rattle.std.specs.Prelude.{◌≡◌, ℕ, Bool, true, false, [], ◌++◌, length}
 use Rattle.std.specs.List.{AllByRecursion}
-use Rattle.gql_plain.specs.Order.{has_text}
+use Rattle.plan_ir.specs.gql_plain.Order.{has_text}
 use Rattle.later_lines.specs.Alike.{AreAlike, StepsAlike, dropped_ids, swept_state}
 use Rattle.later_lines.specs.Looked.{looked, sweeps}
 use Rattle.relay_machine.specs.Machine.{Project, State, Step, base, is_reached, notices_of, retained, step_line, view}
 use Rattle.relay_machine.specs.Printed.{collect_line}
-use Rattle.schema_tables.specs.Types.{Text}
-use Rattle.store_model.specs.Events as e
-use Rattle.store_model.specs.Events.{Line}
+use Rattle.plan_ir.specs.schema_tables.Types.{Text}
+use Rattle.plan_ir.specs.store_model.Events as e
+use Rattle.plan_ir.specs.store_model.Events.{Line}
 
 -- a line that does not sweep, and looks at none of the ids from the one state: both states write the same, and stay alike
 abbrev pub LinesStayAlike : Type 0

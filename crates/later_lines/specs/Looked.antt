@@ -2,13 +2,13 @@
 use Rattle.std.specs.Prelude.{ℕ, Bool, false, ◌==◌, List, [], ◌∷◌, ◌++◌, take, length, cond}
 use Rattle.relay_machine.specs.Effects.{answer_reads, layer_entries, newly_confirmed}
 use Rattle.relay_machine.specs.Machine.{Project, State, Step, Watch, act, base, shown_by, view}
-use Rattle.schema_tables.specs.Types.{Text}
-use Rattle.store_model.specs.Entries.{apply, looks}
-use Rattle.store_model.specs.Events as e
-use Rattle.store_model.specs.Events.{Event, Line}
-use Rattle.store_model.specs.Records.{Records}
-use Rattle.store_model.specs.Walks.{Found, reading}
-use Rattle.store_model.specs.declared.entry.Entry.{Entry}
+use Rattle.plan_ir.specs.schema_tables.Types.{Text}
+use Rattle.plan_ir.specs.store_model.Entries.{apply, looks}
+use Rattle.plan_ir.specs.store_model.Events as e
+use Rattle.plan_ir.specs.store_model.Events.{Event, Line}
+use Rattle.plan_ir.specs.store_model.Records.{Records}
+use Rattle.plan_ir.specs.store_model.Walks.{Found, reading}
+use Rattle.plan_ir.specs.store_model.declared.entry.Entry.{Entry}
 
 -- what entries ask for, each on the records that those before it leave
 abbrev pub looks_of_all : List Entry → Records → List Text

@@ -6,16 +6,13 @@
 ghost use Rattle.std.specs.Prelude.{◌<◌, length};
 
 use doc_merge::{MergeFault, check_merge};
-use gql_ast::{
-    Arguments, Definition, Directives, FilePlace, Kind, Operation, Selection, TypeTree,
-    VariableDefs,
-};
 use gql_parse::parse_document;
-use gql_plain::Name;
 use gql_sdl::parse_schema;
-use plan_ir::{Expanded, Node, Nodes};
-use schema_tables::type_forms::base_of;
-use schema_types::Schema;
+use plan_ir::type_forms::base_of;
+use plan_ir::{
+    Arguments, Definition, Directives, Expanded, FilePlace, Kind, Name, Node, Nodes, Operation,
+    Schema, Selection, TypeTree, VariableDefs,
+};
 use std::alloc::Global;
 use std::process::Abort;
 use std::test::Fail;

@@ -1,14 +1,11 @@
 //! Tests of the printed lines: each line once.
-use gql_plain::{Ids, OptIds, Pairs, Plain, Words};
+use plan_ir::{Cause, Field, Ids, OptIds, Pairs, PathStep, PathSteps, PayloadFault, Plain, Words};
 use relay_lines::{
-    Limited, Refusal, collect_line, event_line, fault_line, notice_line, read_line, refusal_line,
-    watch_line,
+    Limited, Refusal, Snapshot, collect_line, event_line, fault_line, notice_line, read_line,
+    refusal_line, watch_line,
 };
 use std::alloc::Global;
 use std::test::Fail;
-use store_model::{Cause, PathStep, PathSteps, PayloadFault};
-use store_read::Snapshot;
-use store_record::Field;
 
 const REFUSALS: &str = r#"{"code":1,"error":"NotJson","n":1}
 {"code":2,"error":"EventShape","n":2}

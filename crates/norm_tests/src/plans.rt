@@ -7,9 +7,10 @@
 //! then `*` if it is a list. Then come `@` and the key of its connection, with `/` in front of each of
 //! its filters. A guard is `~TYPES{`, `-VALUE{` for `@skip` or `+VALUE{` for `@include`, then its steps,
 //! and `}`.
-use gql_ast::{Argument, Arguments, ValueTree};
-use gql_plain::{Conn, Ids, Name, Words};
-use plan_ir::{Condition, Conditions, Guard, NormalPlan, NormalStep, NormalSteps};
+use plan_ir::{
+    Argument, Arguments, Condition, Conditions, Conn, Guard, Ids, Name, NormalPlan, NormalStep,
+    NormalSteps, ValueTree, Words,
+};
 use std::alloc::Global;
 use std::test::Fail;
 

@@ -1,10 +1,10 @@
 //! Facts and faults as texts.
-use gql_plain::{Id, Plain, text_of};
+use plan_ir::{
+    Cause, FactRow, Facts, Field, HandleFact, Id, PathStep, PayloadFault, Plain, text_of,
+};
 use std::alloc::Global;
 use std::test::Fail;
-use store_model::{Cause, FactRow, Facts, HandleFact, PathStep, PayloadFault};
 use store_norm::NormFault;
-use store_record::Field;
 
 /// A record a part: its id and its type, and then its fields. Behind them a page a part: the record
 /// that holds it, its two keys, its cursors, and its types. `;` ends a part.

@@ -1,8 +1,7 @@
 //! Rows of plans, responses, and what the responses say to the plans.
 use crate::plans::plan;
 use crate::printing::{facts_text, fault_text};
-use gql_plain::{Pairs, Plain, Words};
-use schema_values::Env;
+use plan_ir::{Env, Pairs, Plain, Words};
 use serde_json::Value;
 use std::alloc::Global;
 use std::test::Fail;

@@ -5,16 +5,16 @@ use Rattle.std.specs.Bool.{beq}
 use Rattle.std.specs.List.{filter}
 use Rattle.std.specs.Cmp.{booleans_Decides}
 use Rattle.std.specs.Cmp.Lexicographic.{pointwise_decides, bytes_decides}
-use Rattle.gql_graph.proofs.TextSteps.{same_self, same_text}
-use Rattle.gql_graph.specs.Rules.{each}
-use Rattle.gql_plain.proofs.Booleans.{or_false, or_true}
-use Rattle.gql_plain.proofs.SortedTexts.{has_text-sorted_texts}
-use Rattle.gql_plain.specs.Equal.{texts_eq}
-use Rattle.gql_plain.specs.Order.{has_text}
+use Rattle.plan_ir.proofs.gql_graph_laws.TextSteps.{same_self, same_text}
+use Rattle.plan_ir.specs.gql_graph.Rules.{each}
+use Rattle.plan_ir.proofs.gql_plain_laws.Booleans.{or_false, or_true}
+use Rattle.plan_ir.proofs.gql_plain_laws.SortedTexts.{has_text-sorted_texts}
+use Rattle.plan_ir.specs.gql_plain.Equal.{texts_eq}
+use Rattle.plan_ir.specs.gql_plain.Order.{has_text}
 use Rattle.plan_ir.specs.Additions.{is_abstract}
 use Rattle.relay_model.specs.Collection.{below_type}
-use Rattle.schema_tables.specs.Types.{Text, Defs, has_id, is_composite, possible}
-use Rattle.store_model.specs.Items.{Below, Form, leaf, one, many}
+use Rattle.plan_ir.specs.schema_tables.Types.{Text, Defs, has_id, is_composite, possible}
+use Rattle.plan_ir.specs.store_model.Items.{Below, Form, leaf, one, many}
 use Rattle.plan_build.specs.Classes.{Class, Target, classes_of, same_base, same_target, sorted_class, target_on, with_type, with_types}
 
 -- ---- the form of a target

@@ -6,15 +6,15 @@ use Rattle.std.specs.Cmp.Lexicographic.{slice_cmp}
 use Rattle.std.specs.List.{filter, filter_map}
 use Rattle.std.specs.Ordering.{nat_cmp}
 use Rattle.std.specs.Prelude.{◌↔◌, codes, option_map}
-use Rattle.gql_ast.specs.Value.{Val}
-use Rattle.gql_ast.specs.ValueView.{argument_of, value_of}
-use Rattle.gql_ast.specs.declared.directive.Directive.{Directive}
-use Rattle.gql_ast.specs.declared.place.FilePlace.{FilePlace}
-use Rattle.gql_ast.specs.declared.type_tree.TypeTree.{TypeTree}
-use Rattle.gql_ast.specs.declared.value.Argument.{Argument}
-use Rattle.gql_plain.proofs.SortedTexts.{AreInOrder-sorted_texts}
-use Rattle.gql_plain.specs.Order.{AreInOrder}
-use Rattle.gql_plain.specs.declared.ids.Conn.{Conn}
+use Rattle.plan_ir.specs.gql_ast.Value.{Val}
+use Rattle.plan_ir.specs.gql_ast.ValueView.{argument_of, value_of}
+use Rattle.plan_ir.specs.gql_ast.declared.directive.Directive.{Directive}
+use Rattle.plan_ir.specs.gql_ast.declared.place.FilePlace.{FilePlace}
+use Rattle.plan_ir.specs.gql_ast.declared.type_tree.TypeTree.{TypeTree}
+use Rattle.plan_ir.specs.gql_ast.declared.value.Argument.{Argument}
+use Rattle.plan_ir.proofs.gql_plain_laws.SortedTexts.{AreInOrder-sorted_texts}
+use Rattle.plan_ir.specs.gql_plain.Order.{AreInOrder}
+use Rattle.plan_ir.specs.gql_plain.declared.ids.Conn.{Conn}
 use Rattle.plan_ir.proofs.NormalLaws.{normal_append_assoc, normal_append_done}
 use Rattle.plan_ir.specs.Nodes.{Nodes, set_depth}
 use Rattle.plan_ir.specs.NodesView.{node_before, node_of, nodes_of}
@@ -22,9 +22,9 @@ use Rattle.plan_ir.specs.Normal.{Normal, done, guarded, normal_append, typename}
 use Rattle.plan_ir.specs.declared.guard.Condition.{Condition}
 use Rattle.plan_ir.specs.declared.node.Node.{Node}
 use Rattle.plan_ir.specs.declared.node.Node.TheVariants as N
-use Rattle.schema_tables.proofs.Finding.{first_at-next}
-use Rattle.schema_tables.specs.Places.{first_at, first_place}
-use Rattle.schema_tables.specs.Types.{Text, Defs, applies, has_id, is_composite, object_name, possible}
+use Rattle.plan_ir.proofs.schema_tables_laws.Finding.{first_at-next}
+use Rattle.plan_ir.specs.schema_tables.Places.{first_at, first_place}
+use Rattle.plan_ir.specs.schema_tables.Types.{Text, Defs, applies, has_id, is_composite, object_name, possible}
 use Rattle.plan_build.specs.Classes.{Class, Target, all_lead_to, classes_of, one_target, same_target, sorted_class, target_on, with_object, with_type, with_types}
 use Rattle.plan_build.specs.ClassView.{class_view, group_view, target_view}
 use Rattle.plan_build.specs.Conditions.{conditions_of, last_if}

@@ -7,19 +7,19 @@ use Rattle.std.specs.Ordering.{match_ordering, ordering_reverse}
 use Rattle.std.specs.Prelude.{codes}
 use Rattle.std.specs.declared.cmp.Ordering.{Ordering}
 use Rattle.std.specs.declared.cmp.Ordering.TheVariants.{Less, Equal, Greater}
-use Rattle.gql_ast.specs.Value as v
-use Rattle.gql_ast.specs.Value.{Val, members_of}
-use Rattle.gql_ast.specs.ValueView.{value_of}
-use Rattle.gql_ast.specs.declared.directive.Directive.{Directive}
-use Rattle.gql_graph.proofs.TextSteps.{same_text}
-use Rattle.gql_plain.specs.Order.{member_at}
-use Rattle.gql_plain.specs.Tree as t
-use Rattle.gql_plain.specs.Tree.{Tree}
+use Rattle.plan_ir.specs.gql_ast.Value as v
+use Rattle.plan_ir.specs.gql_ast.Value.{Val, members_of}
+use Rattle.plan_ir.specs.gql_ast.ValueView.{value_of}
+use Rattle.plan_ir.specs.gql_ast.declared.directive.Directive.{Directive}
+use Rattle.plan_ir.proofs.gql_graph_laws.TextSteps.{same_text}
+use Rattle.plan_ir.specs.gql_plain.Order.{member_at}
+use Rattle.plan_ir.specs.gql_plain.Tree as t
+use Rattle.plan_ir.specs.gql_plain.Tree.{Tree}
 use Rattle.plan_ir.specs.NormalMeaning.{condition_passes}
 use Rattle.plan_ir.specs.declared.guard.Condition.{Condition}
-use Rattle.plan_text.specs.Collecting.{condition_holds, is_left_out, leaves_out}
-use Rattle.schema_tables.specs.Types.{Text}
-use Rattle.schema_types.specs.Environments.{Values, arguments_in_environment, evaluation, is_true, or_null, pairs_evaluated, value_in, with_new_pair}
+use Rattle.relay_model.specs.plan_text.Collecting.{condition_holds, is_left_out, leaves_out}
+use Rattle.plan_ir.specs.schema_tables.Types.{Text}
+use Rattle.plan_ir.specs.schema_types.Environments.{Values, arguments_in_environment, evaluation, is_true, or_null, pairs_evaluated, value_in, with_new_pair}
 use Rattle.plan_build.proofs.ConditionTrees.{value_of_tree}
 use Rattle.plan_build.specs.Conditions.{condition, condition_of, conditions_of, last_if, tree_of}
 

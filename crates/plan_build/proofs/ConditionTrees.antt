@@ -1,11 +1,11 @@
 -- The tree of a value, and the value of a tree.
 use Rattle.std.proofs.Common.{◌≡◌, List, [], ◌∷◌, refl, ap}
-use Rattle.gql_ast.specs.Value as v
-use Rattle.gql_ast.specs.Value.{Val, Vals, vals_of, members_of}
-use Rattle.gql_ast.specs.ValueView.{value_of}
-use Rattle.gql_ast.specs.declared.value.ValueTree.{ValueTree}
-use Rattle.gql_ast.specs.declared.value.ValueTree.TheVariants as V
-use Rattle.schema_tables.specs.Types.{Text}
+use Rattle.plan_ir.specs.gql_ast.Value as v
+use Rattle.plan_ir.specs.gql_ast.Value.{Val, Vals, vals_of, members_of}
+use Rattle.plan_ir.specs.gql_ast.ValueView.{value_of}
+use Rattle.plan_ir.specs.gql_ast.declared.value.ValueTree.{ValueTree}
+use Rattle.plan_ir.specs.gql_ast.declared.value.ValueTree.TheVariants as V
+use Rattle.plan_ir.specs.schema_tables.Types.{Text}
 use Rattle.plan_build.specs.Conditions.{list_of, pairs_of, tree_of}
 
 listed : (xs : Vals) → vals_of (list_of xs) ≡ xs

@@ -2,23 +2,23 @@
 use Rattle.std.proofs.Common.{◌≡◌, true, false, true≢false, cond, not, ◌&&◌, ◌||◌, List, [], ◌∷◌, codes, Option, Some, None, option_map, is_some, bytes_eq, refl, ap, sym, subst, ◌∙◌}
 use Rattle.std.specs.List.{filter, filter_map}
 use Rattle.std.specs.Option.{option_and_then}
-use Rattle.gql_ast.specs.Ty.{Ty}
-use Rattle.gql_ast.specs.TypeView.{ty_of}
-use Rattle.gql_ast.specs.declared.member.FieldTree.{FieldTree}
-use Rattle.gql_ast.specs.declared.schema.SchemaDef.{SchemaDef}
-use Rattle.gql_ast.specs.declared.schema.SchemaDef.TheVariants as S
-use Rattle.gql_graph.proofs.TextSteps.{same_text, same_self, either_of}
-use Rattle.gql_plain.proofs.Booleans.{or_true}
-use Rattle.gql_plain.proofs.SortedTexts.{has_text-sorted_texts}
-use Rattle.gql_plain.specs.Order.{has_text}
+use Rattle.plan_ir.specs.gql_ast.Ty.{Ty}
+use Rattle.plan_ir.specs.gql_ast.TypeView.{ty_of}
+use Rattle.plan_ir.specs.gql_ast.declared.member.FieldTree.{FieldTree}
+use Rattle.plan_ir.specs.gql_ast.declared.schema.SchemaDef.{SchemaDef}
+use Rattle.plan_ir.specs.gql_ast.declared.schema.SchemaDef.TheVariants as S
+use Rattle.plan_ir.proofs.gql_graph_laws.TextSteps.{same_text, same_self, either_of}
+use Rattle.plan_ir.proofs.gql_plain_laws.Booleans.{or_true}
+use Rattle.plan_ir.proofs.gql_plain_laws.SortedTexts.{has_text-sorted_texts}
+use Rattle.plan_ir.specs.gql_plain.Order.{has_text}
 use Rattle.plan_build.proofs.CovarianceLists.{first_true, in_filter, left_by, sorted_alone, then_true}
 use Rattle.plan_build.proofs.CovarianceNames.{no_union, not_both, object_there}
 use Rattle.plan_build.proofs.CovarianceRules.{Narrower, SchemaMeets, implemented, narrower_base, narrower_field, narrower_itself}
 use Rattle.plan_ir.specs.Additions.{type_on, type_or}
-use Rattle.schema_rules.proofs.InheritedSteps.{none_such, stands_in}
-use Rattle.schema_rules.specs.Rules.{is_interface, is_narrower_name, is_object}
-use Rattle.schema_tables.specs.Types.{Text, Defs, applies, field_named, field_on, fields_of, implements, interfaces_named, is_composite, is_interface_kind, is_object_kind, kind_of, object_name, possible, type_named, union_members_named, base_of}
-use Rattle.schema_types.specs.Sites.{field_type, typename_on}
+use Rattle.plan_ir.proofs.schema_rules_laws.InheritedSteps.{none_such, stands_in}
+use Rattle.plan_ir.specs.schema_rules.Rules.{is_interface, is_narrower_name, is_object}
+use Rattle.plan_ir.specs.schema_tables.Types.{Text, Defs, applies, field_named, field_on, fields_of, implements, interfaces_named, is_composite, is_interface_kind, is_object_kind, kind_of, object_name, possible, type_named, union_members_named, base_of}
+use Rattle.plan_ir.specs.schema_types.Sites.{field_type, typename_on}
 
 -- each object type that the first may be is one that the second may be
 abbrev pub Within : Defs → (narrow wide : Text) → Type 0

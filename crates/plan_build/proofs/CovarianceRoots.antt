@@ -2,21 +2,21 @@
 use Rattle.std.proofs.Common.{◌≡◌, ℕ, ◌+◌, Bool, true, false, true≢false, not, ◌&&◌, cond, List, [], ◌∷◌, ◌++◌, Option, Some, None, is_some, refl, sym, subst}
 use Rattle.std.specs.List.{AllByRecursion, filter, filter_map}
 use Rattle.std.specs.Option.{IfSome}
-use Rattle.gql_ast.specs.declared.document.Kind.{Kind}
-use Rattle.gql_ast.specs.declared.document.Kind.TheVariants.{Query, Mutation, Subscription}
-use Rattle.gql_ast.specs.declared.schema.Root.{Root}
-use Rattle.gql_ast.specs.declared.schema.SchemaDef.{SchemaDef}
-use Rattle.gql_ast.specs.declared.schema.SchemaDef.TheVariants as S
-use Rattle.gql_graph.specs.Rules.{each, wrong}
+use Rattle.plan_ir.specs.gql_ast.declared.document.Kind.{Kind}
+use Rattle.plan_ir.specs.gql_ast.declared.document.Kind.TheVariants.{Query, Mutation, Subscription}
+use Rattle.plan_ir.specs.gql_ast.declared.schema.Root.{Root}
+use Rattle.plan_ir.specs.gql_ast.declared.schema.SchemaDef.{SchemaDef}
+use Rattle.plan_ir.specs.gql_ast.declared.schema.SchemaDef.TheVariants as S
+use Rattle.plan_ir.specs.gql_graph.Rules.{each, wrong}
 use Rattle.plan_build.proofs.CovarianceLists.{all_kept, all_mapped, none_each, none_first, none_then, not_so, right}
 use Rattle.plan_build.proofs.CovarianceNames.{found_holds, found_named, has_effect_named, name_of_type}
 use Rattle.plan_build.proofs.CovarianceRules.{SchemaMeets}
-use Rattle.schema_rules.specs.Rules.{default_root_wrong, default_roots_wrong, first_node, gives_query, has_effect, is_default_root, is_object, not_object, roots_given, roots_wrong, roots_wrong_in}
-use Rattle.schema_tables.specs.BuiltIn.{is_built_in_directive}
-use Rattle.schema_tables.specs.Types.{Text, Defs, default_root, is_built_in_scalar, root, root_from, root_in, roots_of, same_kind, type_named}
-use Rattle.schema_trees.specs.DefinitionParts.{repeated_names, root_names, type_name_of}
-use Rattle.schema_trees.specs.Located as located
-use Rattle.schema_trees.specs.Located.{Located, RootAt, DefAt, def_nodes, defs_at, directives_nodes, inputs_at, locate, name_at, roots_at}
+use Rattle.plan_ir.specs.schema_rules.Rules.{default_root_wrong, default_roots_wrong, first_node, gives_query, has_effect, is_default_root, is_object, not_object, roots_given, roots_wrong, roots_wrong_in}
+use Rattle.plan_ir.specs.schema_tables.BuiltIn.{is_built_in_directive}
+use Rattle.plan_ir.specs.schema_tables.Types.{Text, Defs, default_root, is_built_in_scalar, root, root_from, root_in, roots_of, same_kind, type_named}
+use Rattle.plan_ir.specs.schema_trees.DefinitionParts.{repeated_names, root_names, type_name_of}
+use Rattle.plan_ir.specs.schema_trees.Located as located
+use Rattle.plan_ir.specs.schema_trees.Located.{Located, RootAt, DefAt, def_nodes, defs_at, directives_nodes, inputs_at, locate, name_at, roots_at}
 
 -- ---- the roots that a `schema` definition gives
 

@@ -2,23 +2,23 @@
 use Rattle.std.proofs.Common.{◌≡◌, ℕ, ◌+◌, Bool, true, false, true≢false, not, ◌&&◌, ◌||◌, cond, List, [], ◌∷◌, ◌++◌, codes, Option, Some, None, bytes_eq, refl, ap, sym, subst, ◌∙◌}
 use Rattle.std.specs.List.{AllByRecursion, filter, list_any}
 use Rattle.std.specs.Option.{option_and_then}
-use Rattle.gql_ast.specs.Ty.{Ty}
-use Rattle.gql_ast.specs.Ty as ty
-use Rattle.gql_ast.specs.TypeView.{ty_of}
-use Rattle.gql_ast.specs.declared.member.FieldTree.{FieldTree}
-use Rattle.gql_ast.specs.declared.schema.SchemaDef.{SchemaDef}
-use Rattle.gql_ast.specs.declared.schema.SchemaDef.TheVariants as S
-use Rattle.gql_graph.proofs.TextSteps.{same_text, same_self, either_of}
-use Rattle.gql_graph.specs.Rules.{each, wrong}
-use Rattle.gql_plain.specs.Order.{has_text}
+use Rattle.plan_ir.specs.gql_ast.Ty.{Ty}
+use Rattle.plan_ir.specs.gql_ast.Ty as ty
+use Rattle.plan_ir.specs.gql_ast.TypeView.{ty_of}
+use Rattle.plan_ir.specs.gql_ast.declared.member.FieldTree.{FieldTree}
+use Rattle.plan_ir.specs.gql_ast.declared.schema.SchemaDef.{SchemaDef}
+use Rattle.plan_ir.specs.gql_ast.declared.schema.SchemaDef.TheVariants as S
+use Rattle.plan_ir.proofs.gql_graph_laws.TextSteps.{same_text, same_self, either_of}
+use Rattle.plan_ir.specs.gql_graph.Rules.{each, wrong}
+use Rattle.plan_ir.specs.gql_plain.Order.{has_text}
 use Rattle.plan_build.proofs.CovarianceLists.{all_hold, all_kept, all_map, all_parts, none_each, none_first, none_then, not_so, right}
 use Rattle.plan_build.proofs.CovarianceNames.{found_holds}
-use Rattle.schema_rules.proofs.InheritedSteps.{none_such}
-use Rattle.schema_rules.specs.Checked.{IsSound}
-use Rattle.schema_rules.specs.Rules.{arguments_lack, begins_with_underscores, cannot_implement, defined_names, field_differs, field_found, further_argument, has_effect, implements_wrong, implements_wrong_in, is_interface, is_narrower, is_narrower_name, is_object, lacks_of_interface, leaves_out, not_implemented_in, reserved_name, root_types_wrong, rules}
-use Rattle.schema_tables.specs.Types.{Text, Defs, applies, base_of, field_named, field_on, fields_named, fields_of, implements, interfaces_named, type_named}
-use Rattle.schema_trees.specs.DefinitionParts.{defined_name, enum_values_in, field_names, fields_in, input_names, inputs_in, names_of}
-use Rattle.schema_trees.specs.Located.{Located, FieldAt, DefAt, def_at, directives_nodes, field_at, field_nodes, fields_at, locate, name_at, names_at, names_nodes}
+use Rattle.plan_ir.proofs.schema_rules_laws.InheritedSteps.{none_such}
+use Rattle.plan_ir.specs.schema_rules.Checked.{IsSound}
+use Rattle.plan_ir.specs.schema_rules.Rules.{arguments_lack, begins_with_underscores, cannot_implement, defined_names, field_differs, field_found, further_argument, has_effect, implements_wrong, implements_wrong_in, is_interface, is_narrower, is_narrower_name, is_object, lacks_of_interface, leaves_out, not_implemented_in, reserved_name, root_types_wrong, rules}
+use Rattle.plan_ir.specs.schema_tables.Types.{Text, Defs, applies, base_of, field_named, field_on, fields_named, fields_of, implements, interfaces_named, type_named}
+use Rattle.plan_ir.specs.schema_trees.DefinitionParts.{defined_name, enum_values_in, field_names, fields_in, input_names, inputs_in, names_of}
+use Rattle.plan_ir.specs.schema_trees.Located.{Located, FieldAt, DefAt, def_at, directives_nodes, field_at, field_nodes, fields_at, locate, name_at, names_at, names_nodes}
 
 -- S3, S4, S7 and S8
 pub record SchemaMeets (defs : Defs) : Type 0 where

@@ -1,9 +1,9 @@
 -- A response says to an operation of the documents what it says to the operation's expansion.
 use Rattle.std.proofs.Common.{◌≡◌, ℕ, zero, suc, true, cond, List, [], ◌∷◌, ◌++◌, refl, sym, ap, subst, ◌∙◌, append_assoc, inl, inr}
 use Rattle.std.specs.List.{AllByRecursion, AllZip}
-use Rattle.gql_ast.specs.Sels as sels
-use Rattle.gql_ast.specs.Sels.{Sels, sels_append}
-use Rattle.gql_ast.specs.declared.directive.Directive.{Directive}
+use Rattle.plan_ir.specs.gql_ast.Sels as sels
+use Rattle.plan_ir.specs.gql_ast.Sels.{Sels, sels_append}
+use Rattle.plan_ir.specs.gql_ast.declared.directive.Directive.{Directive}
 use Rattle.plan_build.proofs.BareNodes.{AreBare}
 use Rattle.plan_build.proofs.ItemsAsNodes.{AlikeItems, Comes, bare_items, items, items_at_spread, setting}
 use Rattle.plan_build.specs.Laws.{DocumentsAreNodes}
@@ -11,21 +11,21 @@ use Rattle.plan_build.specs.NodesMeaning.{Set, ask_of_node, collect_nodes, colle
 use Rattle.plan_ir.specs.Expansion.{expansion, name_or, operation_from, spreads_in, whole_operation}
 use Rattle.plan_ir.specs.Nodes.{Nodes, end, field, inline, nodes_append}
 use Rattle.plan_ir.specs.Substitution.{operation_scope}
-use Rattle.plan_text.proofs.Collects.{nodes_append-end, sels_append-end}
-use Rattle.plan_text.specs.Collecting.{Around, applies, is_left_out, with_additions}
-use Rattle.plan_text.specs.Printed.{printed_selections}
+use Rattle.relay_model.proofs.plan_text_laws.Collects.{nodes_append-end, sels_append-end}
+use Rattle.relay_model.specs.plan_text.Collecting.{Around, applies, is_left_out, with_additions}
+use Rattle.relay_model.specs.plan_text.Printed.{printed_selections}
 use Rattle.relay_model.specs.Collection.{Part, ask_of, collect, collect_in, collect_with, part_of}
 use Rattle.relay_model.specs.Responses.{operation_says}
-use Rattle.schema_tables.specs.Types.{Text, Defs, root}
-use Rattle.schema_types.specs.Environments.{Values}
-use Rattle.schema_types.specs.Sites.{OperationAt}
+use Rattle.plan_ir.specs.schema_tables.Types.{Text, Defs, root}
+use Rattle.plan_ir.specs.schema_types.Environments.{Values}
+use Rattle.plan_ir.specs.schema_types.Sites.{OperationAt}
 use Rattle.serde_json.specs.Data as J
-use Rattle.store_model.proofs.AlikeSays.{response_alike}
-use Rattle.store_model.proofs.SameItems.{AlikeItem, Holds, items_keep, zip_append}
-use Rattle.store_model.specs.Alike.{Keeps, Related}
-use Rattle.store_model.specs.Items.{Ask, Collect, Group, Item, Pointer, asked, asks, collect_all, groups_at, parts, pointers_on}
-use Rattle.store_model.specs.Reaches.{types_of}
-use Rattle.store_model.specs.Verdicts.{verdict}
+use Rattle.plan_ir.proofs.store_model_laws.AlikeSays.{response_alike}
+use Rattle.plan_ir.proofs.store_model_laws.SameItems.{AlikeItem, Holds, items_keep, zip_append}
+use Rattle.plan_ir.specs.store_model.Alike.{Keeps, Related}
+use Rattle.plan_ir.specs.store_model.Items.{Ask, Collect, Group, Item, Pointer, asked, asks, collect_all, groups_at, parts, pointers_on}
+use Rattle.plan_ir.specs.store_model.Reaches.{types_of}
+use Rattle.plan_ir.specs.store_model.Verdicts.{verdict}
 
 -- ---- one set behind another
 

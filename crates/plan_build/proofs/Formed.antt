@@ -6,7 +6,7 @@ use Rattle.plan_ir.specs.Nodes.{Nodes}
 use Rattle.plan_ir.specs.Normal.{Normal, done, typename, leaf, object, guarded, normal_append}
 use Rattle.plan_ir.specs.NormalMeaning.{are_names, is_field_name, is_formed}
 use Rattle.plan_ir.specs.declared.guard.Condition.{Condition}
-use Rattle.schema_tables.specs.Types.{Text, Defs, is_composite, possible}
+use Rattle.plan_ir.specs.schema_tables.Types.{Text, Defs, is_composite, possible}
 use Rattle.plan_build.specs.Classes.{Class, Target, classes_of}
 use Rattle.plan_build.specs.Conditions.{conditions_of}
 use Rattle.plan_build.specs.Plans.{HaveNames}

@@ -3,10 +3,10 @@ use Rattle.std.proofs.Common.{◌≡◌, ℕ, zero, suc, ◌+◌, Bool, true, fa
 use Rattle.std.specs.Prelude.{is_some}
 use Rattle.std.proofs.lemmas.Slice.Eq.{bytes_eq-Decides}
 use Rattle.std.specs.List.{AllZip}
-use Rattle.gql_ast.specs.Sels as sels
-use Rattle.gql_ast.specs.Sels.{Sels, sels_append}
-use Rattle.gql_ast.specs.declared.directive.Directive.{Directive}
-use Rattle.gql_plain.specs.declared.ids.Conn.{Conn}
+use Rattle.plan_ir.specs.gql_ast.Sels as sels
+use Rattle.plan_ir.specs.gql_ast.Sels.{Sels, sels_append}
+use Rattle.plan_ir.specs.gql_ast.declared.directive.Directive.{Directive}
+use Rattle.plan_ir.specs.gql_plain.declared.ids.Conn.{Conn}
 use Rattle.plan_build.proofs.BareNodes.{AreBare, all_bare}
 use Rattle.plan_build.proofs.Substituted.{arguments-substituted, left-substituted}
 use Rattle.plan_build.specs.NodesMeaning.{Set, ask_of_node, collect_nodes_in}
@@ -15,21 +15,21 @@ use Rattle.plan_ir.specs.Expansion as expansions
 use Rattle.plan_ir.specs.Expansion.{enter_with, expansion, expansion_with, is_condition, is_printed, printed_conditions, response_key, selections_from}
 use Rattle.plan_ir.specs.Nodes.{Nodes, end, field, inline, nodes_append}
 use Rattle.plan_ir.specs.Substitution.{Arguments, Scope, scope_at_spread, substitute_in}
-use Rattle.plan_text.proofs.AddedFields.{all_added}
-use Rattle.plan_text.proofs.Collects.{not_printed}
-use Rattle.plan_text.proofs.Evaluating.{Means, means_inside}
-use Rattle.plan_text.specs.Collecting.{Around, applies, environment_inside, fragment_selections, is_left_out, with_additions}
-use Rattle.plan_text.specs.Printed.{alias_of, printed_arguments, printed_directives, printed_selections}
-use Rattle.relay_dirs.specs.Connections.{connection_among}
+use Rattle.relay_model.proofs.plan_text_laws.AddedFields.{all_added}
+use Rattle.relay_model.proofs.plan_text_laws.Collects.{not_printed}
+use Rattle.relay_model.proofs.plan_text_laws.Evaluating.{Means, means_inside}
+use Rattle.relay_model.specs.plan_text.Collecting.{Around, applies, environment_inside, fragment_selections, is_left_out, with_additions}
+use Rattle.relay_model.specs.plan_text.Printed.{alias_of, printed_arguments, printed_directives, printed_selections}
+use Rattle.plan_ir.specs.relay_dirs.Connections.{connection_among}
 use Rattle.relay_model.specs.Collection.{Part, Setting, ask_of, collect_in, collect_with, connection_asked, enter_where, form_on, spread_items}
 use Rattle.relay_model.specs.Responses.{whole_setting}
-use Rattle.schema_tables.specs.Types.{Text, base_of}
-use Rattle.schema_trees.specs.Located.{directives_nodes}
-use Rattle.schema_types.specs.Environments.{Values, arguments_in_environment}
-use Rattle.schema_types.specs.NameRules.{fragment_named}
-use Rattle.schema_types.specs.Sites.{FragmentAt, arguments_nodes, below, condition_or, field_type, head_nodes, optional_name_nodes, selections_nodes}
-use Rattle.store_model.proofs.SameItems.{AlikeItem, zip_append}
-use Rattle.store_model.specs.Items.{Item, asked}
+use Rattle.plan_ir.specs.schema_tables.Types.{Text, base_of}
+use Rattle.plan_ir.specs.schema_trees.Located.{directives_nodes}
+use Rattle.plan_ir.specs.schema_types.Environments.{Values, arguments_in_environment}
+use Rattle.plan_ir.specs.schema_types.NameRules.{fragment_named}
+use Rattle.plan_ir.specs.schema_types.Sites.{FragmentAt, arguments_nodes, below, condition_or, field_type, head_nodes, optional_name_nodes, selections_nodes}
+use Rattle.plan_ir.proofs.store_model_laws.SameItems.{AlikeItem, zip_append}
+use Rattle.plan_ir.specs.store_model.Items.{Item, asked}
 
 -- what one condition leaves out, and what is behind it
 zip_kept : {X Y : Type 0} (r : X → Y → Type 0) (b c : Bool) → b ≡ c → (xs : List X) (ys : List Y) (more : List X) (others : List Y) → AllZip r xs ys → AllZip r more others

@@ -1,8 +1,8 @@
 -- What is kept stays right.
 use Rattle.std.proofs.Common.{◌≡◌, Bool, true, false, cond, List, Option, None, Some, bytes_eq, ap, refl, sym, subst, ◌∙◌}
 use Rattle.std.specs.Prelude.{option_map}
-use Rattle.gql_graph.proofs.TextSteps.{same_text}
-use Rattle.schema_tables.specs.Types.{Text, Defs}
+use Rattle.plan_ir.proofs.gql_graph_laws.TextSteps.{same_text}
+use Rattle.plan_ir.specs.schema_tables.Types.{Text, Defs}
 use Rattle.plan_build.specs.Classes.{Target, one_target}
 use Rattle.plan_build.specs.ClassView.{target_view}
 use Rattle.plan_build.specs.KnownView.{IsKnown, find_target, find_within}

@@ -3,24 +3,24 @@ use Rattle.std.proofs.Common.{◌≡◌, Bool, true, false, true≢false, cond, 
 use Rattle.std.proofs.lemmas.List.{map-append}
 use Rattle.std.specs.List.{AllByRecursion, AllZip}
 use Rattle.std.specs.Prelude.{codes}
-use Rattle.gql_graph.proofs.TextSteps.{same_self, same_text}
-use Rattle.gql_plain.specs.Order.{has_text}
+use Rattle.plan_ir.proofs.gql_graph_laws.TextSteps.{same_self, same_text}
+use Rattle.plan_ir.specs.gql_plain.Order.{has_text}
 use Rattle.plan_ir.specs.Additions.{type_on}
 use Rattle.plan_ir.specs.NormalMeaning.{Plan, collect_plan, plan_says}
 use Rattle.plan_ir.specs.declared.expanded.Expanded.{Expanded}
 use Rattle.relay_model.specs.Collection.{below_type, form_on}
-use Rattle.schema_rules.specs.Checked.{IsSound}
-use Rattle.schema_rules.specs.Rules.{is_object}
-use Rattle.schema_tables.specs.Fits.{is_list_type}
-use Rattle.schema_tables.specs.Types.{Text, Defs, base_of, is_composite, possible}
-use Rattle.schema_types.specs.Environments.{Values}
+use Rattle.plan_ir.specs.schema_rules.Checked.{IsSound}
+use Rattle.plan_ir.specs.schema_rules.Rules.{is_object}
+use Rattle.plan_ir.specs.schema_tables.Fits.{is_list_type}
+use Rattle.plan_ir.specs.schema_tables.Types.{Text, Defs, base_of, is_composite, possible}
+use Rattle.plan_ir.specs.schema_types.Environments.{Values}
 use Rattle.serde_json.specs.Data as J
-use Rattle.store_model.proofs.AlikeSays.{response_alike}
-use Rattle.store_model.proofs.Valid.{Fits, onto_fits}
-use Rattle.store_model.specs.Alike.{Among, AlikeGroup, AlikePointer, Keeps, Related}
-use Rattle.store_model.specs.Items.{Ask, Asked, Form, Group, typename, leaf, one, many, members, parts, collect_all, groups_at, groups_of, grouped_onto, pointers, pointers_on}
-use Rattle.store_model.specs.Reaches.{types_of}
-use Rattle.store_model.specs.Verdicts.{verdict}
+use Rattle.plan_ir.proofs.store_model_laws.AlikeSays.{response_alike}
+use Rattle.plan_ir.proofs.store_model_laws.Valid.{Fits, onto_fits}
+use Rattle.plan_ir.specs.store_model.Alike.{Among, AlikeGroup, AlikePointer, Keeps, Related}
+use Rattle.plan_ir.specs.store_model.Items.{Ask, Asked, Form, Group, typename, leaf, one, many, members, parts, collect_all, groups_at, groups_of, grouped_onto, pointers, pointers_on}
+use Rattle.plan_ir.specs.store_model.Reaches.{types_of}
+use Rattle.plan_ir.specs.store_model.Verdicts.{verdict}
 use Rattle.doc_merge.proofs.CollectedLaws.{collected_alike}
 use Rattle.doc_merge.specs.Faults.{field_differences}
 use Rattle.doc_merge.specs.Gathering.{fields_in}

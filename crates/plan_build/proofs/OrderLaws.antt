@@ -5,10 +5,10 @@ use Rattle.std.specs.Cmp.Lexicographic.{slice_cmp, nat_list_cmp_total}
 use Rattle.std.specs.List.{AllByRecursion, filter, filter_map}
 use Rattle.std.specs.List.Sorted.{IsStrictlySortedBy}
 use Rattle.std.specs.declared.cmp.Ordering.TheVariants.{Less}
-use Rattle.gql_graph.proofs.TextSteps.{same_text}
-use Rattle.gql_plain.proofs.SortedTexts.{AreInOrder-sorted_texts}
-use Rattle.gql_plain.specs.Order.{AreInOrder, has_text}
-use Rattle.schema_tables.specs.Types.{Text, Defs, applies, object_name, possible}
+use Rattle.plan_ir.proofs.gql_graph_laws.TextSteps.{same_text}
+use Rattle.plan_ir.proofs.gql_plain_laws.SortedTexts.{AreInOrder-sorted_texts}
+use Rattle.plan_ir.specs.gql_plain.Order.{AreInOrder, has_text}
+use Rattle.plan_ir.specs.schema_tables.Types.{Text, Defs, applies, object_name, possible}
 use Rattle.plan_build.proofs.ClassLaws.{Differ}
 
 not_itself : (a : Text) → slice_cmp nat_cmp a a ≡ Less → ⊥

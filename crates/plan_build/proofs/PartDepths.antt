@@ -1,8 +1,8 @@
 -- How many records a walk by steps, by nodes and by selections stands at one below another.
 use Rattle.std.proofs.Common.{◌≡◌, ℕ, zero, suc, ◌+◌, ◌≤◌, Bool, true, false, cond, List, [], ◌∷◌, Option, Some, None, inl, inr, max, refl, arith}
-use Rattle.gql_ast.specs.Sels as sels
-use Rattle.gql_ast.specs.Sels.{Sels}
-use Rattle.gql_ast.specs.declared.directive.Directive.{Directive}
+use Rattle.plan_ir.specs.gql_ast.Sels as sels
+use Rattle.plan_ir.specs.gql_ast.Sels.{Sels}
+use Rattle.plan_ir.specs.gql_ast.declared.directive.Directive.{Directive}
 use Rattle.plan_build.proofs.ItemsAsNodes.{items_at_spread, items_of_spread, setting}
 use Rattle.plan_build.proofs.ReachDepths.{ItemWithin, walk_enough}
 use Rattle.plan_build.specs.NodesMeaning.{Set, ask_of_node, collect_nodes, collect_nodes_in}
@@ -12,18 +12,18 @@ use Rattle.plan_ir.specs.Normal as n
 use Rattle.plan_ir.specs.Normal.{Normal}
 use Rattle.plan_ir.specs.NormalMeaning.{Plan, collect_plan, collect_steps, guard_passes}
 use Rattle.plan_ir.specs.NormalReach.{plan_reaches, records_below}
-use Rattle.plan_text.specs.Collecting.{Around, applies, environment_inside, fragment_selections, is_left_out}
+use Rattle.relay_model.specs.plan_text.Collecting.{Around, applies, environment_inside, fragment_selections, is_left_out}
 use Rattle.relay_model.specs.Collection.{Part, ask_of, collect, collect_in, collect_with, selections_of}
 use Rattle.relay_model.specs.Reaches.{part_reaches, whole_depth}
 use Rattle.relay_model.specs.Readings.{depth_inside, depth_with}
-use Rattle.schema_tables.specs.Types.{Text, Defs}
-use Rattle.schema_types.specs.Environments.{Values}
-use Rattle.schema_types.specs.NameRules.{fragment_named}
-use Rattle.schema_types.specs.Sites.{FragmentAt}
-use Rattle.store_model.proofs.Least.{Each, each_append}
-use Rattle.store_model.specs.Items.{Item, asked}
-use Rattle.store_model.specs.Reaches.{reach_at}
-use Rattle.store_model.specs.Walks.{Slots, type_of_record}
+use Rattle.plan_ir.specs.schema_tables.Types.{Text, Defs}
+use Rattle.plan_ir.specs.schema_types.Environments.{Values}
+use Rattle.plan_ir.specs.schema_types.NameRules.{fragment_named}
+use Rattle.plan_ir.specs.schema_types.Sites.{FragmentAt}
+use Rattle.plan_ir.proofs.store_model_laws.Least.{Each, each_append}
+use Rattle.plan_ir.specs.store_model.Items.{Item, asked}
+use Rattle.plan_ir.specs.store_model.Reaches.{reach_at}
+use Rattle.plan_ir.specs.store_model.Walks.{Slots, type_of_record}
 
 -- ---- numbers
 

@@ -1,18 +1,18 @@
 -- Where fields merge, the fields of one response key on an object type are one field, and what stands below them merges too.
 use Rattle.std.proofs.Common.{◌≡◌, zero, suc, Bool, true, false, true≢false, cond, ◌&&◌, List, [], ◌∷◌, ◌++◌, map, Option, Some, None, bytes_eq, refl, ap, sym, ◌∙◌, subst, ◌⊎◌, inl, inr, arith}
 use Rattle.std.specs.List.{All, AllByRecursion}
-use Rattle.gql_graph.proofs.TextSteps.{same_self, same_text}
-use Rattle.gql_plain.specs.Order.{has_text}
+use Rattle.plan_ir.proofs.gql_graph_laws.TextSteps.{same_self, same_text}
+use Rattle.plan_ir.specs.gql_plain.Order.{has_text}
 use Rattle.plan_ir.specs.Additions.{type_on}
 use Rattle.plan_ir.specs.Nodes as nodes
 use Rattle.plan_ir.specs.Nodes.{Nodes}
-use Rattle.plan_text.specs.Collecting.{applies, is_left_out}
+use Rattle.relay_model.specs.plan_text.Collecting.{applies, is_left_out}
 use Rattle.relay_model.specs.Collection.{form_on}
-use Rattle.schema_rules.specs.Rules.{is_object}
-use Rattle.schema_tables.specs.Types.{Text, Defs, base_of, possible}
-use Rattle.schema_types.specs.Environments.{Values}
-use Rattle.store_model.specs.Alike.{Among}
-use Rattle.store_model.specs.Items.{Asked}
+use Rattle.plan_ir.specs.schema_rules.Rules.{is_object}
+use Rattle.plan_ir.specs.schema_tables.Types.{Text, Defs, base_of, possible}
+use Rattle.plan_ir.specs.schema_types.Environments.{Values}
+use Rattle.plan_ir.specs.store_model.Alike.{Among}
+use Rattle.plan_ir.specs.store_model.Items.{Asked}
 use Rattle.doc_merge.proofs.GatherSteps.{rows_before}
 use Rattle.doc_merge.specs.Collected.{AreAlike, Pairwise, is_collected, keys_of, last_field, may_be_on}
 use Rattle.doc_merge.specs.Gathering.{fields_of, object_or_none, on_or}

@@ -1,16 +1,16 @@
 -- Parts with the types that are known of them, and what they give on an object type, seen as nodes and seen as steps.
 use Rattle.std.proofs.Common.{◌≡◌, Bool, true, false, cond, List, [], ◌∷◌, ◌++◌, map, refl, sym, ◌∙◌}
 use Rattle.std.proofs.lemmas.List.{map-append}
-use Rattle.gql_ast.specs.Ty.{Ty}
+use Rattle.plan_ir.specs.gql_ast.Ty.{Ty}
 use Rattle.plan_ir.specs.Additions.{type_on}
 use Rattle.plan_ir.specs.Nodes as nodes
 use Rattle.plan_ir.specs.Nodes.{Nodes}
 use Rattle.plan_ir.specs.Normal.{done}
 use Rattle.plan_ir.specs.NormalMeaning.{Plan}
-use Rattle.plan_text.specs.Collecting.{applies, is_left_out}
-use Rattle.schema_tables.specs.Types.{Text, Defs, base_of}
-use Rattle.schema_types.specs.Environments.{Values}
-use Rattle.store_model.specs.Items.{Asked, Form, Item, asked, typename, leaf, one, many, collect_all}
+use Rattle.relay_model.specs.plan_text.Collecting.{applies, is_left_out}
+use Rattle.plan_ir.specs.schema_tables.Types.{Text, Defs, base_of}
+use Rattle.plan_ir.specs.schema_types.Environments.{Values}
+use Rattle.plan_ir.specs.store_model.Items.{Asked, Form, Item, asked, typename, leaf, one, many, collect_all}
 use Rattle.plan_build.proofs.Grouped.{seen}
 use Rattle.plan_build.specs.NodesMeaning.{Set, ask_of_node, collect_nodes, collect_nodes_in}
 use Rattle.plan_build.specs.Steps.{steps_of}

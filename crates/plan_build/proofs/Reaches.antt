@@ -1,9 +1,9 @@
 -- The steps of an expanded operation, its nodes and the documents reach the same ids.
 use Rattle.std.proofs.Common.{◌≡◌, ℕ, ◌+◌, ◌≤◌, List, [], ◌∷◌, max, ap, sym, ◌∙◌, arith}
 use Rattle.doc_merge.specs.Faults.{field_differences}
-use Rattle.gql_ast.specs.declared.place.FilePlace.{FilePlace}
-use Rattle.gql_plain.proofs.Booleans.{both_ways}
-use Rattle.gql_plain.specs.Order.{has_text}
+use Rattle.plan_ir.specs.gql_ast.declared.place.FilePlace.{FilePlace}
+use Rattle.plan_ir.proofs.gql_plain_laws.Booleans.{both_ways}
+use Rattle.plan_ir.specs.gql_plain.Order.{has_text}
 use Rattle.plan_build.proofs.DocumentsAsNodes.{AllCome, kept, operation_comes}
 use Rattle.plan_build.proofs.ItemsAsNodes.{setting}
 use Rattle.plan_build.proofs.Meaning.{ArePlans, plans_keep, root_plans}
@@ -18,19 +18,19 @@ use Rattle.plan_ir.specs.Nodes.{set_depth}
 use Rattle.plan_ir.specs.NormalMeaning.{Plan, collect_plan}
 use Rattle.plan_ir.specs.NormalReach.{plan_reaches, records_below}
 use Rattle.plan_ir.specs.declared.expanded.Expanded.{Expanded}
-use Rattle.plan_text.specs.Collecting.{Around}
+use Rattle.relay_model.specs.plan_text.Collecting.{Around}
 use Rattle.relay_model.specs.Collection.{Part, collect, part_of}
 use Rattle.relay_model.specs.Reaches.{operation_reaches, whole_depth}
-use Rattle.schema_rules.specs.Checked.{IsSound}
-use Rattle.schema_tables.specs.Types.{Text, Defs, root}
-use Rattle.schema_types.specs.Environments.{Values}
-use Rattle.schema_types.specs.Sites.{OperationAt}
-use Rattle.store_model.proofs.AlikeReaches.{reach_same}
-use Rattle.store_model.proofs.Least.{In, each_from, of_member}
-use Rattle.store_model.specs.Alike.{Keeps, Related}
-use Rattle.store_model.specs.Items.{Collect}
-use Rattle.store_model.specs.Reaches.{reach_at}
-use Rattle.store_model.specs.Walks.{Slots, type_of_record}
+use Rattle.plan_ir.specs.schema_rules.Checked.{IsSound}
+use Rattle.plan_ir.specs.schema_tables.Types.{Text, Defs, root}
+use Rattle.plan_ir.specs.schema_types.Environments.{Values}
+use Rattle.plan_ir.specs.schema_types.Sites.{OperationAt}
+use Rattle.plan_ir.proofs.store_model_laws.AlikeReaches.{reach_same}
+use Rattle.plan_ir.proofs.store_model_laws.Least.{In, each_from, of_member}
+use Rattle.plan_ir.specs.store_model.Alike.{Keeps, Related}
+use Rattle.plan_ir.specs.store_model.Items.{Collect}
+use Rattle.plan_ir.specs.store_model.Reaches.{reach_at}
+use Rattle.plan_ir.specs.store_model.Walks.{Slots, type_of_record}
 
 first_fits : (a b : ℕ) → a + 1 ≤ max a b + 1
 first_fits a b = omega arith

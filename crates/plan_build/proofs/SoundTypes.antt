@@ -3,22 +3,22 @@ use Rattle.std.proofs.Common.{◌≡◌, ℕ, ◌+◌, Bool, true, false, true�
 use Rattle.std.proofs.lemmas.Bool.{or_parts}
 use Rattle.std.specs.List.{filter, filter_map}
 use Rattle.std.specs.Option.{option_and_then}
-use Rattle.gql_ast.specs.declared.schema.SchemaDef.{SchemaDef}
-use Rattle.gql_ast.specs.declared.schema.SchemaDef.TheVariants as S
-use Rattle.gql_graph.proofs.TextSteps.{either_of, same_text}
-use Rattle.gql_plain.proofs.Booleans.{or_true}
-use Rattle.gql_plain.proofs.SortedTexts.{has_text-sorted_texts}
-use Rattle.gql_plain.specs.Order.{has_text}
-use Rattle.schema_rules.specs.Checked.{IsSound}
-use Rattle.schema_rules.specs.Rules.{further_schemas, has_effect, names_not_unique, repeated_kinds, rules}
-use Rattle.schema_tables.specs.BuiltIn.{is_built_in_directive}
-use Rattle.schema_tables.specs.Types.{Text, Defs, applies, built_in_scalars, is_built_in_scalar, is_composite, is_composite_kind, is_interface_kind, is_kind, is_object_kind, implements, kind_of, object_name, possible, type_named, type_of, union_members_named}
-use Rattle.schema_tables.specs.declared.kind.TypeKind.{TypeKind}
-use Rattle.schema_tables.specs.declared.kind.TypeKind.TheVariants.{Scalar}
-use Rattle.schema_tables.specs.declared.kind.TypeKind.TheVariants as kinds
-use Rattle.schema_trees.specs.DefinitionParts.{directive_name_of, repeated_names, repeats, roots_in, type_name_of}
-use Rattle.schema_trees.specs.Located.{Located, DefAt, def_at, def_nodes, defs_at, locate, name_at}
-use Rattle.gql_graph.specs.Rules.{each}
+use Rattle.plan_ir.specs.gql_ast.declared.schema.SchemaDef.{SchemaDef}
+use Rattle.plan_ir.specs.gql_ast.declared.schema.SchemaDef.TheVariants as S
+use Rattle.plan_ir.proofs.gql_graph_laws.TextSteps.{either_of, same_text}
+use Rattle.plan_ir.proofs.gql_plain_laws.Booleans.{or_true}
+use Rattle.plan_ir.proofs.gql_plain_laws.SortedTexts.{has_text-sorted_texts}
+use Rattle.plan_ir.specs.gql_plain.Order.{has_text}
+use Rattle.plan_ir.specs.schema_rules.Checked.{IsSound}
+use Rattle.plan_ir.specs.schema_rules.Rules.{further_schemas, has_effect, names_not_unique, repeated_kinds, rules}
+use Rattle.plan_ir.specs.schema_tables.BuiltIn.{is_built_in_directive}
+use Rattle.plan_ir.specs.schema_tables.Types.{Text, Defs, applies, built_in_scalars, is_built_in_scalar, is_composite, is_composite_kind, is_interface_kind, is_kind, is_object_kind, implements, kind_of, object_name, possible, type_named, type_of, union_members_named}
+use Rattle.plan_ir.specs.schema_tables.declared.kind.TypeKind.{TypeKind}
+use Rattle.plan_ir.specs.schema_tables.declared.kind.TypeKind.TheVariants.{Scalar}
+use Rattle.plan_ir.specs.schema_tables.declared.kind.TypeKind.TheVariants as kinds
+use Rattle.plan_ir.specs.schema_trees.DefinitionParts.{directive_name_of, repeated_names, repeats, roots_in, type_name_of}
+use Rattle.plan_ir.specs.schema_trees.Located.{Located, DefAt, def_at, def_nodes, defs_at, locate, name_at}
+use Rattle.plan_ir.specs.gql_graph.Rules.{each}
 use Rattle.plan_build.proofs.Covariance.{possible_in_object}
 use Rattle.plan_build.proofs.CovarianceLists.{all_hold, in_filter, none_first}
 use Rattle.plan_build.proofs.CovarianceRules.{SchemaMeets, implemented, sound_meets}

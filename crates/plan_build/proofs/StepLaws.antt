@@ -3,25 +3,25 @@ use Rattle.std.proofs.Common.{◌≡◌, Bool, true, false, true≢false, cond, 
 use Rattle.std.proofs.lemmas.List.{append-nil}
 use Rattle.std.specs.List.{list_all}
 use Rattle.std.specs.Prelude.{codes, option_map}
-use Rattle.gql_ast.specs.Ty.{Ty}
-use Rattle.gql_ast.specs.Value.{Val}
-use Rattle.gql_ast.specs.declared.directive.Directive.{Directive}
-use Rattle.gql_graph.proofs.TextSteps.{same_text}
-use Rattle.gql_graph.specs.Rules.{each}
-use Rattle.gql_plain.specs.Order.{has_text}
-use Rattle.gql_plain.specs.declared.ids.Conn.{Conn}
+use Rattle.plan_ir.specs.gql_ast.Ty.{Ty}
+use Rattle.plan_ir.specs.gql_ast.Value.{Val}
+use Rattle.plan_ir.specs.gql_ast.declared.directive.Directive.{Directive}
+use Rattle.plan_ir.proofs.gql_graph_laws.TextSteps.{same_text}
+use Rattle.plan_ir.specs.gql_graph.Rules.{each}
+use Rattle.plan_ir.specs.gql_plain.Order.{has_text}
+use Rattle.plan_ir.specs.gql_plain.declared.ids.Conn.{Conn}
 use Rattle.plan_ir.specs.Nodes as nodes
 use Rattle.plan_ir.specs.Nodes.{Nodes}
 use Rattle.plan_ir.specs.Normal.{Normal, done, typename, leaf, object, guarded, normal_append}
 use Rattle.plan_ir.specs.NormalMeaning.{Plan, ask_step, below_step, collect_steps, condition_passes, guard_passes, item_of, object_form, typename_ask}
 use Rattle.plan_ir.specs.declared.guard.Condition.{Condition}
-use Rattle.plan_text.specs.Collecting.{applies, is_left_out}
+use Rattle.relay_model.specs.plan_text.Collecting.{applies, is_left_out}
 use Rattle.relay_model.specs.Collection.{below_type, connection_asked, form_on}
-use Rattle.schema_rules.specs.Rules.{is_object}
-use Rattle.schema_tables.specs.Types.{Text, Defs, is_composite, possible}
-use Rattle.schema_types.specs.Environments.{Values, arguments_in_environment}
-use Rattle.store_model.specs.Items as items
-use Rattle.store_model.specs.Items.{Asked, Below, Form, Item, asked}
+use Rattle.plan_ir.specs.schema_rules.Rules.{is_object}
+use Rattle.plan_ir.specs.schema_tables.Types.{Text, Defs, is_composite, possible}
+use Rattle.plan_ir.specs.schema_types.Environments.{Values, arguments_in_environment}
+use Rattle.plan_ir.specs.store_model.Items as items
+use Rattle.plan_ir.specs.store_model.Items.{Asked, Below, Form, Item, asked}
 use Rattle.plan_build.proofs.ClassLaws.{Differ, OneLike, form_of, found, objects, one_class}
 use Rattle.plan_build.proofs.ConditionLaws.{conditions_pass}
 use Rattle.plan_build.proofs.OrderLaws.{differ_possible}

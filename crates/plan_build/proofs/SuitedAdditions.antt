@@ -1,16 +1,16 @@
 -- The fields that are added suit each object type.
 use Rattle.std.proofs.Common.{◌≡◌, Bool, true, false, true≢false, cond, not, ◌&&◌, List, [], ◌∷◌, codes, Some, None, refl, sym, subst}
-use Rattle.gql_ast.specs.Sels as sels
-use Rattle.gql_ast.specs.Sels.{Sels}
-use Rattle.gql_ast.specs.declared.place.FilePlace.{FilePlace}
+use Rattle.plan_ir.specs.gql_ast.Sels as sels
+use Rattle.plan_ir.specs.gql_ast.Sels.{Sels}
+use Rattle.plan_ir.specs.gql_ast.declared.place.FilePlace.{FilePlace}
 use Rattle.plan_build.proofs.Covariance.{Within, base_on, object_alone, possible_in_object}
 use Rattle.plan_build.proofs.CovarianceRules.{SchemaMeets}
 use Rattle.plan_build.proofs.SuitedRules.{IsConnectionType}
 use Rattle.plan_build.specs.Suited.{FieldSuits, Suited, type_inside}
 use Rattle.plan_ir.specs.Additions.{additions, bare_field, connection_additions, edges_field, has_bare, id_additions, id_field, ids_on, is_abstract, leaf_on, node_field, or_typename, page_info_field, record_additions, type_on, typename_additions, typename_field}
 use Rattle.plan_ir.specs.Nodes.{Nodes, end, field, inline, nodes_append}
-use Rattle.schema_rules.specs.Rules.{is_object}
-use Rattle.schema_tables.specs.Types.{Text, Defs, has_id, possible}
+use Rattle.plan_ir.specs.schema_rules.Rules.{is_object}
+use Rattle.plan_ir.specs.schema_tables.Types.{Text, Defs, has_id, possible}
 
 pub nodes_appended : (defs : Defs) (around t : Text) (s more : Nodes) → Suited defs around t s → Suited defs around t more → Suited defs around t (nodes_append s more)
 nodes_appended defs around t end more h k = k

@@ -1,10 +1,10 @@
 -- A field that the rules allow suits each object type that the type around it may be.
 use Rattle.std.proofs.Common.{◌≡◌, Bool, true, false, true≢false, cond, List, [], codes, Option, Some, None, is_some, bytes_eq, refl, ap, sym, subst, ◌∙◌}
-use Rattle.gql_ast.specs.Ty.{Ty}
-use Rattle.gql_ast.specs.Value.{Val}
-use Rattle.gql_graph.proofs.TextSteps.{same_text}
-use Rattle.gql_plain.specs.Order.{has_text}
-use Rattle.gql_plain.specs.declared.ids.Conn.{Conn}
+use Rattle.plan_ir.specs.gql_ast.Ty.{Ty}
+use Rattle.plan_ir.specs.gql_ast.Value.{Val}
+use Rattle.plan_ir.proofs.gql_graph_laws.TextSteps.{same_text}
+use Rattle.plan_ir.specs.gql_plain.Order.{has_text}
+use Rattle.plan_ir.specs.gql_plain.declared.ids.Conn.{Conn}
 use Rattle.plan_build.proofs.Covariance.{Within, base_on, covariant, narrow_object, narrow_within, object_alone}
 use Rattle.plan_build.proofs.CovarianceRules.{SchemaMeets}
 use Rattle.plan_build.proofs.SuitedRules.{IsConnectionType}
@@ -12,13 +12,13 @@ use Rattle.plan_build.specs.Suited.{FieldSuits, Suited}
 use Rattle.plan_ir.specs.Additions.{type_on, type_or}
 use Rattle.plan_ir.specs.Nodes.{Nodes, end}
 use Rattle.relay_model.specs.Collection.{below_type, form_of_type, form_on}
-use Rattle.schema_rules.specs.Rules.{is_narrower_name, is_object}
-use Rattle.schema_tables.specs.Fits.{is_list_type}
-use Rattle.schema_tables.specs.Types.{Text, Defs, base_of, is_composite, is_composite_kind, is_kind, is_object_kind, kind_of, possible}
-use Rattle.schema_tables.specs.declared.kind.TypeKind.{TypeKind}
-use Rattle.schema_tables.specs.declared.kind.TypeKind.TheVariants.{Object}
-use Rattle.schema_types.specs.Sites.{field_type, typename_on}
-use Rattle.store_model.specs.Items.{Below, leaf, many, one, typename}
+use Rattle.plan_ir.specs.schema_rules.Rules.{is_narrower_name, is_object}
+use Rattle.plan_ir.specs.schema_tables.Fits.{is_list_type}
+use Rattle.plan_ir.specs.schema_tables.Types.{Text, Defs, base_of, is_composite, is_composite_kind, is_kind, is_object_kind, kind_of, possible}
+use Rattle.plan_ir.specs.schema_tables.declared.kind.TypeKind.{TypeKind}
+use Rattle.plan_ir.specs.schema_tables.declared.kind.TypeKind.TheVariants.{Object}
+use Rattle.plan_ir.specs.schema_types.Sites.{field_type, typename_on}
+use Rattle.plan_ir.specs.store_model.Items.{Below, leaf, many, one, typename}
 
 -- ---- forms
 

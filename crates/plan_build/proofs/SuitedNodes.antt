@@ -1,10 +1,10 @@
 -- What selections that meet the rules become is suited, through all spreads.
 use Rattle.std.proofs.Common.{◌≡◌, ℕ, zero, suc, ◌+◌, Bool, true, false, cond, List, [], ◌∷◌, Option, Some, None, is_some, bytes_eq, refl, ap, sym, subst}
 use Rattle.std.specs.List.{AllByRecursion, list_all}
-use Rattle.gql_ast.specs.Sels as sels
-use Rattle.gql_ast.specs.Sels.{Sels}
-use Rattle.gql_ast.specs.declared.directive.Directive.{Directive}
-use Rattle.gql_plain.specs.Order.{has_text}
+use Rattle.plan_ir.specs.gql_ast.Sels as sels
+use Rattle.plan_ir.specs.gql_ast.Sels.{Sels}
+use Rattle.plan_ir.specs.gql_ast.declared.directive.Directive.{Directive}
+use Rattle.plan_ir.specs.gql_plain.Order.{has_text}
 use Rattle.plan_build.proofs.Covariance.{Within, base_on}
 use Rattle.plan_build.proofs.CovarianceLists.{passes_each}
 use Rattle.plan_build.proofs.CovarianceRules.{SchemaMeets}
@@ -16,11 +16,11 @@ use Rattle.plan_ir.specs.Additions.{additions}
 use Rattle.plan_ir.specs.Expansion.{Project, enter_with, expansion, expansion_with, selections_from}
 use Rattle.plan_ir.specs.Nodes.{Nodes, end, nodes_append}
 use Rattle.plan_ir.specs.Substitution.{Scope, scope_at_spread, substitute_in}
-use Rattle.relay_dirs.specs.Connections.{connection_among}
-use Rattle.schema_tables.specs.Types.{Text, Defs, possible}
-use Rattle.schema_trees.specs.Located.{directives_nodes}
-use Rattle.schema_types.specs.NameRules.{fragment_named}
-use Rattle.schema_types.specs.Sites.{FragmentAt, arguments_nodes, below, head_nodes, optional_name_nodes, selections_nodes}
+use Rattle.plan_ir.specs.relay_dirs.Connections.{connection_among}
+use Rattle.plan_ir.specs.schema_tables.Types.{Text, Defs, possible}
+use Rattle.plan_ir.specs.schema_trees.Located.{directives_nodes}
+use Rattle.plan_ir.specs.schema_types.NameRules.{fragment_named}
+use Rattle.plan_ir.specs.schema_types.Sites.{FragmentAt, arguments_nodes, below, head_nodes, optional_name_nodes, selections_nodes}
 
 -- the type inside an inline fragment lies within the fragment's
 inside_on : (defs : Defs) (t o : Text) → Within defs (type_inside defs t (Some o)) o

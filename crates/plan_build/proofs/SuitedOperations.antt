@@ -1,11 +1,11 @@
 -- The expansion of an operation of documents that meet the rules is suited.
 use Rattle.std.proofs.Common.{◌≡◌, ℕ, ◌+◌, Bool, true, false, true≢false, cond, List, [], ◌∷◌, ◌++◌, Option, Some, None, is_some, refl, sym, subst}
 use Rattle.std.specs.List.{AllByRecursion}
-use Rattle.gql_ast.specs.declared.document.Definition.{Definition}
-use Rattle.gql_ast.specs.declared.document.Definition.TheVariants as D
-use Rattle.gql_ast.specs.declared.document.Document.{Document}
-use Rattle.gql_ast.specs.declared.place.Placed.{Placed}
-use Rattle.gql_graph.specs.Rules.{each, first_broken}
+use Rattle.plan_ir.specs.gql_ast.declared.document.Definition.{Definition}
+use Rattle.plan_ir.specs.gql_ast.declared.document.Definition.TheVariants as D
+use Rattle.plan_ir.specs.gql_ast.declared.document.Document.{Document}
+use Rattle.plan_ir.specs.gql_ast.declared.place.Placed.{Placed}
+use Rattle.plan_ir.specs.gql_graph.Rules.{each, first_broken}
 use Rattle.plan_build.proofs.CovarianceLists.{all_each, all_hold, all_joined, all_parts, none_each, right}
 use Rattle.plan_build.proofs.CovarianceRoots.{root_is_object}
 use Rattle.plan_build.proofs.CovarianceRules.{SchemaMeets, sound_meets}
@@ -15,18 +15,18 @@ use Rattle.plan_build.specs.Laws.{MeetsRules, OperationsAreSuited, definitions, 
 use Rattle.plan_build.specs.Suited.{Suited}
 use Rattle.plan_ir.specs.Expansion.{Project, expansion, is_named, name_or, operation_from, operation_named, project_of, spreads_in}
 use Rattle.plan_ir.specs.Substitution.{operation_scope}
-use Rattle.relay_dirs.specs.Connections.{connections_wrong, type_wrong_at}
-use Rattle.relay_dirs.specs.RelayRules.{relay_rules}
-use Rattle.schema_rules.specs.Checked.{IsSound}
-use Rattle.schema_rules.specs.Rules.{is_object}
-use Rattle.schema_rules.specs.declared.fault.Rule.{Rule}
-use Rattle.schema_tables.specs.Types.{Text, Defs, root}
-use Rattle.schema_trees.specs.Located.{Located, directives_nodes}
-use Rattle.schema_types.specs.ArgumentRules.{arguments_of_call_wrong, arguments_wrong, calls_at, calls_of, directive_calls, variable_calls}
-use Rattle.schema_types.specs.DocumentRules.{argument_rules, field_rules, name_rules, trees_of}
-use Rattle.schema_types.specs.FieldRules.{fields_undefined, set_wrong_at, sets_wrong, undefined_at}
-use Rattle.schema_types.specs.NameRules.{fragments, operations, roots_missing, sites_of, without_root}
-use Rattle.schema_types.specs.Sites.{DefinitionAt, FragmentAt, OperationAt, Site, definition_at, definition_nodes, definitions_at, document_nodes, documents_at, fragment, operation, optional_name_nodes, sites, variables_nodes}
+use Rattle.plan_ir.specs.relay_dirs.Connections.{connections_wrong, type_wrong_at}
+use Rattle.plan_ir.specs.relay_dirs.RelayRules.{relay_rules}
+use Rattle.plan_ir.specs.schema_rules.Checked.{IsSound}
+use Rattle.plan_ir.specs.schema_rules.Rules.{is_object}
+use Rattle.plan_ir.specs.schema_rules.declared.fault.Rule.{Rule}
+use Rattle.plan_ir.specs.schema_tables.Types.{Text, Defs, root}
+use Rattle.plan_ir.specs.schema_trees.Located.{Located, directives_nodes}
+use Rattle.plan_ir.specs.schema_types.ArgumentRules.{arguments_of_call_wrong, arguments_wrong, calls_at, calls_of, directive_calls, variable_calls}
+use Rattle.plan_ir.specs.schema_types.DocumentRules.{argument_rules, field_rules, name_rules, trees_of}
+use Rattle.plan_ir.specs.schema_types.FieldRules.{fields_undefined, set_wrong_at, sets_wrong, undefined_at}
+use Rattle.plan_ir.specs.schema_types.NameRules.{fragments, operations, roots_missing, sites_of, without_root}
+use Rattle.plan_ir.specs.schema_types.Sites.{DefinitionAt, FragmentAt, OperationAt, Site, definition_at, definition_nodes, definitions_at, document_nodes, documents_at, fragment, operation, optional_name_nodes, sites, variables_nodes}
 
 -- ---- definitions and their sites
 

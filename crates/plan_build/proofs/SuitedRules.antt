@@ -3,30 +3,30 @@
 use Rattle.std.proofs.Common.{◌≡◌, ℕ, ◌+◌, Bool, true, false, true≢false, cond, not, ◌&&◌, List, [], ◌∷◌, ◌++◌, codes, Option, Some, None, option_map, is_some, bytes_eq, refl, ap, sym, subst, ◌∙◌}
 use Rattle.std.specs.List.{AllByRecursion}
 use Rattle.doc_merge.specs.Gathering.{on_or}
-use Rattle.gql_ast.specs.Sels as sels
-use Rattle.gql_ast.specs.Sels.{Sels}
-use Rattle.gql_ast.specs.Ty.{Ty}
-use Rattle.gql_ast.specs.TypeView.{ty_of}
-use Rattle.gql_ast.specs.Value.{Val}
-use Rattle.gql_ast.specs.declared.directive.Directive.{Directive}
-use Rattle.gql_ast.specs.declared.member.FieldTree.{FieldTree}
-use Rattle.gql_graph.proofs.TextSteps.{same_text}
-use Rattle.gql_graph.specs.Rules.{each, wrong}
-use Rattle.gql_plain.specs.declared.ids.Conn.{Conn}
+use Rattle.plan_ir.specs.gql_ast.Sels as sels
+use Rattle.plan_ir.specs.gql_ast.Sels.{Sels}
+use Rattle.plan_ir.specs.gql_ast.Ty.{Ty}
+use Rattle.plan_ir.specs.gql_ast.TypeView.{ty_of}
+use Rattle.plan_ir.specs.gql_ast.Value.{Val}
+use Rattle.plan_ir.specs.gql_ast.declared.directive.Directive.{Directive}
+use Rattle.plan_ir.specs.gql_ast.declared.member.FieldTree.{FieldTree}
+use Rattle.plan_ir.proofs.gql_graph_laws.TextSteps.{same_text}
+use Rattle.plan_ir.specs.gql_graph.Rules.{each, wrong}
+use Rattle.plan_ir.specs.gql_plain.declared.ids.Conn.{Conn}
 use Rattle.plan_build.proofs.Covariance.{base_on, type_of_field}
 use Rattle.plan_build.proofs.CovarianceLists.{all_parts, first_true, none_first, not_so, right, then_true}
 use Rattle.plan_build.proofs.CovarianceRules.{SchemaMeets, no_typename}
 use Rattle.plan_ir.specs.Additions.{type_or}
-use Rattle.relay_dirs.specs.Connections as connections
-use Rattle.relay_dirs.specs.Connections.{are_edges, connection_among, connection_from, field_defined, is_connection, is_connection_name, is_connection_type, is_edge, is_node, is_page, is_page_info, is_page_leaf, is_single, needs_nothing, of_name, type_wrong, type_wrong_at}
-use Rattle.schema_rules.specs.Rules.{is_object, repeated_names}
-use Rattle.schema_tables.specs.Types.{Text, Defs, base_of, field_def, field_on, is_composite}
-use Rattle.schema_tables.specs.Views.{FieldDef}
-use Rattle.schema_trees.specs.Located.{directives_nodes}
-use Rattle.schema_types.specs.ArgumentRules.{argument_names, arguments_of_call_wrong, calls_at, field_takes, inputs, not_taken}
-use Rattle.schema_types.specs.FieldRules.{set_is_wrong, set_wrong_at, undefined_at}
-use Rattle.schema_types.specs.Sites as site
-use Rattle.schema_types.specs.Sites.{Site, arguments_at, arguments_nodes, below, condition_or, directives_at, field_type, head_nodes, is_set, optional_name_nodes, selections_nodes, sites, typename_on}
+use Rattle.plan_ir.specs.relay_dirs.Connections as connections
+use Rattle.plan_ir.specs.relay_dirs.Connections.{are_edges, connection_among, connection_from, field_defined, is_connection, is_connection_name, is_connection_type, is_edge, is_node, is_page, is_page_info, is_page_leaf, is_single, needs_nothing, of_name, type_wrong, type_wrong_at}
+use Rattle.plan_ir.specs.schema_rules.Rules.{is_object, repeated_names}
+use Rattle.plan_ir.specs.schema_tables.Types.{Text, Defs, base_of, field_def, field_on, is_composite}
+use Rattle.plan_ir.specs.schema_tables.Views.{FieldDef}
+use Rattle.plan_ir.specs.schema_trees.Located.{directives_nodes}
+use Rattle.plan_ir.specs.schema_types.ArgumentRules.{argument_names, arguments_of_call_wrong, calls_at, field_takes, inputs, not_taken}
+use Rattle.plan_ir.specs.schema_types.FieldRules.{set_is_wrong, set_wrong_at, undefined_at}
+use Rattle.plan_ir.specs.schema_types.Sites as site
+use Rattle.plan_ir.specs.schema_types.Sites.{Site, arguments_at, arguments_nodes, below, condition_or, directives_at, field_type, head_nodes, is_set, optional_name_nodes, selections_nodes, sites, typename_on}
 
 -- ---- what is asked of a field
 

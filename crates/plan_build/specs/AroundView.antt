@@ -2,7 +2,7 @@
 use Rattle.std.specs.Prelude.{◌≡◌, true, List}
 use Rattle.plan_build.specs.declared.around.Around.{Around}
 use Rattle.plan_build.specs.declared.around.Around.TheVariants as A
-use Rattle.schema_tables.specs.Types.{Text, Defs, is_composite, possible}
+use Rattle.plan_ir.specs.schema_tables.Types.{Text, Defs, is_composite, possible}
 
 abbrev pub types_of : Defs → Around → List Text
 types_of defs (A.Of of) = possible defs of.now

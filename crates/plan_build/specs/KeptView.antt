@@ -3,7 +3,7 @@ use Rattle.std.specs.BTreeMap.{get_by}
 use Rattle.std.specs.Cmp.Lexicographic.{slice_cmp}
 use Rattle.std.specs.Ordering.{nat_cmp}
 use Rattle.std.specs.Prelude.{◌≡◌, List, Option, Some}
-use Rattle.schema_tables.specs.Types.{Text, Defs}
+use Rattle.plan_ir.specs.schema_tables.Types.{Text, Defs}
 use Rattle.plan_build.specs.KnownView.{IsKnown}
 use Rattle.plan_build.specs.Steps.{identified}
 use Rattle.plan_build.specs.declared.kept.Kept.{Kept}

@@ -7,7 +7,7 @@ use Rattle.plan_build.specs.Classes.{Target, one_target}
 use Rattle.plan_build.specs.ClassView.{target_view}
 use Rattle.plan_build.specs.Steps.{are_within}
 use Rattle.plan_build.specs.declared.known.Known.{Known}
-use Rattle.schema_tables.specs.Types.{Text, Defs, possible}
+use Rattle.plan_ir.specs.schema_tables.Types.{Text, Defs, possible}
 
 abbrev pub find_within : Known → (on : Text) → Option Bool
 find_within known o = get_by (λ k. slice_cmp nat_cmp o k.now) known.within

@@ -1,10 +1,10 @@
 -- What holds of expanded operations and of their plans.
 use Rattle.std.specs.Prelude.{◌≡◌, ℕ, List, [], ◌∷◌, ◌++◌, Some, None}
-use Rattle.gql_ast.specs.declared.document.Document.{Document}
-use Rattle.gql_ast.specs.declared.place.FilePlace.{FilePlace}
-use Rattle.gql_ast.specs.declared.place.Placed.{Placed}
-use Rattle.gql_graph.specs.Rules.{first_broken}
-use Rattle.gql_plain.specs.Order.{has_text}
+use Rattle.plan_ir.specs.gql_ast.declared.document.Document.{Document}
+use Rattle.plan_ir.specs.gql_ast.declared.place.FilePlace.{FilePlace}
+use Rattle.plan_ir.specs.gql_ast.declared.place.Placed.{Placed}
+use Rattle.plan_ir.specs.gql_graph.Rules.{first_broken}
+use Rattle.plan_ir.specs.gql_plain.Order.{has_text}
 use Rattle.doc_merge.specs.Faults.{field_differences}
 use Rattle.plan_build.specs.NodesMeaning.{nodes_say}
 use Rattle.plan_build.specs.Plans.{MeansTheSame, ReachesTheSame}
@@ -13,17 +13,17 @@ use Rattle.plan_ir.specs.Expansion.{Project, operation_named, project_of, whole_
 use Rattle.plan_ir.specs.Normal.{Normal}
 use Rattle.plan_ir.specs.NormalMeaning.{plan_says}
 use Rattle.plan_ir.specs.NormalReach.{plan_reaches}
-use Rattle.relay_dirs.specs.RelayRules.{relay_rules}
+use Rattle.plan_ir.specs.relay_dirs.RelayRules.{relay_rules}
 use Rattle.relay_model.specs.Reaches.{operation_reaches}
 use Rattle.relay_model.specs.Responses.{operation_says}
-use Rattle.schema_rules.specs.Checked.{IsSound}
-use Rattle.schema_tables.specs.Types.{Text, Defs}
-use Rattle.schema_types.specs.DocumentRules.{Rules, argument_rules, field_rules, name_rules, trees_of}
-use Rattle.schema_types.specs.Environments.{Values}
-use Rattle.schema_types.specs.NameRules.{operations}
-use Rattle.schema_types.specs.Sites.{DefinitionAt, OperationAt, all_definitions}
+use Rattle.plan_ir.specs.schema_rules.Checked.{IsSound}
+use Rattle.plan_ir.specs.schema_tables.Types.{Text, Defs}
+use Rattle.plan_ir.specs.schema_types.DocumentRules.{Rules, argument_rules, field_rules, name_rules, trees_of}
+use Rattle.plan_ir.specs.schema_types.Environments.{Values}
+use Rattle.plan_ir.specs.schema_types.NameRules.{operations}
+use Rattle.plan_ir.specs.schema_types.Sites.{DefinitionAt, OperationAt, all_definitions}
 use Rattle.serde_json.specs.Data as J
-use Rattle.store_model.specs.Walks.{Slots, type_of_record}
+use Rattle.plan_ir.specs.store_model.Walks.{Slots, type_of_record}
 
 -- a response says to an operation of the documents what it says to the operation's expansion
 abbrev pub DocumentsAreNodes : Type 0

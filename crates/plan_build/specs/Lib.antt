@@ -1,3 +1,6 @@
+pub use Rattle.doc_merge.specs as doc_merge
+pub use Rattle.relay_model.specs.plan_text
+pub use Rattle.relay_model.specs as relay_model
 pub mod NodesMeaning
 pub mod NodesReach
 pub mod Suited

@@ -3,10 +3,10 @@ use Rattle.std.specs.Prelude.{◌+◌, List, [], ◌∷◌}
 use Rattle.plan_build.specs.NodesMeaning.{collect_nodes}
 use Rattle.plan_ir.specs.Nodes.{set_depth}
 use Rattle.plan_ir.specs.declared.expanded.Expanded.{Expanded}
-use Rattle.schema_tables.specs.Types.{Text, Defs}
-use Rattle.schema_types.specs.Environments.{Values}
-use Rattle.store_model.specs.Reaches.{reach_at}
-use Rattle.store_model.specs.Walks.{Slots, type_of_record}
+use Rattle.plan_ir.specs.schema_tables.Types.{Text, Defs}
+use Rattle.plan_ir.specs.schema_types.Environments.{Values}
+use Rattle.plan_ir.specs.store_model.Reaches.{reach_at}
+use Rattle.plan_ir.specs.store_model.Walks.{Slots, type_of_record}
 
 -- as often as the walk stands there; at most as many records one below another as sets stand in one another
 abbrev pub nodes_reach : Defs → Expanded → Values → Slots → (id : Text) → List Text

@@ -1,7 +1,7 @@
 -- What the plan of an expanded operation is held to.
 use Rattle.std.specs.Prelude.{◌≡◌, true, [], ◌∷◌}
 use Rattle.doc_merge.specs.Faults.{field_differences}
-use Rattle.gql_plain.specs.Order.{has_text}
+use Rattle.plan_ir.specs.gql_plain.Order.{has_text}
 use Rattle.plan_build.specs.NodesMeaning.{nodes_say}
 use Rattle.plan_build.specs.NodesReach.{nodes_reach}
 use Rattle.plan_build.specs.Suited.{IsSuited}
@@ -9,11 +9,11 @@ use Rattle.plan_ir.specs.Normal.{Normal}
 use Rattle.plan_ir.specs.NormalMeaning.{are_names, is_formed, plan_says}
 use Rattle.plan_ir.specs.NormalReach.{plan_reaches}
 use Rattle.plan_ir.specs.declared.expanded.Expanded.{Expanded}
-use Rattle.schema_rules.specs.Checked.{IsSound}
-use Rattle.schema_tables.specs.Types.{Text, Defs, possible}
-use Rattle.schema_types.specs.Environments.{Values}
+use Rattle.plan_ir.specs.schema_rules.Checked.{IsSound}
+use Rattle.plan_ir.specs.schema_tables.Types.{Text, Defs, possible}
+use Rattle.plan_ir.specs.schema_types.Environments.{Values}
 use Rattle.serde_json.specs.Data as J
-use Rattle.store_model.specs.Walks.{Slots, type_of_record}
+use Rattle.plan_ir.specs.store_model.Walks.{Slots, type_of_record}
 
 -- the object types of a schema that was read from a text have Names
 abbrev pub HaveNames : Defs → Type 0

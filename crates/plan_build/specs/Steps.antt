@@ -1,16 +1,16 @@
 -- Which steps come of nodes, where the objects are of these types.
 use Rattle.std.specs.Prelude.{Bool, true, false, cond, List, [], ◌∷◌, codes, Option, Some, None, bytes_eq}
 use Rattle.std.specs.List.{filter, list_all}
-use Rattle.gql_ast.specs.Value.{Val}
-use Rattle.gql_plain.specs.Order.{has_text}
-use Rattle.gql_plain.specs.declared.ids.Conn.{Conn}
+use Rattle.plan_ir.specs.gql_ast.Value.{Val}
+use Rattle.plan_ir.specs.gql_plain.Order.{has_text}
+use Rattle.plan_ir.specs.gql_plain.declared.ids.Conn.{Conn}
 use Rattle.plan_ir.specs.Additions.{is_abstract}
 use Rattle.plan_ir.specs.Nodes as nodes
 use Rattle.plan_ir.specs.Nodes.{Nodes}
 use Rattle.plan_ir.specs.Normal.{Normal, done, typename, leaf, object, guarded, normal_append}
 use Rattle.plan_ir.specs.declared.expanded.Expanded.{Expanded}
 use Rattle.plan_ir.specs.declared.guard.Condition.{Condition}
-use Rattle.schema_tables.specs.Types.{Text, Defs, has_id, is_composite, possible}
+use Rattle.plan_ir.specs.schema_tables.Types.{Text, Defs, has_id, is_composite, possible}
 use Rattle.plan_build.specs.Classes.{Class, Target, classes_of}
 use Rattle.plan_build.specs.Conditions.{conditions_of}
 

@@ -2,19 +2,19 @@
 -- operation of an accepted project is so.
 use Rattle.std.specs.Prelude.{◌≡◌, true, cond, List, [], ◌∷◌, codes, Option, Some, None}
 use Rattle.std.specs.List.{list_all}
-use Rattle.gql_ast.specs.Ty.{Ty}
-use Rattle.gql_ast.specs.Value.{Val}
-use Rattle.gql_plain.specs.Order.{has_text}
-use Rattle.gql_plain.specs.declared.ids.Conn.{Conn}
+use Rattle.plan_ir.specs.gql_ast.Ty.{Ty}
+use Rattle.plan_ir.specs.gql_ast.Value.{Val}
+use Rattle.plan_ir.specs.gql_plain.Order.{has_text}
+use Rattle.plan_ir.specs.gql_plain.declared.ids.Conn.{Conn}
 use Rattle.doc_merge.specs.Gathering.{on_or}
 use Rattle.plan_ir.specs.Additions.{type_on}
 use Rattle.plan_ir.specs.Nodes as nodes
 use Rattle.plan_ir.specs.Nodes.{Nodes}
 use Rattle.plan_ir.specs.declared.expanded.Expanded.{Expanded}
 use Rattle.relay_model.specs.Collection.{form_on}
-use Rattle.schema_rules.specs.Rules.{is_object}
-use Rattle.schema_tables.specs.Types.{Text, Defs, base_of, possible}
-use Rattle.store_model.specs.Items.{leaf}
+use Rattle.plan_ir.specs.schema_rules.Rules.{is_object}
+use Rattle.plan_ir.specs.schema_tables.Types.{Text, Defs, base_of, possible}
+use Rattle.plan_ir.specs.store_model.Items.{leaf}
 
 -- a field on an object type: the type name has no arguments and is no connection, a leaf is no connection, and a field whose static type is
 -- that of an object has no narrower one here

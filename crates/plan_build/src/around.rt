@@ -6,8 +6,7 @@ ghost use Rattle.plan_build.specs.Classes as classes;
 ghost use Rattle.plan_build.specs.Steps as spec;
 
 use crate::classes::{Class, classes_of};
-use gql_plain::{Ids, NoMemory};
-use schema_types::Schema;
+use plan_ir::{Ids, NoMemory, Schema};
 use std::alloc::Global;
 
 /// Object types, told in a way by which what was found out about them is found again.

@@ -1,18 +1,16 @@
 //! The object types that a field may stand on, in classes: on those of one class it leads to the
 //! same.
 ghost use Rattle.std.specs.Prelude.{◌≡◌, [], false, true, map, codes, bytes_eq, option_map, IfOk, OnOk};
-ghost use Rattle.gql_ast.specs.TypeView.{ty_of};
+ghost use Rattle.plan_ir.specs.gql_ast.TypeView.{ty_of};
 ghost use Rattle.plan_ir.specs.Additions as additions;
-ghost use Rattle.schema_tables.specs.Fits as fits;
-ghost use Rattle.schema_tables.specs.Places.{first_at};
-ghost use Rattle.schema_tables.specs.Types as types;
+ghost use Rattle.plan_ir.specs.schema_tables.Fits as fits;
+ghost use Rattle.plan_ir.specs.schema_tables.Places.{first_at};
+ghost use Rattle.plan_ir.specs.schema_tables.Types as types;
 ghost use Rattle.plan_build.specs.Classes as spec;
 ghost use Rattle.plan_build.specs.ClassView.{class_view, group_view, target_view};
 
-use gql_ast::TypeTree;
-use gql_plain::{Ids, Name, NoMemory};
-use schema_tables::type_forms::{base_of, item_of};
-use schema_types::{Schema, TypeKind};
+use plan_ir::type_forms::{base_of, item_of};
+use plan_ir::{Ids, Name, NoMemory, Schema, TypeKind, TypeTree};
 use std::alloc::Global;
 
 /// What a field leads to.

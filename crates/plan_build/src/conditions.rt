@@ -1,13 +1,13 @@
 //! The conditions that `@skip` and `@include` put on a selection (GraphQL, October 2021, sections
 //! 3.13.1 and 3.13.2).
 ghost use Rattle.std.specs.Prelude.{◌≡◌, ◌++◌, codes, cond, bytes_eq, IfOk, OnOk};
-ghost use Rattle.gql_ast.specs.Value.{null};
-ghost use Rattle.gql_ast.specs.ValueView.{value_of};
+ghost use Rattle.plan_ir.specs.gql_ast.Value.{null};
+ghost use Rattle.plan_ir.specs.gql_ast.ValueView.{value_of};
 ghost use Rattle.plan_build.specs.Conditions as spec;
 
-use gql_ast::{Argument, Arguments, Directive, Directives, ValueTree};
-use gql_plain::NoMemory;
-use plan_ir::{Condition, Conditions};
+use plan_ir::{
+    Argument, Arguments, Condition, Conditions, Directive, Directives, NoMemory, ValueTree,
+};
 use std::alloc::Global;
 
 /// The value of the argument, if its name is `if`, else the value that is given.

@@ -1,7 +1,7 @@
 //! What is kept of a schema while a plan is built.
 ghost use Rattle.std.specs.Prelude.{◌≡◌, ◌++◌, [], ◌∷◌, Bool, Some, false, true, codes, bytes_eq, option_copied, option_map, IfOk, OnOk};
 ghost use Rattle.std.specs.List.{filter};
-ghost use Rattle.schema_tables.specs.Types as types;
+ghost use Rattle.plan_ir.specs.schema_tables.Types as types;
 ghost use Rattle.plan_build.specs.AroundView.{IsOfComposite, types_of};
 ghost use Rattle.plan_build.specs.ClassView.{target_view};
 ghost use Rattle.plan_build.specs.Classes as classes;
@@ -12,8 +12,7 @@ ghost use Rattle.plan_build.specs.Steps as spec;
 use crate::around::{Around, are_within, is_one};
 use crate::classes::{Target, one_target};
 use crate::known::Known;
-use gql_plain::{Ids, Name, NoMemory};
-use schema_types::Schema;
+use plan_ir::{Ids, Name, NoMemory, Schema};
 use std::alloc::Global;
 use std::collections::BTreeMap;
 

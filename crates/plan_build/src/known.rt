@@ -4,10 +4,10 @@ ghost use Rattle.plan_build.specs.ClassView.{target_view};
 ghost use Rattle.plan_build.specs.Classes as classes;
 ghost use Rattle.plan_build.specs.KnownView.{IsKnown, find_target, find_within};
 ghost use Rattle.plan_build.specs.Steps as spec;
-ghost use Rattle.schema_tables.specs.Types.{Text, Defs, possible};
+ghost use Rattle.plan_ir.specs.schema_tables.Types.{Text, Defs, possible};
 
 use crate::classes::Target;
-use gql_plain::NoMemory;
+use plan_ir::NoMemory;
 use std::alloc::Global;
 use std::collections::BTreeMap;
 

@@ -6,9 +6,7 @@ ghost use Rattle.plan_build.specs.Steps.{plan_of};
 use crate::around::Around;
 use crate::kept::Kept;
 use crate::steps::make_steps;
-use gql_plain::{Ids, Name, NoMemory};
-use plan_ir::{Expanded, NormalPlan};
-use schema_types::Schema;
+use plan_ir::{Expanded, Ids, Name, NoMemory, NormalPlan, Schema};
 use std::alloc::Global;
 
 /// The list of one type.

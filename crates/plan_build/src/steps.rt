@@ -3,7 +3,7 @@ ghost use Rattle.std.specs.Prelude.{◌≡◌, ◌++◌, [], ◌∷◌, None, So
 ghost use Rattle.plan_ir.specs.NodesView.{node_of};
 ghost use Rattle.plan_ir.specs.Normal.{normal_append, done, guarded};
 ghost use Rattle.plan_ir.specs.NormalView.{step_of};
-ghost use Rattle.schema_tables.specs.Types as types;
+ghost use Rattle.plan_ir.specs.schema_tables.Types as types;
 ghost use Rattle.plan_build.specs.AroundView.{IsOfComposite, types_of};
 ghost use Rattle.plan_build.specs.ClassView.{class_view, field_view, target_view};
 ghost use Rattle.plan_build.specs.Conditions as tests;
@@ -14,10 +14,10 @@ use crate::around::Around;
 use crate::classes::{Class, Target, is_abstract};
 use crate::conditions::conditions_of;
 use crate::kept::Kept;
-use gql_ast::{Arguments, Directives};
-use gql_plain::{Conn, Ids, Name, NoMemory};
-use plan_ir::{Conditions, Guard, Node, Nodes, NormalPlan, NormalStep, NormalSteps, copy_of_conn};
-use schema_types::Schema;
+use plan_ir::{
+    Arguments, Conditions, Conn, Directives, Guard, Ids, Name, NoMemory, Node, Nodes, NormalPlan,
+    NormalStep, NormalSteps, Schema, copy_of_conn,
+};
 use std::alloc::Global;
 
 /// A field, with the nodes that stand below it.

@@ -3,22 +3,22 @@ use Rattle.std.proofs.Common.{◌≡◌, ℕ, ◌+◌, ◌<◌, ◌≤◌, Bool,
 use Rattle.std.specs.Prelude.{◌↔◌, codes, option_map}
 use Rattle.std.specs.List.{filter}
 use Rattle.std.proofs.lemmas.List.{drop_all, drop_more}
-use Rattle.gql_ast.specs.SelectionView.{sel_before, sel_of, sels_of}
-use Rattle.gql_ast.specs.Sels as sels
-use Rattle.gql_ast.specs.Sels.{Sels}
-use Rattle.gql_ast.specs.Ty.{Ty}
-use Rattle.gql_ast.specs.Value.{Val}
-use Rattle.gql_ast.specs.declared.directive.Directive.{Directive}
-use Rattle.gql_ast.specs.declared.place.FilePlace.{FilePlace}
-use Rattle.gql_ast.specs.declared.selection.Selection.{Selection}
-use Rattle.gql_ast.specs.declared.selection.Selection.TheVariants as S
-use Rattle.gql_plain.proofs.Booleans.{or_false}
+use Rattle.plan_ir.specs.gql_ast.SelectionView.{sel_before, sel_of, sels_of}
+use Rattle.plan_ir.specs.gql_ast.Sels as sels
+use Rattle.plan_ir.specs.gql_ast.Sels.{Sels}
+use Rattle.plan_ir.specs.gql_ast.Ty.{Ty}
+use Rattle.plan_ir.specs.gql_ast.Value.{Val}
+use Rattle.plan_ir.specs.gql_ast.declared.directive.Directive.{Directive}
+use Rattle.plan_ir.specs.gql_ast.declared.place.FilePlace.{FilePlace}
+use Rattle.plan_ir.specs.gql_ast.declared.selection.Selection.{Selection}
+use Rattle.plan_ir.specs.gql_ast.declared.selection.Selection.TheVariants as S
+use Rattle.plan_ir.proofs.gql_plain_laws.Booleans.{or_false}
 use Rattle.plan_ir.proofs.NodeLaws.{nodes_append_assoc, nodes_append_end}
 use Rattle.plan_ir.specs.Additions.{additions, connection_additions, has_bare, id_field, ids_on, leaf_on, or_typename, record_additions, type_or, typename_field}
 use Rattle.plan_ir.specs.Nodes.{Nodes, end, field, inline, nodes_append}
-use Rattle.schema_tables.specs.Types.{Text, Defs, base_of, has_id, possible}
+use Rattle.plan_ir.specs.schema_tables.Types.{Text, Defs, base_of, has_id, possible}
 use Rattle.plan_expand.specs.Adding.{identified_types, ids_of_each}
-use Rattle.gql_graph.proofs.TextSteps.{same_text}
+use Rattle.plan_ir.proofs.gql_graph_laws.TextSteps.{same_text}
 
 pub ruleset appending = (nodes_append_assoc, nodes_append_end)
 

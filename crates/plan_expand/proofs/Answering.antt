@@ -2,20 +2,20 @@
 use Rattle.std.proofs.Common.{◌≡◌, ℕ, zero, suc, ◌+◌, Bool, true, false, true≢false, cond, List, [], ◌∷◌, length, Option, Some, None, option_map, bytes_eq, refl, ap, sym, subst, ◌∙◌, arith}
 use Rattle.std.specs.Prelude.{Result, Ok, Err, is_some, max}
 use Rattle.std.proofs.lemmas.List.{append-nil}
-use Rattle.gql_ast.specs.Sels.{Sels}
-use Rattle.gql_ast.specs.declared.directive.Directive.{Directive}
-use Rattle.gql_graph.proofs.TextSteps.{same_text}
+use Rattle.plan_ir.specs.gql_ast.Sels.{Sels}
+use Rattle.plan_ir.specs.gql_ast.declared.directive.Directive.{Directive}
+use Rattle.plan_ir.proofs.gql_graph_laws.TextSteps.{same_text}
 use Rattle.plan_ir.specs.Expansion.{Project, Whole, directive_trees, expansion, gifts, is_named, name_of_located_or, name_or, operation_from, operation_named, printed_directives, selections_from, variable_trees, whole_fragment, whole_operation}
 use Rattle.plan_ir.specs.Nodes.{set_depth}
 use Rattle.plan_ir.specs.Sizes.{all_count, all_depth, count, directives_count, directives_depth, has_too_many_nodes, is_too_deep, nodes_count, nodes_value_depth, value_depth}
 use Rattle.plan_ir.specs.declared.form.Form.TheVariants as form
 use Rattle.plan_ir.specs.Substitution.{Scope, operation_scope, scope_of_own}
 use Rattle.plan_ir.specs.declared.expanded.Expanded.{Expanded}
-use Rattle.schema_tables.specs.Types.{Text, root}
-use Rattle.schema_trees.specs.Located.{Located}
-use Rattle.schema_types.specs.DocumentRules.{places_of, trees_of}
-use Rattle.schema_types.specs.NameRules.{fragment_named, fragments, operations}
-use Rattle.schema_types.specs.Sites.{FragmentAt, OperationAt, sites}
+use Rattle.plan_ir.specs.schema_tables.Types.{Text, root}
+use Rattle.plan_ir.specs.schema_trees.Located.{Located}
+use Rattle.plan_ir.specs.schema_types.DocumentRules.{places_of, trees_of}
+use Rattle.plan_ir.specs.schema_types.NameRules.{fragment_named, fragments, operations}
+use Rattle.plan_ir.specs.schema_types.Sites.{FragmentAt, OperationAt, sites}
 use Rattle.plan_expand.proofs.Expanding.{making_is}
 use Rattle.plan_expand.proofs.Listed.{fragments_listed, operations_listed}
 use Rattle.plan_expand.proofs.Measured.{extent_of, measured_is, on_level}

@@ -2,20 +2,20 @@
 use Rattle.std.proofs.Common.{◌≡◌, ℕ, zero, suc, ◌+◌, ◌-◌, List, [], ◌∷◌, ◌++◌, drop, length, get_or, Option, Some, None, option_map, refl, ap, sym, ◌∙◌, arith, append_assoc}
 use Rattle.std.proofs.lemmas.List.{append-nil, length-append, length-map, map-append}
 use Rattle.std.specs.Prelude.{is_some}
-use Rattle.gql_ast.specs.Sels as sels
-use Rattle.gql_ast.specs.Sels.{Sels}
-use Rattle.gql_ast.specs.Value.{Val}
-use Rattle.gql_ast.specs.declared.directive.Directive.{Directive}
-use Rattle.gql_ast.specs.declared.place.FilePlace.{FilePlace}
+use Rattle.plan_ir.specs.gql_ast.Sels as sels
+use Rattle.plan_ir.specs.gql_ast.Sels.{Sels}
+use Rattle.plan_ir.specs.gql_ast.Value.{Val}
+use Rattle.plan_ir.specs.gql_ast.declared.directive.Directive.{Directive}
+use Rattle.plan_ir.specs.gql_ast.declared.place.FilePlace.{FilePlace}
 use Rattle.plan_ir.specs.Additions.{additions, type_or}
 use Rattle.plan_ir.specs.Expansion.{Project, argument_pairs, directive_trees, enter_with, expansion, expansion_with, printed_conditions, printed_directives, response_key, selections_from}
 use Rattle.plan_ir.specs.Nodes.{Nodes, field, inline, nodes_append}
-use Rattle.relay_dirs.specs.Connections.{connection_among}
+use Rattle.plan_ir.specs.relay_dirs.Connections.{connection_among}
 use Rattle.plan_ir.specs.Substitution.{Scope, scope_at_spread, substitute_in}
-use Rattle.schema_tables.specs.Types.{Text, Defs, base_of}
-use Rattle.schema_trees.specs.Located.{directives_nodes, value_nodes}
-use Rattle.schema_types.specs.NameRules.{fragment_named}
-use Rattle.schema_types.specs.Sites.{FragmentAt, Site, arguments_at, arguments_nodes, below, condition_or, directives_at, field_type, head_nodes, optional_name_at, optional_name_nodes, selections_nodes, sites}
+use Rattle.plan_ir.specs.schema_tables.Types.{Text, Defs, base_of}
+use Rattle.plan_ir.specs.schema_trees.Located.{directives_nodes, value_nodes}
+use Rattle.plan_ir.specs.schema_types.NameRules.{fragment_named}
+use Rattle.plan_ir.specs.schema_types.Sites.{FragmentAt, Site, arguments_at, arguments_nodes, below, condition_or, directives_at, field_type, head_nodes, optional_name_at, optional_name_nodes, selections_nodes, sites}
 use Rattle.plan_expand.specs.Places.{Places, field_number, first_place, site_place, site_places_in}
 use Rattle.plan_expand.specs.Making.{Enter, Find, Ready, enter_ready, entering, making, making_with, selections_count}
 use Rattle.plan_expand.specs.Fitting.{AreListed, IsListed}

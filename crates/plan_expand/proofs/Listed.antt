@@ -1,17 +1,17 @@
 -- What stands in the fragments of documents is listed with the numbers of its nodes.
 use Rattle.std.proofs.Common.{◌≡◌, ℕ, ◌+◌, Bool, true, false, cond, List, [], ◌∷◌, ◌++◌, Option, Some, None, option_map, bytes_eq, refl, ap, sym, subst, arith}
 use Rattle.std.proofs.lemmas.List.Elements.{filter_map-append}
-use Rattle.gql_ast.specs.declared.document.Definition.{Definition}
-use Rattle.gql_ast.specs.declared.document.Definition.TheVariants as D
-use Rattle.gql_ast.specs.declared.document.Document.{Document}
-use Rattle.gql_ast.specs.declared.document.Fragment.{Fragment}
-use Rattle.gql_ast.specs.declared.document.Operation.{Operation}
-use Rattle.gql_ast.specs.declared.variable.VariableDef.{VariableDef}
+use Rattle.plan_ir.specs.gql_ast.declared.document.Definition.{Definition}
+use Rattle.plan_ir.specs.gql_ast.declared.document.Definition.TheVariants as D
+use Rattle.plan_ir.specs.gql_ast.declared.document.Document.{Document}
+use Rattle.plan_ir.specs.gql_ast.declared.document.Fragment.{Fragment}
+use Rattle.plan_ir.specs.gql_ast.declared.document.Operation.{Operation}
+use Rattle.plan_ir.specs.gql_ast.declared.variable.VariableDef.{VariableDef}
 use Rattle.plan_ir.specs.Expansion.{is_named, operation_from, operation_named, selections_from, variable_trees}
-use Rattle.schema_tables.specs.Types.{Text, Defs, root}
-use Rattle.schema_trees.specs.Located.{Located, directives_nodes}
-use Rattle.schema_types.specs.NameRules.{fragment_named, fragment_of, fragments, operation_of, operations}
-use Rattle.schema_types.specs.Sites.{FragmentAt, OperationAt, all_definitions, definition_nodes, definitions_at, document_nodes, documents_at, fragment_at, operation_at, optional_name_at, optional_name_nodes, sites, variable_nodes, variables_at, variables_nodes}
+use Rattle.plan_ir.specs.schema_tables.Types.{Text, Defs, root}
+use Rattle.plan_ir.specs.schema_trees.Located.{Located, directives_nodes}
+use Rattle.plan_ir.specs.schema_types.NameRules.{fragment_named, fragment_of, fragments, operation_of, operations}
+use Rattle.plan_ir.specs.schema_types.Sites.{FragmentAt, OperationAt, all_definitions, definition_nodes, definitions_at, document_nodes, documents_at, fragment_at, operation_at, optional_name_at, optional_name_nodes, sites, variable_nodes, variables_at, variables_nodes}
 use Rattle.plan_expand.proofs.Expanding.{trees_at}
 
 abbrev pub IsFragmentListed : Defs → FragmentAt → Type 0

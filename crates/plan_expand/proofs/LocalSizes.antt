@@ -1,6 +1,6 @@
 -- The sizes that stand beside local variables are those of their defaults.
 use Rattle.std.proofs.Common.{◌≡◌, Option, Some, None, option_map, refl}
-use Rattle.schema_tables.specs.Types.{Text}
+use Rattle.plan_ir.specs.schema_tables.Types.{Text}
 use Rattle.plan_expand.specs.LocalsView.{default_view, find_default, find_local, find_local_size}
 use Rattle.plan_expand.specs.Sizes.{default_size}
 use Rattle.plan_expand.specs.declared.local.Local.{Local}

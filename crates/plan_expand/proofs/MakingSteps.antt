@@ -1,17 +1,17 @@
 -- Steps of the walk that makes nodes: one more selection, and all of them.
 use Rattle.std.proofs.Common.{◌≡◌, ℕ, zero, suc, ◌+◌, ◌-◌, ◌<◌, ◌≤◌, List, ◌∷◌, drop, length, get_or, Option, Some, None, refl, ap, sym, ◌∙◌, arith}
 use Rattle.std.proofs.lemmas.List.{drop_all, drop_more}
-use Rattle.gql_ast.specs.SelectionView.{sel_before, sel_of, sels_of}
-use Rattle.gql_ast.specs.Sels.{Sels}
-use Rattle.gql_ast.specs.declared.directive.Directive.{Directive}
-use Rattle.gql_ast.specs.declared.selection.Selection.{Selection}
-use Rattle.gql_ast.specs.declared.selection.Selection.TheVariants as S
-use Rattle.gql_ast.specs.declared.place.FilePlace.{FilePlace}
+use Rattle.plan_ir.specs.gql_ast.SelectionView.{sel_before, sel_of, sels_of}
+use Rattle.plan_ir.specs.gql_ast.Sels.{Sels}
+use Rattle.plan_ir.specs.gql_ast.declared.directive.Directive.{Directive}
+use Rattle.plan_ir.specs.gql_ast.declared.selection.Selection.{Selection}
+use Rattle.plan_ir.specs.gql_ast.declared.selection.Selection.TheVariants as S
+use Rattle.plan_ir.specs.gql_ast.declared.place.FilePlace.{FilePlace}
 use Rattle.plan_ir.proofs.NodeLaws.{nodes_append_end, nodes_append_assoc}
 use Rattle.plan_ir.specs.Nodes as nodes
 use Rattle.plan_ir.specs.Nodes.{Nodes, nodes_append}
 use Rattle.plan_ir.specs.Substitution.{Scope}
-use Rattle.schema_tables.specs.Types.{Text, Defs}
+use Rattle.plan_ir.specs.schema_tables.Types.{Text, Defs}
 use Rattle.plan_expand.specs.Places.{Places}
 use Rattle.plan_expand.specs.Making.{Find, Ready, enter_ready, entering, making, selections_count, spread_node}
 

@@ -1,21 +1,21 @@
 -- What the code measures is how large the expansion is.
 use Rattle.std.proofs.Common.{◌≡◌, ℕ, zero, suc, ◌+◌, ◌≤◌, Bool, List, [], ◌++◌, map, Option, Some, None, option_map, refl, ap, sym, ◌∙◌, arith}
 use Rattle.std.specs.Prelude.{is_some, max}
-use Rattle.gql_ast.specs.Sels as sels
-use Rattle.gql_ast.specs.Sels.{Sels}
-use Rattle.gql_ast.specs.Value.{Val}
-use Rattle.gql_ast.specs.declared.directive.Directive.{Directive}
-use Rattle.gql_graph.specs.Rules.{each}
+use Rattle.plan_ir.specs.gql_ast.Sels as sels
+use Rattle.plan_ir.specs.gql_ast.Sels.{Sels}
+use Rattle.plan_ir.specs.gql_ast.Value.{Val}
+use Rattle.plan_ir.specs.gql_ast.declared.directive.Directive.{Directive}
+use Rattle.plan_ir.specs.gql_graph.Rules.{each}
 use Rattle.plan_ir.specs.Additions.{additions, type_or}
 use Rattle.plan_ir.specs.Expansion.{Project, enter_with, expansion, expansion_with, gifts, gifts_inside, gifts_with, is_condition, is_printed, printed_conditions, printed_directives, selections_from}
-use Rattle.relay_dirs.specs.Connections.{connection_among}
+use Rattle.plan_ir.specs.relay_dirs.Connections.{connection_among}
 use Rattle.plan_ir.specs.Nodes.{Nodes, nodes_append, set_depth}
 use Rattle.plan_ir.specs.Sizes.{all_count, all_depth, arguments_count, arguments_depth, directives_count, directives_depth, nodes_count, nodes_value_depth}
 use Rattle.plan_ir.specs.Substitution.{Scope, arguments_at_spread, arguments_in, scope_at_spread, substitute_in}
-use Rattle.schema_tables.specs.Types.{Text, base_of}
-use Rattle.schema_trees.specs.Located.{directives_nodes}
-use Rattle.schema_types.specs.NameRules.{fragment_named}
-use Rattle.schema_types.specs.Sites.{FragmentAt, arguments_nodes, below, condition_or, field_type, head_nodes, optional_name_nodes, selections_nodes}
+use Rattle.plan_ir.specs.schema_tables.Types.{Text, base_of}
+use Rattle.plan_ir.specs.schema_trees.Located.{directives_nodes}
+use Rattle.plan_ir.specs.schema_types.NameRules.{fragment_named}
+use Rattle.plan_ir.specs.schema_types.Sites.{FragmentAt, arguments_nodes, below, condition_or, field_type, head_nodes, optional_name_nodes, selections_nodes}
 use Rattle.plan_expand.proofs.ExtentLaws.{none_both}
 use Rattle.plan_expand.proofs.NodeSizes.{Sized, all_count_append, all_depth_append, count_append, depth_append, sized_additions, value_depth_append}
 use Rattle.plan_expand.proofs.ValueSizes.{AreSizes, arguments_is, directives_is, gifts_count, gifts_depth, pairs_size, printed_size, spread_is}

@@ -2,16 +2,16 @@
 use Rattle.std.proofs.Common.{◌≡◌, ℕ, zero, suc, ◌+◌, ◌≤◌, Bool, true, false, not, ◌&&◌, cond, List, [], ◌∷◌, ◌++◌, length, refl, ap, sym, subst, ◌∙◌, arith}
 use Rattle.std.specs.Prelude.{◌↔◌, IsTrue, codes, max}
 use Rattle.std.specs.List.{filter}
-use Rattle.gql_ast.specs.Sels as sels
-use Rattle.gql_ast.specs.Sels.{Sels}
-use Rattle.gql_ast.specs.Ty.{Ty}
-use Rattle.gql_ast.specs.Value.{Val}
-use Rattle.gql_ast.specs.declared.place.FilePlace.{FilePlace}
+use Rattle.plan_ir.specs.gql_ast.Sels as sels
+use Rattle.plan_ir.specs.gql_ast.Sels.{Sels}
+use Rattle.plan_ir.specs.gql_ast.Ty.{Ty}
+use Rattle.plan_ir.specs.gql_ast.Value.{Val}
+use Rattle.plan_ir.specs.gql_ast.declared.place.FilePlace.{FilePlace}
 use Rattle.plan_ir.specs.Additions.{additions, bare_field, connection_additions, edges_field, has_bare, id_additions, id_field, ids_on, is_abstract, leaf_on, node_field, or_typename, page_info_field, record_additions, type_on, typename_additions, typename_field}
 use Rattle.plan_ir.specs.Nodes.{Nodes, end, field, inline, nodes_append, set_depth}
 use Rattle.plan_ir.specs.Sizes.{all_count, all_depth, nodes_count, nodes_value_depth}
-use Rattle.schema_tables.specs.Types.{Text, Defs, base_of, has_id, possible}
-use Rattle.schema_types.specs.Sites.{is_set}
+use Rattle.plan_ir.specs.schema_tables.Types.{Text, Defs, base_of, has_id, possible}
+use Rattle.plan_ir.specs.schema_types.Sites.{is_set}
 use Rattle.plan_expand.proofs.AdditionSteps.{ids_on_is}
 use Rattle.plan_expand.specs.Adding.{identified_types, ids_of_each}
 use Rattle.plan_expand.specs.AdditionSizes.{additions_size, connection_size, edges_size, field_size, size_or_typename, id_size, ids_size, node_size, page_info_size, record_size, typename_size}

@@ -2,13 +2,13 @@
 use Rattle.std.proofs.Common.{◌≡◌, ℕ, zero, suc, ◌+◌, ◌-◌, ◌<◌, ◌≤◌, List, [], ◌∷◌, ◌++◌, drop, length, get_or, nat_le, true, Option, Some, None, refl, ap, sym, ◌∙◌, arith}
 use Rattle.std.proofs.lemmas.Bool.{leb-true, le-leb}
 use Rattle.std.proofs.lemmas.List.{drop_all, drop_more}
-use Rattle.gql_ast.specs.SelectionView.{sel_before, sel_of, sels_of}
-use Rattle.gql_ast.specs.Sels as sels
-use Rattle.gql_ast.specs.Sels.{Sels}
-use Rattle.gql_ast.specs.declared.directive.Directive.{Directive}
-use Rattle.gql_ast.specs.declared.selection.Selection.{Selection}
-use Rattle.gql_ast.specs.declared.selection.Selection.TheVariants as S
-use Rattle.schema_tables.specs.Types.{Text, Defs}
+use Rattle.plan_ir.specs.gql_ast.SelectionView.{sel_before, sel_of, sels_of}
+use Rattle.plan_ir.specs.gql_ast.Sels as sels
+use Rattle.plan_ir.specs.gql_ast.Sels.{Sels}
+use Rattle.plan_ir.specs.gql_ast.declared.directive.Directive.{Directive}
+use Rattle.plan_ir.specs.gql_ast.declared.selection.Selection.{Selection}
+use Rattle.plan_ir.specs.gql_ast.declared.selection.Selection.TheVariants as S
+use Rattle.plan_ir.specs.schema_tables.Types.{Text, Defs}
 use Rattle.plan_expand.proofs.ExtentLaws.{both_assoc, both_last, both_none, both_swap, none_both}
 use Rattle.plan_expand.specs.Extents.{both, no_extent}
 use Rattle.plan_expand.specs.Making.{Find, Ready}

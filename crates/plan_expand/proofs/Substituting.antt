@@ -1,9 +1,9 @@
 -- Lists and objects with their local variables replaced, item by item.
 use Rattle.std.proofs.Common.{◌≡◌, List, [], ◌∷◌, map, Option, Some, None, refl, ap}
-use Rattle.gql_ast.specs.Value.{Val, val, member, members_of, vals_of}
-use Rattle.relay_dirs.specs.Connections.{value_of_name}
+use Rattle.plan_ir.specs.gql_ast.Value.{Val, val, member, members_of, vals_of}
+use Rattle.plan_ir.specs.relay_dirs.Connections.{value_of_name}
 use Rattle.plan_ir.specs.Substitution.{Arguments, Scope, substitute, substitute_in, substitute_items, substitute_members, value_of_local, value_or}
-use Rattle.schema_tables.specs.Types.{Text}
+use Rattle.plan_ir.specs.schema_tables.Types.{Text}
 use Rattle.plan_expand.specs.ScopeView.{gift_or}
 
 pub substitute_items-vals_of : (scope : Scope) (vs : List Val) → substitute_items scope (vals_of vs) ≡ vals_of (map (substitute scope) vs)

@@ -2,30 +2,30 @@
 use Rattle.std.proofs.Common.{◌≡◌, ℕ, ◌+◌, ◌<◌, ◌≤◌, Bool, true, false, true≢false, cond, List, [], ◌∷◌, ◌++◌, map, drop, length, get_or, Option, Some, None, option_map, is_some, bytes_eq, refl, ap, sym, ◌∙◌}
 use Rattle.std.proofs.lemmas.List.{drop_all, drop_more, map-append}
 use Rattle.std.specs.Option.{option_or}
-use Rattle.gql_ast.specs.Value.{Val}
-use Rattle.gql_ast.specs.ValueView.{argument_of}
-use Rattle.gql_ast.specs.declared.directive.Directive.{Directive}
-use Rattle.gql_ast.specs.declared.value.Argument.{Argument}
-use Rattle.gql_graph.specs.Rules.{each}
-use Rattle.gql_graph.proofs.TextSteps.{same_text}
-use Rattle.doc_sites.specs.SitesView.{argument_of as located_argument, definition_of, directive_of}
-use Rattle.doc_sites.specs.declared.site.ArgumentAt as kept
-use Rattle.doc_sites.specs.declared.site.DirectiveAt.{DirectiveAt}
-use Rattle.relay_dirs.specs.Connections.{value_of_name}
-use Rattle.relay_dirs.specs.Locals.{Local, LocalObject, as_list, local_at, local_of, locals_at, locals_of, object_by, of_said, of_text, with_type_text}
-use Rattle.relay_dirs.specs.TypeTexts.{type_in}
-use Rattle.gql_ast.specs.Ty.{Ty}
+use Rattle.plan_ir.specs.gql_ast.Value.{Val}
+use Rattle.plan_ir.specs.gql_ast.ValueView.{argument_of}
+use Rattle.plan_ir.specs.gql_ast.declared.directive.Directive.{Directive}
+use Rattle.plan_ir.specs.gql_ast.declared.value.Argument.{Argument}
+use Rattle.plan_ir.specs.gql_graph.Rules.{each}
+use Rattle.plan_ir.proofs.gql_graph_laws.TextSteps.{same_text}
+use Rattle.plan_ir.specs.doc_sites.SitesView.{argument_of as located_argument, definition_of, directive_of}
+use Rattle.plan_ir.specs.doc_sites.declared.site.ArgumentAt as kept
+use Rattle.plan_ir.specs.doc_sites.declared.site.DirectiveAt.{DirectiveAt}
+use Rattle.plan_ir.specs.relay_dirs.Connections.{value_of_name}
+use Rattle.plan_ir.specs.relay_dirs.Locals.{Local, LocalObject, as_list, local_at, local_of, locals_at, locals_of, object_by, of_said, of_text, with_type_text}
+use Rattle.plan_ir.specs.relay_dirs.TypeTexts.{type_in}
+use Rattle.plan_ir.specs.gql_ast.Ty.{Ty}
 use Rattle.plan_ir.specs.Substitution.{Scope, arguments_at_spread, arguments_in, default_named, substitute, substitute_in}
 use Rattle.plan_expand.specs.LocalsView.{default_under}
 use Rattle.plan_expand.specs.ReadyView.{ready_fragment, ready_in}
 use Rattle.plan_expand.specs.SizesView.{size_named}
 use Rattle.plan_expand.specs.declared.size.Size.{Size}
-use Rattle.schema_types.specs.NameRules.{fragment_named, fragments, operations}
-use Rattle.schema_types.specs.Sites.{FragmentAt, OperationAt, DefinitionAt, operation, fragment}
-use Rattle.gql_ast.specs.declared.place.FilePlace.{FilePlace}
-use Rattle.doc_sites.specs.declared.site.DefinitionAt as Definition
-use Rattle.schema_tables.specs.Types.{Text, Defs}
-use Rattle.schema_trees.specs.Located.{Located}
+use Rattle.plan_ir.specs.schema_types.NameRules.{fragment_named, fragments, operations}
+use Rattle.plan_ir.specs.schema_types.Sites.{FragmentAt, OperationAt, DefinitionAt, operation, fragment}
+use Rattle.plan_ir.specs.gql_ast.declared.place.FilePlace.{FilePlace}
+use Rattle.plan_ir.specs.doc_sites.declared.site.DefinitionAt as Definition
+use Rattle.plan_ir.specs.schema_tables.Types.{Text, Defs}
+use Rattle.plan_ir.specs.schema_trees.Located.{Located}
 use Rattle.plan_ir.specs.Expansion.{is_named, operation_named}
 use Rattle.plan_expand.specs.OperationsView.{ready_operation, operation_in, operation_under}
 

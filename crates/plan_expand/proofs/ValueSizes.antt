@@ -2,17 +2,17 @@
 use Rattle.std.proofs.Common.{◌≡◌, ℕ, ◌+◌, Bool, true, false, cond, List, [], ◌∷◌, ◌++◌, map, Option, Some, None, option_map, bytes_eq, refl, ap, sym, ◌∙◌, arith}
 use Rattle.std.specs.Prelude.{max}
 use Rattle.std.specs.List.{filter}
-use Rattle.gql_ast.specs.Value.{Val, Vals, Members, variable, list, object, no_vals, val, no_members, member, members_depth, members_of, vals_depth}
-use Rattle.gql_ast.specs.Value as v
-use Rattle.gql_ast.specs.declared.directive.Directive.{Directive}
-use Rattle.gql_graph.specs.Rules.{each}
+use Rattle.plan_ir.specs.gql_ast.Value.{Val, Vals, Members, variable, list, object, no_vals, val, no_members, member, members_depth, members_of, vals_depth}
+use Rattle.plan_ir.specs.gql_ast.Value as v
+use Rattle.plan_ir.specs.gql_ast.declared.directive.Directive.{Directive}
+use Rattle.plan_ir.specs.gql_graph.Rules.{each}
 use Rattle.plan_ir.specs.Expansion.{directives_such}
-use Rattle.relay_dirs.specs.Connections.{value_of_name}
-use Rattle.relay_dirs.specs.Locals.{locals_of}
+use Rattle.plan_ir.specs.relay_dirs.Connections.{value_of_name}
+use Rattle.plan_ir.specs.relay_dirs.Locals.{locals_of}
 use Rattle.plan_ir.specs.Sizes.{all_count, all_depth, arguments_count, arguments_depth, directives_count, directives_depth, members_count, val_count, vals_count}
 use Rattle.plan_ir.specs.Substitution.{Scope, arguments_in, default_named, mark_local, operation_scope, scope_at_spread, scope_of_own, substitute, substitute_in, substitute_items, substitute_members, value_of_local, value_or}
-use Rattle.schema_tables.specs.Types.{Text}
-use Rattle.schema_types.specs.Sites.{FragmentAt}
+use Rattle.plan_ir.specs.schema_tables.Types.{Text}
+use Rattle.plan_ir.specs.schema_types.Sites.{FragmentAt}
 use Rattle.plan_expand.proofs.DirectiveSteps.{same_arguments, same_value}
 use Rattle.plan_expand.proofs.SizeLaws.{beside_assoc, nothing_beside}
 use Rattle.plan_expand.specs.Measuring.{Sizes, directives_size, gift_size_or, sizes_at_spread, values_size}

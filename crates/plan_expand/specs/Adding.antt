@@ -4,10 +4,10 @@ use Rattle.std.specs.Cmp.Lexicographic.{slice_cmp}
 use Rattle.std.specs.Ordering.{nat_cmp}
 use Rattle.std.specs.Prelude.{◌≡◌, List, [], ◌∷◌, Option, Some, option_map}
 use Rattle.std.specs.List.{filter}
-use Rattle.gql_ast.specs.declared.place.FilePlace.{FilePlace}
+use Rattle.plan_ir.specs.gql_ast.declared.place.FilePlace.{FilePlace}
 use Rattle.plan_ir.specs.Additions.{id_field}
 use Rattle.plan_ir.specs.Nodes.{Nodes, end, inline}
-use Rattle.schema_tables.specs.Types.{Text, Defs, has_id, possible}
+use Rattle.plan_ir.specs.schema_tables.Types.{Text, Defs, has_id, possible}
 use Rattle.plan_expand.specs.declared.additions.Adding.{Adding}
 
 -- those of the types that a type may be that have an id

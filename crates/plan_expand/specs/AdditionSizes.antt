@@ -1,10 +1,10 @@
 -- How large added nodes are.
 use Rattle.std.specs.Prelude.{ℕ, zero, suc, ◌+◌, Bool, not, ◌&&◌, cond, length, codes}
-use Rattle.gql_ast.specs.Sels as sels
-use Rattle.gql_ast.specs.Sels.{Sels}
+use Rattle.plan_ir.specs.gql_ast.Sels as sels
+use Rattle.plan_ir.specs.gql_ast.Sels.{Sels}
 use Rattle.plan_ir.specs.Additions.{has_bare, is_abstract, type_on}
-use Rattle.schema_tables.specs.Types.{Text, Defs, base_of, has_id}
-use Rattle.schema_types.specs.Sites.{is_set}
+use Rattle.plan_ir.specs.schema_tables.Types.{Text, Defs, base_of, has_id}
+use Rattle.plan_ir.specs.schema_types.Sites.{is_set}
 use Rattle.plan_expand.specs.Adding.{identified_types}
 use Rattle.plan_expand.specs.Sizes.{beside, nothing, within}
 use Rattle.plan_expand.specs.declared.size.Size.{Size}

@@ -1,14 +1,14 @@
 -- What expansion answers.
 use Rattle.std.specs.Prelude.{◌≡◌, Bool, false, List, Option, Some, None, option_map, Result}
-use Rattle.gql_ast.specs.declared.document.Document.{Document}
-use Rattle.gql_ast.specs.declared.place.Placed.{Placed}
+use Rattle.plan_ir.specs.gql_ast.declared.document.Document.{Document}
+use Rattle.plan_ir.specs.gql_ast.declared.place.Placed.{Placed}
 use Rattle.plan_ir.specs.Expansion.{Project, Whole, project_of, whole}
 use Rattle.plan_ir.specs.Sizes.{has_too_many_nodes, is_too_deep}
 use Rattle.plan_ir.specs.declared.expanded.Expanded.{Expanded}
 use Rattle.plan_ir.specs.declared.form.Form.{Form}
-use Rattle.schema_tables.specs.Types.{Text, Defs}
-use Rattle.schema_types.specs.DocumentRules.{places_of, trees_of}
-use Rattle.schema_types.specs.Sites.{DefinitionAt, all_definitions}
+use Rattle.plan_ir.specs.schema_tables.Types.{Text, Defs}
+use Rattle.plan_ir.specs.schema_types.DocumentRules.{places_of, trees_of}
+use Rattle.plan_ir.specs.schema_types.Sites.{DefinitionAt, all_definitions}
 use Rattle.plan_expand.specs.Places.{place_in}
 use Rattle.plan_expand.specs.Verdicts.{Outcome}
 use Rattle.plan_expand.specs.declared.fault.ExpandFault.{ExpandFault}

@@ -1,9 +1,9 @@
 -- What stands ready in the code is a project's.
 use Rattle.std.specs.Prelude.{◌≡◌, Some}
 use Rattle.plan_ir.specs.Expansion.{Project, selections_from}
-use Rattle.schema_types.specs.NameRules.{fragment_named}
-use Rattle.schema_types.specs.Sites.{FragmentAt, sites}
-use Rattle.schema_tables.specs.Types.{Text}
+use Rattle.plan_ir.specs.schema_types.NameRules.{fragment_named}
+use Rattle.plan_ir.specs.schema_types.Sites.{FragmentAt, sites}
+use Rattle.plan_ir.specs.schema_tables.Types.{Text}
 
 -- what stands in a fragment is listed with the numbers of its nodes
 abbrev pub IsListed : Project → FragmentAt → Type 0

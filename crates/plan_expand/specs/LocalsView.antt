@@ -3,11 +3,11 @@ use Rattle.std.specs.BTreeMap.{get_by}
 use Rattle.std.specs.Cmp.Lexicographic.{slice_cmp}
 use Rattle.std.specs.Ordering.{nat_cmp}
 use Rattle.std.specs.Prelude.{◌≡◌, cond, List, Option, Some, None, option_map, bytes_eq}
-use Rattle.gql_ast.specs.Value.{Val}
-use Rattle.gql_ast.specs.ValueView.{value_of}
-use Rattle.relay_dirs.specs.Locals.{Local}
+use Rattle.plan_ir.specs.gql_ast.Value.{Val}
+use Rattle.plan_ir.specs.gql_ast.ValueView.{value_of}
+use Rattle.plan_ir.specs.relay_dirs.Locals.{Local}
 use Rattle.plan_ir.specs.Substitution.{default_named}
-use Rattle.schema_tables.specs.Types.{Text}
+use Rattle.plan_ir.specs.schema_tables.Types.{Text}
 use Rattle.plan_expand.specs.declared.local.Local as kept
 use Rattle.plan_expand.specs.declared.locals.Locals.{Locals}
 use Rattle.plan_expand.specs.declared.size.Size.{Size}

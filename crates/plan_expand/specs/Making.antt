@@ -1,17 +1,17 @@
 -- Expansion as the code goes: with the place of each selection by its number in text order, and the fragments by their names.
 use Rattle.std.specs.Prelude.{ℕ, zero, suc, ◌+◌, List, Option, Some, None, get_or, is_some}
-use Rattle.gql_ast.specs.Sels as sels
-use Rattle.gql_ast.specs.Sels.{Sels}
-use Rattle.gql_ast.specs.Value.{Val}
-use Rattle.gql_ast.specs.declared.directive.Directive.{Directive}
-use Rattle.gql_ast.specs.declared.place.FilePlace.{FilePlace}
+use Rattle.plan_ir.specs.gql_ast.Sels as sels
+use Rattle.plan_ir.specs.gql_ast.Sels.{Sels}
+use Rattle.plan_ir.specs.gql_ast.Value.{Val}
+use Rattle.plan_ir.specs.gql_ast.declared.directive.Directive.{Directive}
+use Rattle.plan_ir.specs.gql_ast.declared.place.FilePlace.{FilePlace}
 use Rattle.plan_ir.specs.Additions.{additions, type_or}
 use Rattle.plan_ir.specs.Expansion.{response_key, printed_directives, printed_conditions}
 use Rattle.plan_ir.specs.Nodes.{Nodes, end, field, inline, nodes_append}
 use Rattle.plan_ir.specs.Substitution.{Scope, substitute_in, arguments_at_spread, value_of_local}
-use Rattle.schema_tables.specs.Types.{Text, Defs, base_of}
-use Rattle.schema_types.specs.Sites.{field_type, below, condition_or}
-use Rattle.relay_dirs.specs.Connections.{connection_among}
+use Rattle.plan_ir.specs.schema_tables.Types.{Text, Defs, base_of}
+use Rattle.plan_ir.specs.schema_types.Sites.{field_type, below, condition_or}
+use Rattle.plan_ir.specs.relay_dirs.Connections.{connection_among}
 use Rattle.plan_expand.specs.Places.{Places, first_place}
 
 -- a fragment, ready to be spread

@@ -1,16 +1,16 @@
 -- How large an expansion is, as the code finds it: with the sizes of values in place of values.
 use Rattle.std.specs.Prelude.{ℕ, zero, suc, ◌+◌, cond, Bool, List, [], ◌∷◌, Option, Some, None, option_map, is_some}
-use Rattle.gql_ast.specs.Sels as sels
-use Rattle.gql_ast.specs.Sels.{Sels}
-use Rattle.gql_ast.specs.Value.{Val}
-use Rattle.gql_ast.specs.declared.directive.Directive.{Directive}
-use Rattle.gql_graph.specs.Rules.{each}
+use Rattle.plan_ir.specs.gql_ast.Sels as sels
+use Rattle.plan_ir.specs.gql_ast.Sels.{Sels}
+use Rattle.plan_ir.specs.gql_ast.Value.{Val}
+use Rattle.plan_ir.specs.gql_ast.declared.directive.Directive.{Directive}
+use Rattle.plan_ir.specs.gql_graph.Rules.{each}
 use Rattle.plan_ir.specs.Additions.{type_or}
 use Rattle.plan_ir.specs.Expansion.{is_condition, is_printed}
-use Rattle.relay_dirs.specs.Connections.{connection_among, value_of_name}
+use Rattle.plan_ir.specs.relay_dirs.Connections.{connection_among, value_of_name}
 use Rattle.plan_ir.specs.Substitution.{arguments_in}
-use Rattle.schema_tables.specs.Types.{Text, Defs, base_of}
-use Rattle.schema_types.specs.Sites.{field_type, below, condition_or}
+use Rattle.plan_ir.specs.schema_tables.Types.{Text, Defs, base_of}
+use Rattle.plan_ir.specs.schema_types.Sites.{field_type, below, condition_or}
 use Rattle.plan_expand.specs.Extents.{both, no_extent, node_extent}
 use Rattle.plan_expand.specs.AdditionSizes.{additions_size}
 use Rattle.plan_expand.specs.Making.{Find, Ready}

@@ -3,16 +3,16 @@ use Rattle.std.specs.BTreeMap.{get_by}
 use Rattle.std.specs.Cmp.Lexicographic.{slice_cmp}
 use Rattle.std.specs.Ordering.{nat_cmp}
 use Rattle.std.specs.Prelude.{◌≡◌, ℕ, cond, List, Option, Some, None, option_copied, option_map, bytes_eq}
-use Rattle.gql_ast.specs.Sels.{Sels}
-use Rattle.gql_ast.specs.declared.directive.Directive.{Directive}
-use Rattle.gql_ast.specs.declared.document.Kind.{Kind}
-use Rattle.gql_ast.specs.declared.place.FilePlace.{FilePlace}
-use Rattle.gql_ast.specs.declared.variable.VariableDef.{VariableDef}
+use Rattle.plan_ir.specs.gql_ast.Sels.{Sels}
+use Rattle.plan_ir.specs.gql_ast.declared.directive.Directive.{Directive}
+use Rattle.plan_ir.specs.gql_ast.declared.document.Kind.{Kind}
+use Rattle.plan_ir.specs.gql_ast.declared.place.FilePlace.{FilePlace}
+use Rattle.plan_ir.specs.gql_ast.declared.variable.VariableDef.{VariableDef}
 use Rattle.plan_ir.specs.Expansion.{directive_trees, operation_named, printed_directives, variable_trees}
 use Rattle.plan_ir.specs.Substitution.{operation_scope}
-use Rattle.schema_tables.specs.Types.{Text, Defs, root}
-use Rattle.schema_trees.specs.Located.{Located}
-use Rattle.schema_types.specs.Sites.{OperationAt, DefinitionAt, operation, fragment}
+use Rattle.plan_ir.specs.schema_tables.Types.{Text, Defs, root}
+use Rattle.plan_ir.specs.schema_trees.Located.{Located}
+use Rattle.plan_ir.specs.schema_types.Sites.{OperationAt, DefinitionAt, operation, fragment}
 use Rattle.plan_expand.specs.Places.{Places, site_places_in}
 use Rattle.plan_expand.specs.Measuring.{values_size}
 use Rattle.plan_expand.specs.Sizes.{own_sizes}

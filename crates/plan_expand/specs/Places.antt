@@ -1,8 +1,8 @@
 -- The places of the selections of a definition, as they stand ready.
 use Rattle.std.specs.Prelude.{ℕ, ◌-◌, List, map, get_or, Option, Some, None}
-use Rattle.gql_ast.specs.declared.place.FilePlace.{FilePlace}
-use Rattle.schema_trees.specs.Located.{Located}
-use Rattle.schema_types.specs.Sites.{Site, field, spread, inline}
+use Rattle.plan_ir.specs.gql_ast.declared.place.FilePlace.{FilePlace}
+use Rattle.plan_ir.specs.schema_trees.Located.{Located}
+use Rattle.plan_ir.specs.schema_types.Sites.{Site, field, spread, inline}
 
 abbrev pub Places : Type 0
 Places = List FilePlace

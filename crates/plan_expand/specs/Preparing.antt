@@ -4,8 +4,8 @@ use Rattle.plan_ir.specs.Expansion.{name_or}
 use Rattle.plan_ir.specs.Nodes.{Nodes}
 use Rattle.plan_ir.specs.Substitution.{Scope, mark_local, operation_scope}
 use Rattle.plan_ir.specs.declared.expanded.Expanded.{Expanded}
-use Rattle.schema_tables.specs.Types.{Text}
-use Rattle.schema_types.specs.NameRules.{fragments, operations}
+use Rattle.plan_ir.specs.schema_tables.Types.{Text}
+use Rattle.plan_ir.specs.schema_types.NameRules.{fragments, operations}
 use Rattle.plan_expand.specs.Adding.{IsRight}
 use Rattle.plan_expand.specs.Answers.{definitions_in}
 use Rattle.plan_expand.specs.Extents.{both, values_extent}
@@ -20,8 +20,8 @@ use Rattle.plan_expand.specs.declared.expander.Expander.{Expander}
 use Rattle.plan_expand.specs.declared.extent.Extent.{Extent}
 use Rattle.plan_expand.specs.declared.fault.ExpandFault.{ExpandFault}
 use Rattle.plan_expand.specs.declared.size.Size.{Size}
-use Rattle.gql_ast.specs.Sels.{Sels}
-use Rattle.schema_types.specs.DocumentRules.{places_of}
+use Rattle.plan_ir.specs.gql_ast.Sels.{Sels}
+use Rattle.plan_ir.specs.schema_types.DocumentRules.{places_of}
 
 -- what stands ready is that of the schema and the documents
 pub record IsReady (e : Expander) : Type 0 where

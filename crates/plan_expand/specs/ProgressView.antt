@@ -1,6 +1,6 @@
 -- What is measured, with the spreads that are still to be followed.
 use Rattle.std.specs.Prelude.{ℕ, ◌+◌, List, [], ◌∷◌, Some}
-use Rattle.schema_tables.specs.Types.{Defs}
+use Rattle.plan_ir.specs.schema_tables.Types.{Defs}
 use Rattle.plan_expand.specs.Extents.{both, no_extent}
 use Rattle.plan_expand.specs.Making.{Find}
 use Rattle.plan_expand.specs.Measuring.{total, steps}

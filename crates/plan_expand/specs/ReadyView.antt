@@ -3,12 +3,12 @@ use Rattle.std.specs.BTreeMap.{get_by}
 use Rattle.std.specs.Cmp.Lexicographic.{slice_cmp}
 use Rattle.std.specs.Ordering.{nat_cmp}
 use Rattle.std.specs.Prelude.{◌≡◌, ℕ, cond, List, Option, Some, None, option_map, bytes_eq}
-use Rattle.gql_ast.specs.declared.place.FilePlace.{FilePlace}
-use Rattle.relay_dirs.specs.Locals.{locals_of}
+use Rattle.plan_ir.specs.gql_ast.declared.place.FilePlace.{FilePlace}
+use Rattle.plan_ir.specs.relay_dirs.Locals.{locals_of}
 use Rattle.plan_ir.specs.Substitution.{default_named}
-use Rattle.schema_tables.specs.Types.{Text}
-use Rattle.schema_types.specs.NameRules.{fragment_named}
-use Rattle.schema_types.specs.Sites.{FragmentAt, DefinitionAt, operation, fragment}
+use Rattle.plan_ir.specs.schema_tables.Types.{Text}
+use Rattle.plan_ir.specs.schema_types.NameRules.{fragment_named}
+use Rattle.plan_ir.specs.schema_types.Sites.{FragmentAt, DefinitionAt, operation, fragment}
 use Rattle.plan_expand.specs.Places.{site_places_in}
 use Rattle.plan_expand.specs.LocalsView.{find_default}
 use Rattle.plan_expand.specs.Making.{Ready, Find}

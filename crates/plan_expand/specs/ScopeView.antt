@@ -3,10 +3,10 @@ use Rattle.std.specs.BTreeMap.{get_by}
 use Rattle.std.specs.Cmp.Lexicographic.{slice_cmp}
 use Rattle.std.specs.Ordering.{nat_cmp}
 use Rattle.std.specs.Prelude.{Option, Some, None, option_map}
-use Rattle.gql_ast.specs.Value.{Val, variable}
-use Rattle.gql_ast.specs.ValueView.{value_of}
+use Rattle.plan_ir.specs.gql_ast.Value.{Val, variable}
+use Rattle.plan_ir.specs.gql_ast.ValueView.{value_of}
 use Rattle.plan_ir.specs.Substitution.{Scope, mark_local, value_or}
-use Rattle.schema_tables.specs.Types.{Text}
+use Rattle.plan_ir.specs.schema_tables.Types.{Text}
 use Rattle.plan_expand.specs.LocalsView.{find_default}
 use Rattle.plan_expand.specs.declared.scope.Scope as kept
 use Rattle.plan_expand.specs.declared.scope.Scope.TheVariants as S

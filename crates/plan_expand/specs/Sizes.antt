@@ -1,9 +1,9 @@
 -- How large values are: how many nodes they have, and how many lists and objects stand in one another.
 use Rattle.std.specs.Prelude.{◌+◌, max, List, Option, None}
-use Rattle.gql_ast.specs.Value.{Val, Vals, Members, variable, list, object, no_vals, val, no_members, member, members_of, val_depth}
+use Rattle.plan_ir.specs.gql_ast.Value.{Val, Vals, Members, variable, list, object, no_vals, val, no_members, member, members_of, val_depth}
 use Rattle.plan_ir.specs.Sizes.{val_count}
 use Rattle.plan_ir.specs.Substitution.{value_or}
-use Rattle.schema_tables.specs.Types.{Text}
+use Rattle.plan_ir.specs.schema_tables.Types.{Text}
 use Rattle.plan_expand.specs.declared.size.Size.{Size}
 
 abbrev pub nothing : Size

@@ -1,16 +1,14 @@
 //! How large that is what is added at the end of the selection set of a field.
 ghost use Rattle.std.specs.Prelude.{◌≡◌, ◌+◌, ◌∷◌, [], true, length, IfOk};
 ghost use Rattle.std.specs.List.{filter};
-ghost use Rattle.schema_tables.specs.Types as types;
-ghost use Rattle.schema_types.specs.Sites.{is_set};
+ghost use Rattle.plan_ir.specs.schema_tables.Types as types;
+ghost use Rattle.plan_ir.specs.schema_types.Sites.{is_set};
 ghost use Rattle.plan_expand.specs.Adding.{IsRight, identified_types};
 ghost use Rattle.plan_expand.specs.AdditionSizes as spec;
 
 use crate::additions::{Adding, base_on, has_bare, is_abstract};
 use crate::size::{Size, sum};
-use gql_ast::Selections;
-use gql_plain::NoMemory;
-use schema_types::Schema;
+use plan_ir::{NoMemory, Schema, Selections};
 use std::alloc::Global;
 
 /// A field that has no set.

@@ -1,20 +1,20 @@
 //! What is added at the end of the selection set of a field.
 ghost use Rattle.std.specs.Prelude.{◌≡◌, ◌∷◌, ◌++◌, [], true, None, option_copied, option_map, IfOk, OnOk};
 ghost use Rattle.std.specs.List.{filter};
-ghost use Rattle.gql_ast.specs.SelectionView.{sel_of};
-ghost use Rattle.gql_ast.specs.Ty as ty;
-ghost use Rattle.gql_ast.specs.TypeView.{ty_of};
-ghost use Rattle.schema_tables.specs.Types as types;
-ghost use Rattle.schema_types.specs.Sites.{field_type, typename_on};
+ghost use Rattle.plan_ir.specs.gql_ast.SelectionView.{sel_of};
+ghost use Rattle.plan_ir.specs.gql_ast.Ty as ty;
+ghost use Rattle.plan_ir.specs.gql_ast.TypeView.{ty_of};
+ghost use Rattle.plan_ir.specs.schema_tables.Types as types;
+ghost use Rattle.plan_ir.specs.schema_types.Sites.{field_type, typename_on};
 ghost use Rattle.plan_ir.specs.Additions as spec;
 ghost use Rattle.plan_ir.specs.Nodes.{nodes_append};
 ghost use Rattle.plan_expand.specs.Adding.{IsRight, find_identified, identified_types, ids_of_each};
 
-use doc_sites::around::below_on;
-use gql_ast::{Arguments, Directives, FilePlace, Selection, Selections, TypeBox, TypeTree};
-use gql_plain::{Name, NoMemory, Words};
-use plan_ir::{Node, Nodes};
-use schema_types::{Schema, TypeKind};
+use plan_ir::around::below_on;
+use plan_ir::{
+    Arguments, Directives, FilePlace, Name, NoMemory, Node, Nodes, Schema, Selection, Selections,
+    TypeBox, TypeKind, TypeTree, Words,
+};
 use std::alloc::Global;
 use std::collections::BTreeMap;
 

@@ -1,8 +1,8 @@
 //! The type around the selections of an inline fragment.
 ghost use Rattle.std.specs.Prelude.{◌≡◌, option_copied};
-ghost use Rattle.schema_types.specs.Sites as sites;
+ghost use Rattle.plan_ir.specs.schema_types.Sites as sites;
 
-use gql_plain::Name;
+use plan_ir::Name;
 
 /// The type around the selections of an inline fragment (GraphQL, October 2021, section 2.8.2).
 pub(crate) fn condition_or<'a>(around: Option<&'a str>, on: &'a Option<Name>) -> Option<&'a str>

@@ -14,8 +14,7 @@ use crate::fragments::Fragments;
 use crate::measure::{Measure, Progress, measure_pending, measure_set};
 use crate::size::Size;
 use crate::sizes::SizeScope;
-use gql_ast::Selections;
-use gql_plain::NoMemory;
+use plan_ir::{NoMemory, Selections};
 use std::alloc::Global;
 
 /// Refuses what has more than 100,000 nodes, or else nests deeper than 60.

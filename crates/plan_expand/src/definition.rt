@@ -4,11 +4,7 @@ ghost use Rattle.plan_expand.specs.Answers.{IsAnswer, whole_in};
 
 use crate::expander::Expander;
 use crate::fault::ExpandFault;
-use doc_sites::definitions_at;
-use gql_ast::Documents;
-use gql_plain::Name;
-use plan_ir::{Expanded, Form};
-use schema_types::Schema;
+use plan_ir::{Documents, Expanded, Form, Name, Schema, definitions_at};
 use std::alloc::Global;
 
 /// The operation or fragment of that name, with all spreads followed (this project's own). Whoever

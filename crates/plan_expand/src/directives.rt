@@ -1,16 +1,16 @@
 //! Which directives are printed.
 ghost use Rattle.std.specs.Prelude.{◌≡◌, ◌∷◌, ◌++◌, [], map, IfOk, OnOk};
-ghost use Rattle.gql_plain.specs.Order.{has_text};
-ghost use Rattle.doc_sites.specs.SitesView.{argument_of, directive_of};
+ghost use Rattle.plan_ir.specs.gql_plain.Order.{has_text};
+ghost use Rattle.plan_ir.specs.doc_sites.SitesView.{argument_of, directive_of};
 ghost use Rattle.plan_ir.specs.Expansion as spec;
 ghost use Rattle.plan_ir.specs.Substitution.{operation_scope};
 ghost use Rattle.plan_expand.specs.Printing.{shows};
 ghost use Rattle.plan_expand.specs.ScopeView.{scope_of};
 
 use crate::scope::{Scope, substitute_in};
-use doc_sites::{ArgumentAt, DirectiveAt};
-use gql_ast::{Argument, Arguments, Directive, Directives};
-use gql_plain::{NoMemory, Words};
+use plan_ir::{
+    Argument, ArgumentAt, Arguments, Directive, DirectiveAt, Directives, NoMemory, Words,
+};
 use std::alloc::Global;
 
 /// Whether it is the name of a directive after Relay.

@@ -1,6 +1,6 @@
 //! The operations and fragments of a project, ready to be expanded.
 ghost use Rattle.std.specs.Prelude.{◌≡◌, true, is_some, option_copied, IfOk, OnOk};
-ghost use Rattle.doc_sites.specs.Definitions.{AreIn};
+ghost use Rattle.plan_ir.specs.doc_sites.Definitions.{AreIn};
 ghost use Rattle.plan_ir.specs.Expansion.{name_or};
 ghost use Rattle.plan_ir.specs.declared.form.Form.TheVariants as form_of;
 ghost use Rattle.plan_expand.specs.Adding.{IsRight};
@@ -21,12 +21,11 @@ use crate::operations::{Operations, ReadyOperation};
 use crate::places::places_of;
 use crate::scope::Scope;
 use crate::size::Size;
-use doc_sites::around::below;
-use doc_sites::{DefinitionAt, DirectiveAt, Site, count_fragments};
-use gql_ast::{Directives, Documents, FilePlace, Selections, VariableDefs};
-use gql_plain::{Name, NoMemory, Words};
-use plan_ir::{Expanded, Form, Nodes};
-use schema_types::Schema;
+use plan_ir::around::below;
+use plan_ir::{
+    DefinitionAt, DirectiveAt, Directives, Documents, Expanded, FilePlace, Form, Name, NoMemory,
+    Nodes, Schema, Selections, Site, VariableDefs, Words, count_fragments,
+};
 use std::alloc::Global;
 
 /// What stands ready to expand the operations and fragments of a project. It is made once a

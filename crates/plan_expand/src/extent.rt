@@ -3,7 +3,7 @@ ghost use Rattle.std.specs.Prelude.{◌≡◌, ◌||◌, nat_le, IfOk, OnOk};
 ghost use Rattle.plan_expand.specs.Extents as spec;
 
 use crate::size::{Size, sum};
-use gql_plain::NoMemory;
+use plan_ir::NoMemory;
 
 /// How many nodes there may be.
 const MOST_NODES: usize = 100_000;

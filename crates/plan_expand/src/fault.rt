@@ -1,5 +1,5 @@
 //! Why an operation or a fragment is not expanded.
-use gql_plain::NoMemory;
+use plan_ir::NoMemory;
 use std::alloc::{AllocError, AllocFailed};
 use thiserror::Error;
 

@@ -1,17 +1,15 @@
 //! The fragments of a project, ready to be spread.
 ghost use Rattle.std.specs.Prelude.{◌≡◌, None, map, option_map, IfOk, OnOk};
 ghost use Rattle.std.specs.Option.{option_or};
-ghost use Rattle.gql_graph.specs.Texts.{Text};
+ghost use Rattle.plan_ir.specs.gql_graph.Texts.{Text};
 ghost use Rattle.plan_expand.specs.Places.{place_in};
-ghost use Rattle.doc_sites.specs.SitesView.{definition_of, fragment_of};
+ghost use Rattle.plan_ir.specs.doc_sites.SitesView.{definition_of, fragment_of};
 ghost use Rattle.plan_expand.specs.ReadyView.{HasFragments, find_in, ready_fragment, ready_in, ready_named, ready_of};
-ghost use Rattle.schema_types.specs.NameRules as rules;
+ghost use Rattle.plan_ir.specs.schema_types.NameRules as rules;
 
 use crate::locals::Locals;
 use crate::places::site_places;
-use doc_sites::{DefinitionAt, FragmentAt};
-use gql_ast::{FilePlace, Selections};
-use gql_plain::NoMemory;
+use plan_ir::{DefinitionAt, FilePlace, FragmentAt, NoMemory, Selections};
 use std::alloc::Global;
 use std::collections::BTreeMap;
 

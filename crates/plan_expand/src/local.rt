@@ -1,10 +1,10 @@
 //! A local variable, with the size of its default.
 ghost use Rattle.std.specs.Prelude.{◌≡◌, option_map};
-ghost use Rattle.gql_ast.specs.ValueView.{value_of};
+ghost use Rattle.plan_ir.specs.gql_ast.ValueView.{value_of};
 ghost use Rattle.plan_expand.specs.Sizes.{default_size};
 
 use crate::size::Size;
-use gql_ast::ValueTree;
+use plan_ir::ValueTree;
 
 /// A local variable: its default, where it has one.
 #[derive(Drop)]

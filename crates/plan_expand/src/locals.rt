@@ -1,11 +1,11 @@
 //! The local variables of fragments: the arguments of `@argumentDefinitions`, after Relay.
 ghost use Rattle.std.specs.Prelude.{◌≡◌, None, map, option_map, IfOk, OnOk};
 ghost use Rattle.std.specs.Option.{option_or};
-ghost use Rattle.gql_ast.specs.ValueView.{value_of};
-ghost use Rattle.gql_graph.specs.Rules.{each};
-ghost use Rattle.gql_graph.specs.Texts.{Text};
-ghost use Rattle.doc_sites.specs.SitesView.{argument_of, directive_of};
-ghost use Rattle.relay_dirs.specs.Locals as spec;
+ghost use Rattle.plan_ir.specs.gql_ast.ValueView.{value_of};
+ghost use Rattle.plan_ir.specs.gql_graph.Rules.{each};
+ghost use Rattle.plan_ir.specs.gql_graph.Texts.{Text};
+ghost use Rattle.plan_ir.specs.doc_sites.SitesView.{argument_of, directive_of};
+ghost use Rattle.plan_ir.specs.relay_dirs.Locals as spec;
 ghost use Rattle.plan_ir.specs.Substitution.{default_named};
 ghost use Rattle.plan_expand.specs.LocalsView.{Keeps, default_under, find_default, find_local};
 ghost use Rattle.plan_expand.specs.Sizes.{default_size};
@@ -14,10 +14,7 @@ use crate::local::Local;
 use crate::size::Size;
 use crate::sizes::SizeScope;
 use crate::values::size_of;
-use doc_sites::{ArgumentAt, DirectiveAt};
-use gql_ast::ValueTree;
-use gql_plain::NoMemory;
-use relay_dirs::local_of;
+use plan_ir::{ArgumentAt, DirectiveAt, NoMemory, ValueTree, local_of};
 use std::alloc::Global;
 use std::collections::BTreeMap;
 

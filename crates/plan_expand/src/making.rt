@@ -1,11 +1,11 @@
 //! The nodes of operations and fragments, all spreads followed.
 ghost use Rattle.std.specs.Prelude.{◌≡◌, ◌<◌, ◌+◌, ◌-◌, get_or, option_copied, IfOk, OnOk};
-ghost use Rattle.gql_ast.specs.Sels as sels;
-ghost use Rattle.gql_ast.specs.SelectionView.{sel_of};
+ghost use Rattle.plan_ir.specs.gql_ast.Sels as sels;
+ghost use Rattle.plan_ir.specs.gql_ast.SelectionView.{sel_of};
 ghost use Rattle.plan_ir.specs.Expansion.{response_key};
 ghost use Rattle.plan_ir.specs.Nodes.{end, nodes_append};
 ghost use Rattle.plan_ir.specs.NodesView.{node_of};
-ghost use Rattle.schema_types.specs.Sites as sites;
+ghost use Rattle.plan_ir.specs.schema_types.Sites as sites;
 ghost use Rattle.plan_expand.specs.Adding.{IsRight};
 ghost use Rattle.plan_expand.specs.Making as spec;
 ghost use Rattle.plan_expand.specs.Places.{first_place};
@@ -19,13 +19,13 @@ use crate::directives::print_directives;
 use crate::fragments::{Fragments, ReadyFragment};
 use crate::places::place_at;
 use crate::scope::{Scope, scope_at_spread, substitute_in};
-use doc_sites::around::below;
-use gql_ast::{Arguments, Directives, FilePlace, Selection, Selections};
-use gql_plain::{Name, NoMemory, Words};
-use plan_ir::{Node, Nodes};
-use relay_dirs::connection_among;
-use schema_tables::type_forms::base_of;
-use schema_trees::located::pass;
+use plan_ir::around::below;
+use plan_ir::located::pass;
+use plan_ir::type_forms::base_of;
+use plan_ir::{
+    Arguments, Directives, FilePlace, Name, NoMemory, Node, Nodes, Selection, Selections, Words,
+    connection_among,
+};
 use std::alloc::Global;
 
 /// What a walk over the selections of an operation or a fragment looks at.

@@ -3,9 +3,9 @@
 //! The spreads that are still to be followed wait in a list. So no call stands in another one
 //! however deep spreads nest.
 ghost use Rattle.std.specs.Prelude.{◌≡◌, ◌+◌, ◌-◌, ◌<◌, Some, is_some, option_copied, IfOk, OnOk};
-ghost use Rattle.gql_ast.specs.SelectionView.{sel_of};
-ghost use Rattle.gql_graph.specs.Rules.{each};
-ghost use Rattle.relay_dirs.specs.Connections.{connection_among};
+ghost use Rattle.plan_ir.specs.gql_ast.SelectionView.{sel_of};
+ghost use Rattle.plan_ir.specs.gql_graph.Rules.{each};
+ghost use Rattle.plan_ir.specs.relay_dirs.Connections.{connection_among};
 ghost use Rattle.plan_ir.specs.Substitution.{arguments_in};
 ghost use Rattle.plan_expand.specs.Adding.{IsRight};
 ghost use Rattle.plan_expand.specs.Extents.{both};
@@ -16,7 +16,7 @@ ghost use Rattle.plan_expand.specs.ProgressView.{all_steps, pending_total, pendi
 ghost use Rattle.plan_expand.specs.ReadyView.{find_in, ready_of};
 ghost use Rattle.plan_expand.specs.Sizes.{arguments_size};
 ghost use Rattle.plan_expand.specs.SizesView.{sizes_of};
-ghost use Rattle.schema_types.specs.Sites as sites;
+ghost use Rattle.plan_ir.specs.schema_types.Sites as sites;
 
 use crate::addition_sizes::size_of_additions;
 use crate::additions::{Adding, base_of_field};
@@ -27,9 +27,8 @@ use crate::fragments::{Fragments, ReadyFragment};
 use crate::size::{Size, sum};
 use crate::sizes::SizeScope;
 use crate::values::size_of_arguments;
-use doc_sites::around::below;
-use gql_ast::{Arguments, Directive, Directives, Selection, Selections};
-use gql_plain::{Name, NoMemory};
+use plan_ir::around::below;
+use plan_ir::{Arguments, Directive, Directives, Name, NoMemory, Selection, Selections};
 use std::alloc::Global;
 
 /// A spread that is still to be followed.

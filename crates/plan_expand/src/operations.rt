@@ -1,25 +1,25 @@
 //! The operations of a project, ready to be expanded.
 ghost use Rattle.std.specs.Prelude.{◌≡◌, None, map, option_copied, option_map, IfOk, OnOk};
 ghost use Rattle.std.specs.Option.{option_or};
-ghost use Rattle.gql_graph.specs.Texts.{Text};
-ghost use Rattle.doc_sites.specs.SitesView.{definition_of, operation_of, variable_of};
+ghost use Rattle.plan_ir.specs.gql_graph.Texts.{Text};
+ghost use Rattle.plan_ir.specs.doc_sites.SitesView.{definition_of, operation_of, variable_of};
 ghost use Rattle.plan_ir.specs.Expansion.{variable_trees};
 ghost use Rattle.plan_expand.specs.Places.{place_in};
 ghost use Rattle.plan_expand.specs.Measuring.{values_size};
 ghost use Rattle.plan_expand.specs.Sizes.{arguments_size, own_sizes};
 ghost use Rattle.plan_expand.specs.OperationsView.{HasOperations, find_operation, ready_operation, operation_in, operation_view, ready_named};
-ghost use Rattle.schema_tables.specs.Types as types;
-ghost use Rattle.schema_types.specs.NameRules as rules;
+ghost use Rattle.plan_ir.specs.schema_tables.Types as types;
+ghost use Rattle.plan_ir.specs.schema_types.NameRules as rules;
 
 use crate::directives::print_own;
 use crate::places::site_places;
 use crate::size::Size;
 use crate::sizes::SizeScope;
 use crate::values::size_of_arguments;
-use doc_sites::{DefinitionAt, OperationAt, VariableAt};
-use gql_ast::{Arguments, Directives, FilePlace, Kind, Selections, VariableDefs};
-use gql_plain::NoMemory;
-use schema_types::Schema;
+use plan_ir::{
+    Arguments, DefinitionAt, Directives, FilePlace, Kind, NoMemory, OperationAt, Schema,
+    Selections, VariableAt, VariableDefs,
+};
 use std::alloc::Global;
 use std::collections::BTreeMap;
 

@@ -1,16 +1,17 @@
 //! What stands in the place of local variables.
 ghost use Rattle.std.specs.Prelude.{◌≡◌, ◌∷◌, [], Some, None, map, option_map, IfOk, OnOk};
 ghost use Rattle.std.specs.Option.{option_or};
-ghost use Rattle.gql_ast.specs.ValueView.{value_of};
-ghost use Rattle.gql_graph.specs.Texts.{Text};
-ghost use Rattle.relay_dirs.specs.Connections.{value_of_name};
+ghost use Rattle.plan_ir.specs.gql_ast.ValueView.{value_of};
+ghost use Rattle.plan_ir.specs.gql_graph.Texts.{Text};
+ghost use Rattle.plan_ir.specs.relay_dirs.Connections.{value_of_name};
 ghost use Rattle.plan_ir.specs.Substitution as spec;
 ghost use Rattle.plan_expand.specs.ScopeView.{find_gift, scope_of};
 ghost use Rattle.plan_expand.specs.LocalsView.{find_default};
 
 use crate::locals::Locals;
-use gql_ast::{Argument, Arguments, Directive, Directives, ValueTree, ValueTrees};
-use gql_plain::{Name, NoMemory, Words};
+use plan_ir::{
+    Argument, Arguments, Directive, Directives, Name, NoMemory, ValueTree, ValueTrees, Words,
+};
 use std::alloc::Global;
 use std::collections::BTreeMap;
 

@@ -2,7 +2,7 @@
 ghost use Rattle.std.specs.Prelude.{◌≡◌, ◌+◌, IfOk};
 ghost use Rattle.plan_expand.specs.Sizes as spec;
 
-use gql_plain::NoMemory;
+use plan_ir::NoMemory;
 
 /// How many nodes something has, and how many levels stand in one another.
 #[derive(Clone, Copy, Debug)]

@@ -1,9 +1,9 @@
 //! How large the values of local variables are.
 ghost use Rattle.std.specs.Prelude.{◌≡◌, Some, None, option_map, IfOk, OnOk};
 ghost use Rattle.std.specs.Option.{option_or};
-ghost use Rattle.gql_graph.specs.Rules.{each};
-ghost use Rattle.gql_graph.specs.Texts.{Text};
-ghost use Rattle.relay_dirs.specs.Connections.{value_of_name};
+ghost use Rattle.plan_ir.specs.gql_graph.Rules.{each};
+ghost use Rattle.plan_ir.specs.gql_graph.Texts.{Text};
+ghost use Rattle.plan_ir.specs.relay_dirs.Connections.{value_of_name};
 ghost use Rattle.plan_ir.specs.Substitution.{arguments_in};
 ghost use Rattle.plan_expand.specs.Sizes as spec;
 ghost use Rattle.plan_expand.specs.Measuring.{gift_size_or, sizes_at_spread};
@@ -13,8 +13,7 @@ ghost use Rattle.plan_expand.specs.LocalsView.{find_local_size};
 use crate::locals::Locals;
 use crate::size::Size;
 use crate::values::size_of;
-use gql_ast::{Arguments, Directive, Directives};
-use gql_plain::NoMemory;
+use plan_ir::{Arguments, Directive, Directives, NoMemory};
 use std::alloc::Global;
 use std::collections::BTreeMap;
 

@@ -1,14 +1,13 @@
 //! How large the values of arguments are.
 ghost use Rattle.std.specs.Prelude.{◌≡◌, IfOk};
-ghost use Rattle.gql_ast.specs.Value.{members_of, vals_of};
-ghost use Rattle.gql_ast.specs.ValueView.{value_of};
+ghost use Rattle.plan_ir.specs.gql_ast.Value.{members_of, vals_of};
+ghost use Rattle.plan_ir.specs.gql_ast.ValueView.{value_of};
 ghost use Rattle.plan_expand.specs.Sizes as spec;
 ghost use Rattle.plan_expand.specs.SizesView.{sizes_of};
 
 use crate::size::Size;
 use crate::sizes::SizeScope;
-use gql_ast::{Arguments, ValueTree, ValueTrees};
-use gql_plain::NoMemory;
+use plan_ir::{Arguments, NoMemory, ValueTree, ValueTrees};
 
 /// The size of a value with its local variables replaced.
 #[cycle(size)]

@@ -2,8 +2,8 @@
 use Rattle.std.proofs.Common.{◌≡◌, ℕ, zero, suc, ◌<◌, cond, List, [], ◌∷◌, ◌++◌, map, length, get_or, set, Option, Some, None, bytes_eq, refl, ap, sym, ◌∙◌, arith}
 use mathlib.Core.Logic.{inl, inr}
 use Rattle.std.proofs.lemmas.List.{append-nil, map-append}
-use Rattle.gql_plain.proofs.SortedTexts.{AreInOrder-sorted_texts}
-use Rattle.gql_plain.specs.Order.{sorted_texts, AreInOrder}
+use Rattle.plan_ir.proofs.gql_plain_laws.SortedTexts.{AreInOrder-sorted_texts}
+use Rattle.plan_ir.specs.gql_plain.Order.{sorted_texts, AreInOrder}
 use Rattle.plan_ir.specs.NormalMeaning.{Plan}
 use Rattle.plan_groups.specs.FieldView.{ask_at, asked_at, plan_at}
 use Rattle.plan_groups.specs.GroupView.{group_of}
@@ -13,9 +13,9 @@ use Rattle.plan_groups.specs.Made.{AreKept, IsMade, with_handle, with_part}
 use Rattle.plan_groups.specs.Putting.{place_of, put_at, with_other}
 use Rattle.plan_groups.specs.declared.field.FieldAt.{FieldAt}
 use Rattle.plan_groups.specs.declared.field.PlanAt.{PlanAt}
-use Rattle.schema_tables.specs.Types.{Text}
-use Rattle.store_model.specs.Items.{Ask, Asked, Group, asks, handle_of, key_of, members, parts, with_asked}
-use Rattle.store_model.specs.Says.{handles, some_text}
+use Rattle.plan_ir.specs.schema_tables.Types.{Text}
+use Rattle.plan_ir.specs.store_model.Items.{Ask, Asked, Group, asks, handle_of, key_of, members, parts, with_asked}
+use Rattle.plan_ir.specs.store_model.Says.{handles, some_text}
 
 -- ---- what stands below
 

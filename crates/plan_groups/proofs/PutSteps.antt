@@ -1,9 +1,9 @@
 -- A field is put behind those of its response key, or as a new group.
 use Rattle.std.proofs.Common.{◌≡◌, ℕ, zero, suc, ◌<◌, Bool, true, false, cond, List, [], ◌∷◌, ◌++◌, length, Option, Some, None, option_map, bytes_eq, refl, ap, sym, ◌∙◌, subst, arith}
-use Rattle.gql_graph.proofs.TextSteps.{same_text}
-use Rattle.schema_tables.proofs.Finding.{suc_of}
-use Rattle.store_model.specs.Items.{Asked, Group, Item, asked, pointed, asked_of, with_asked, grouped_onto}
-use Rattle.store_record.specs.Keys.{Text}
+use Rattle.plan_ir.proofs.gql_graph_laws.TextSteps.{same_text}
+use Rattle.plan_ir.proofs.schema_tables_laws.Finding.{suc_of}
+use Rattle.plan_ir.specs.store_model.Items.{Asked, Group, Item, asked, pointed, asked_of, with_asked, grouped_onto}
+use Rattle.plan_ir.specs.store_record.Keys.{Text}
 use Rattle.plan_groups.specs.Putting.{place_of, put_at, with_other}
 
 none_of : (o : Option ℕ) → option_map suc o ≡ None → o ≡ None

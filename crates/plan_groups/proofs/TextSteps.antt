@@ -4,8 +4,8 @@ use Rattle.std.specs.Cmp.Lexicographic.{slice_cmp, nat_list_cmp_total}
 use Rattle.std.specs.List.{AllByRecursion, insert}
 use Rattle.std.specs.List.Sorted.{IsStrictlySortedBy, IsNonDecreasingBy, IsBinarySearchResult}
 use Rattle.std.specs.Ordering.{match_ordering, ordering_reverse, ordering_index}
-use Rattle.gql_plain.proofs.SortedTexts.{AreInOrder-sorted_texts, AreInOrder-with_text, has_text-sorted_texts, has_text-with_text, same_texts}
-use Rattle.gql_plain.specs.Order.{AreInOrder, has_text, sorted_texts, with_text}
+use Rattle.plan_ir.proofs.gql_plain_laws.SortedTexts.{AreInOrder-sorted_texts, AreInOrder-with_text, has_text-sorted_texts, has_text-with_text, same_texts}
+use Rattle.plan_ir.specs.gql_plain.Order.{AreInOrder, has_text, sorted_texts, with_text}
 
 abbrev order : List ℕ → List ℕ → Ordering
 order = slice_cmp nat_cmp

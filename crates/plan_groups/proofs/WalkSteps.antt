@@ -12,9 +12,9 @@ use Rattle.plan_ir.specs.declared.normal.NormalStep.TheVariants as N
 use Rattle.plan_groups.proofs.PutSteps.{grouped_next}
 use Rattle.plan_groups.specs.FieldView.{plan_at}
 use Rattle.plan_groups.specs.declared.field.PlanAt.{PlanAt}
-use Rattle.schema_tables.specs.Types.{Text}
-use Rattle.schema_types.specs.Environments.{Values}
-use Rattle.store_model.specs.Items.{Group, Item, asked_of, collect_all, grouped_onto}
+use Rattle.plan_ir.specs.schema_tables.Types.{Text}
+use Rattle.plan_ir.specs.schema_types.Environments.{Values}
+use Rattle.plan_ir.specs.store_model.Items.{Group, Item, asked_of, collect_all, grouped_onto}
 
 -- ---- depths
 

@@ -2,13 +2,13 @@
 use Rattle.std.specs.Prelude.{◌≡◌, Bool, true, false, List, Option, ◌⊎◌, refl}
 use Rattle.std.specs.Coded.{Coded, code_by, coded×, coded⊎, coded_ℕ, coded_bool, coded_list, coded_option}
 use mathlib.Core.Logic.{inl, inr}
-use Rattle.gql_plain.specs.Codes.{coded_members}
+use Rattle.plan_ir.specs.gql_plain.Codes.{coded_members}
 use Rattle.plan_ir.specs.Normal.{Normal}
 use Rattle.plan_ir.specs.NormalCode.{coded_normal}
 use Rattle.plan_ir.specs.NormalMeaning.{Plan}
-use Rattle.schema_types.specs.Environments.{Values}
-use Rattle.store_model.specs.Items.{Ask, Asked, Below, Connection, Form, typename, leaf, one, many, Group}
-use Rattle.store_record.specs.Keys.{Text, Arguments}
+use Rattle.plan_ir.specs.schema_types.Environments.{Values}
+use Rattle.plan_ir.specs.store_model.Items.{Ask, Asked, Below, Connection, Form, typename, leaf, one, many, Group}
+use Rattle.plan_ir.specs.store_record.Keys.{Text, Arguments}
 
 abbrev pub coded_text : Coded Text
 coded_text = coded_list coded_ℕ

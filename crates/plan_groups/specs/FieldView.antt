@@ -8,10 +8,10 @@ use Rattle.plan_groups.specs.declared.field.FieldAt.{FieldAt}
 use Rattle.plan_groups.specs.declared.field.FormAt.{FormAt}
 use Rattle.plan_groups.specs.declared.field.FormAt.TheVariants as F
 use Rattle.plan_groups.specs.declared.field.PlanAt.{PlanAt}
-use Rattle.schema_tables.specs.Types.{Text}
-use Rattle.schema_types.specs.Environments.{Values, arguments_in_environment}
-use Rattle.store_model.specs.Items.{Ask, Asked, Below, Form, key_of, typename, leaf, one, many}
-use Rattle.store_record.specs.Keys.{Arguments}
+use Rattle.plan_ir.specs.schema_tables.Types.{Text}
+use Rattle.plan_ir.specs.schema_types.Environments.{Values, arguments_in_environment}
+use Rattle.plan_ir.specs.store_model.Items.{Ask, Asked, Below, Form, key_of, typename, leaf, one, many}
+use Rattle.plan_ir.specs.store_record.Keys.{Arguments}
 
 abbrev pub steps_or_done : Option Normal → Normal
 steps_or_done None = done

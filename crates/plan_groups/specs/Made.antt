@@ -1,10 +1,10 @@
 -- What is kept beside the fields of a group.
 use Rattle.std.specs.Prelude.{◌≡◌, ◌⊎◌, List, [], ◌∷◌, ◌++◌, Option, Some, None}
-use Rattle.gql_plain.specs.Order.{sorted_texts, with_text}
+use Rattle.plan_ir.specs.gql_plain.Order.{sorted_texts, with_text}
 use Rattle.plan_ir.specs.NormalMeaning.{Plan}
-use Rattle.store_model.specs.Items.{Group, asks, key_of, parts}
-use Rattle.store_model.specs.Says.{handles}
-use Rattle.store_record.specs.Keys.{Text}
+use Rattle.plan_ir.specs.store_model.Items.{Group, asks, key_of, parts}
+use Rattle.plan_ir.specs.store_model.Says.{handles}
+use Rattle.plan_ir.specs.store_record.Keys.{Text}
 
 -- what stands below the fields, where there are several, and else nothing
 abbrev pub AreKept : Group Plan → List Plan → Type 0

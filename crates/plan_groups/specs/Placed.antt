@@ -4,8 +4,8 @@ use Rattle.std.specs.HashMap.{get_by}
 use Rattle.plan_ir.specs.NormalMeaning.{Plan}
 use Rattle.plan_groups.specs.Putting.{place_of}
 use Rattle.plan_groups.specs.declared.gathered.Gathered.{Gathered}
-use Rattle.schema_tables.specs.Types.{Text}
-use Rattle.store_model.specs.Items.{Group}
+use Rattle.plan_ir.specs.schema_tables.Types.{Text}
+use Rattle.plan_ir.specs.store_model.Items.{Group}
 
 abbrev pub groups_in : Gathered → List (Group Plan)
 groups_in g = g.groups.items

@@ -1,8 +1,8 @@
 -- Where a field is put among groups.
 use Rattle.std.specs.Prelude.{ℕ, zero, suc, List, [], ◌∷◌, ◌++◌, Option, bytes_eq}
-use Rattle.schema_tables.specs.Places.{first_at}
-use Rattle.store_model.specs.Items.{Asked, Group}
-use Rattle.store_record.specs.Keys.{Text}
+use Rattle.plan_ir.specs.schema_tables.Places.{first_at}
+use Rattle.plan_ir.specs.store_model.Items.{Asked, Group}
+use Rattle.plan_ir.specs.store_record.Keys.{Text}
 
 -- the place of the group of a response key
 abbrev pub place_of : {F : Type 0} → List (Group F) → Text → Option ℕ

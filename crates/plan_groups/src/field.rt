@@ -2,19 +2,18 @@
 ghost use Rattle.std.specs.Prelude.{◌≡◌, None, option_copied, IfOk};
 ghost use Rattle.plan_ir.specs.Normal.{done};
 ghost use Rattle.plan_ir.specs.NormalMeaning.{ask_step, below_step, item_of, object_form, typename_ask};
-ghost use Rattle.store_model.specs.Items as items;
-ghost use Rattle.store_model.specs.Items.{asked};
-ghost use Rattle.store_model.specs.Reaches.{types_of};
-ghost use Rattle.store_model.specs.Says.{first_of};
+ghost use Rattle.plan_ir.specs.store_model.Items as items;
+ghost use Rattle.plan_ir.specs.store_model.Items.{asked};
+ghost use Rattle.plan_ir.specs.store_model.Reaches.{types_of};
+ghost use Rattle.plan_ir.specs.store_model.Says.{first_of};
 ghost use Rattle.plan_ir.specs.FieldKeys.{constant_key};
 ghost use Rattle.plan_groups.specs.FieldView.{ask_at, asked_at, form_at, plan_at, IsKept};
 
-use gql_ast::Arguments;
-use gql_plain::{Conn, Ids, Name, NoMemory, Pairs, SharedText, Words};
-use plan_ir::{NormalPlan, NormalSteps};
-use schema_values::{Env, evaluate_arguments};
+use plan_ir::{
+    Arguments, Conn, Env, Ids, Name, NoMemory, NormalPlan, NormalSteps, Pairs, SharedText, Words,
+    evaluate_arguments, field_key,
+};
 use std::alloc::Global;
-use store_record::field_key;
 
 /// Steps in the environment of their operation.
 #[derive(Clone, Copy)]

@@ -3,7 +3,7 @@ ghost use Rattle.std.specs.Prelude.{◌≡◌, ◌<◌, [], ◌∷◌, map, leng
 ghost use Rattle.plan_ir.specs.NormalMeaning.{collect_steps, collect_plan};
 ghost use Rattle.plan_ir.specs.NormalKeys.{keys_of};
 ghost use Rattle.plan_ir.specs.NormalView.{step_of};
-ghost use Rattle.store_model.specs.Items.{asked_of, grouped_onto, groups_at, with_asked};
+ghost use Rattle.plan_ir.specs.store_model.Items.{asked_of, grouped_onto, groups_at, with_asked};
 ghost use Rattle.plan_groups.specs.FieldView.{asked_at, plan_at, IsKept};
 ghost use Rattle.plan_groups.specs.Placed.{groups_in, IsPlaced};
 ghost use Rattle.plan_groups.specs.Putting.{put_at};
@@ -12,9 +12,7 @@ use crate::field::{Call, FieldAt, PlanAt, connection_in, form_of_objects};
 use crate::group::GroupAt;
 use crate::guards::guard_passes;
 use crate::room::total;
-use gql_plain::{NoMemory, SharedText};
-use plan_ir::{NormalStep, NormalSteps};
-use schema_values::Env;
+use plan_ir::{Env, NoMemory, NormalStep, NormalSteps, SharedText};
 use std::alloc::Global;
 use std::collections::HashMap;
 

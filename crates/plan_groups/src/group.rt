@@ -1,10 +1,10 @@
 //! Groups of fields: those of one response key.
 ghost use Rattle.std.specs.Prelude.{◌≡◌, ◌+◌, ◌≤◌, [], codes, map, option_copied, vec_capacity, vec_len, IfOk, OnErr, OnOk};
-ghost use Rattle.gql_plain.specs.Order.{sorted_texts, with_text, AreInOrder};
+ghost use Rattle.plan_ir.specs.gql_plain.Order.{sorted_texts, with_text, AreInOrder};
 ghost use Rattle.plan_ir.specs.NormalMeaning.{collect_plan};
-ghost use Rattle.store_model.specs.Items.{asks, handle_of, key_of, parts};
-ghost use Rattle.store_model.specs.Reaches.{types_of};
-ghost use Rattle.store_model.specs.Says as says;
+ghost use Rattle.plan_ir.specs.store_model.Items.{asks, handle_of, key_of, parts};
+ghost use Rattle.plan_ir.specs.store_model.Reaches.{types_of};
+ghost use Rattle.plan_ir.specs.store_model.Says as says;
 ghost use Rattle.plan_groups.specs.FieldView.{ask_at, asked_at, form_at, plan_at, IsKept};
 ghost use Rattle.plan_groups.specs.GroupView.{group_of};
 ghost use Rattle.plan_groups.specs.Made.{with_handle, with_part};
@@ -12,11 +12,10 @@ ghost use Rattle.plan_groups.specs.Putting.{with_other};
 
 use crate::field::{FieldAt, FormAt, PlanAt};
 use crate::groups::info_type;
-use gql_plain::{NoMemory, Pairs, Plain, SharedText, Words};
+use plan_ir::{NoMemory, Pairs, Plain, SharedText, Words, handle_key};
 use std::alloc::Global;
 use std::marker::Model;
 use std::slice;
-use store_record::handle_key;
 
 /// The fields of one response key.
 #[derive(Drop)]
@@ -34,7 +33,7 @@ pub struct GroupAt<'p> {
 impl<'p> Model for GroupAt<'p> {
     ghost use Rattle.std.specs.Prelude.{map};
     ghost use Rattle.plan_ir.specs.NormalMeaning.{Plan};
-    ghost use Rattle.store_model.specs.Items.{Group};
+    ghost use Rattle.plan_ir.specs.store_model.Items.{Group};
     ghost use Rattle.plan_groups.specs.Codes.{coded_group};
 
     ghost Value = { Group Plan };

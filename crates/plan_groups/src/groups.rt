@@ -1,14 +1,14 @@
 //! The groups that plans ask of an object.
 ghost use Rattle.std.specs.Prelude.{◌≡◌, map, option_copied, IfOk};
 ghost use Rattle.plan_ir.specs.NormalMeaning.{collect_plan};
-ghost use Rattle.store_model.specs.Items.{groups_at};
-ghost use Rattle.store_model.specs.Says.{info_in, info_of};
+ghost use Rattle.plan_ir.specs.store_model.Items.{groups_at};
+ghost use Rattle.plan_ir.specs.store_model.Says.{info_in, info_of};
 ghost use Rattle.plan_groups.specs.FieldView.{plan_at};
 
 use crate::field::PlanAt;
 use crate::gathered::gather;
 use crate::group::GroupAt;
-use gql_plain::NoMemory;
+use plan_ir::NoMemory;
 use std::alloc::Global;
 use std::marker::Model;
 
@@ -22,7 +22,7 @@ impl<'p> Model for Groups<'p> {
     ghost use Rattle.std.specs.Prelude.{List};
     ghost use Rattle.std.specs.Coded.{coded_list};
     ghost use Rattle.plan_ir.specs.NormalMeaning.{Plan};
-    ghost use Rattle.store_model.specs.Items.{Group};
+    ghost use Rattle.plan_ir.specs.store_model.Items.{Group};
     ghost use Rattle.plan_groups.specs.Codes.{coded_group};
 
     ghost Value = { List (Group Plan) };

@@ -1,13 +1,11 @@
 //! Which guards let the steps behind them be taken.
 ghost use Rattle.std.specs.Prelude.{◌≡◌, IfOk};
 ghost use Rattle.std.specs.List.{list_all};
-ghost use Rattle.gql_plain.specs.Shown.{tree_of};
+ghost use Rattle.plan_ir.specs.gql_plain.Shown.{tree_of};
 ghost use Rattle.plan_ir.specs.NormalMeaning as meaning;
-ghost use Rattle.schema_types.specs.Environments as environments;
+ghost use Rattle.plan_ir.specs.schema_types.Environments as environments;
 
-use gql_plain::{Ids, NoMemory, Plain};
-use plan_ir::{Condition, Conditions, Guard};
-use schema_values::{Env, evaluate};
+use plan_ir::{Condition, Conditions, Env, Guard, Ids, NoMemory, Plain, evaluate};
 use std::alloc::Global;
 
 /// Whether the steps behind a guard are taken for an object of that type.

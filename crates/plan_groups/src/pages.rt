@@ -1,13 +1,12 @@
 //! The pages of connections that a group asks for (Cursor Connections, section 4).
 ghost use Rattle.std.specs.Prelude.{◌≡◌, ◌++◌, codes, IfOk, OnOk};
 ghost use Rattle.plan_ir.specs.NormalMeaning.{collect_plan};
-ghost use Rattle.store_model.specs.Items.{key_of};
-ghost use Rattle.store_model.specs.Says as says;
+ghost use Rattle.plan_ir.specs.store_model.Items.{key_of};
+ghost use Rattle.plan_ir.specs.store_model.Says as says;
 
 use crate::group::GroupAt;
-use gql_plain::{Id, NoMemory, Words};
+use plan_ir::{HandleFact, Id, NoMemory, Words};
 use std::alloc::Global;
-use store_model::HandleFact;
 
 /// Puts the pages that a group asks of a record of that id: one for each key of the connections of
 /// its fields.

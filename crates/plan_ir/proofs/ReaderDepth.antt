@@ -1,19 +1,19 @@
 -- A read goes on below the fields of objects and in the bodies of pointers alone: so many records deep it gives what it gives under any
 -- larger number.
 use Rattle.std.proofs.Common.{◌≡◌, ℕ, zero, suc, ◌+◌, ◌≤◌, Bool, true, false, true≢false, cond, List, [], ◌∷◌, Option, Some, None, ◌⊎◌, map, inl, inr, max, refl, sym, ap, arith, bytes_eq}
-use Rattle.gql_plain.specs.Order.{has_text}
+use Rattle.store_model.specs.gql_plain.Order.{has_text}
 use Rattle.plan_ir.specs.NormalMeaning.{guard_passes}
 use Rattle.plan_ir.specs.Reader as r
 use Rattle.plan_ir.specs.Reader.{Reader}
 use Rattle.plan_ir.specs.ReaderMeaning.{ReaderPart, collect_reading, collect_reader, records_below, plan_reads}
-use Rattle.schema_types.specs.Environments.{Values}
+use Rattle.relay_dirs.specs.schema_types.Environments.{Values}
 use Rattle.store_model.proofs.Least.{Each, each_append, each_so}
 use Rattle.store_model.proofs.Seated.{Fits, grouped_fits}
 use Rattle.store_model.specs.Items.{Form, typename, leaf, one, many, Asked, Pointer, Item, asked, pointed, Group, members, parts, asked_of, without, pointers, Collect, collect_all, groups_at, pointers_on}
 use Rattle.store_model.specs.Walks.{Slots, Fields, Standing, absent, gone, lives, standing_of, field_of, Trace, join_traces, looks_at, issue, Shown, Next, or_null, with_found, with_value, one_at, element_at, elements_at, list_found, many_at, value_at, read_key, fields_at, pointer_at, pointers_at, marks, where_possible, stand_at, read_at}
-use Rattle.store_record.specs.Keys.{Text}
-use Rattle.store_record.specs.declared.field.Field.TheVariants.{Leaf, Link, Links}
-use Rattle.store_record.specs.declared.field.Field.{Field}
+use Rattle.store_model.specs.store_record.Keys.{Text}
+use Rattle.store_model.specs.store_record.declared.field.Field.TheVariants.{Leaf, Link, Links}
+use Rattle.store_model.specs.store_record.declared.field.Field.{Field}
 
 -- ---- numbers
 

@@ -1,10 +1,10 @@
 -- The keys under which fields are stored, where they are the same in each environment (this project's own).
 use Rattle.std.specs.Prelude.{cond, List, [], Option, Some, None}
-use Rattle.gql_ast.specs.Value.{Val, members_of}
-use Rattle.schema_tables.specs.Types.{Text}
-use Rattle.schema_types.specs.Environments.{arguments_in_environment}
-use Rattle.schema_values.specs.Fittings.{have_constants}
-use Rattle.store_record.specs.Keys.{field_key}
+use Rattle.relay_dirs.specs.gql_ast.Value.{Val, members_of}
+use Rattle.relay_dirs.specs.schema_tables.Types.{Text}
+use Rattle.relay_dirs.specs.schema_types.Environments.{arguments_in_environment}
+use Rattle.relay_dirs.specs.schema_values.Fittings.{have_constants}
+use Rattle.store_model.specs.store_record.Keys.{field_key}
 
 -- the key of a field in whose arguments no variable stands
 abbrev pub constant_key : Text → List (Text × Val) → Option Text

@@ -1,3 +1,18 @@
+pub use Rattle.relay_dirs.specs.doc_sites
+pub use Rattle.relay_dirs.specs.doc_uses
+pub use Rattle.relay_dirs.specs.gql_ast
+pub use Rattle.relay_dirs.specs.gql_graph
+pub use Rattle.relay_dirs.specs.gql_lex
+pub use Rattle.store_model.specs.gql_plain
+pub use Rattle.relay_dirs.specs.gql_syntax
+pub use Rattle.relay_dirs.specs as relay_dirs
+pub use Rattle.relay_dirs.specs.schema_rules
+pub use Rattle.relay_dirs.specs.schema_tables
+pub use Rattle.relay_dirs.specs.schema_trees
+pub use Rattle.relay_dirs.specs.schema_types
+pub use Rattle.relay_dirs.specs.schema_values
+pub use Rattle.store_model.specs as store_model
+pub use Rattle.store_model.specs.store_record
 pub mod Nodes
 pub mod NodesCode
 pub mod NodesView

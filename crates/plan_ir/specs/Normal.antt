@@ -1,8 +1,8 @@
 -- Plans by which a response is normalized (this project's own): a step stands with the plan below it, and with the
 -- steps that follow it.
 use Rattle.std.specs.Prelude.{ℕ, ◌+◌, Bool, List, Option, max}
-use Rattle.gql_ast.specs.Value.{Val}
-use Rattle.gql_plain.specs.declared.ids.Conn.{Conn}
+use Rattle.relay_dirs.specs.gql_ast.Value.{Val}
+use Rattle.store_model.specs.gql_plain.declared.ids.Conn.{Conn}
 use Rattle.plan_ir.specs.declared.guard.Guard.{Guard}
 
 -- the type name, a leaf, a field of objects or of lists of objects, or steps behind a guard

@@ -2,17 +2,17 @@
 -- them. What a response says to a plan is said by the same walk as along documents.
 use Rattle.std.specs.Prelude.{Bool, true, not, ◌&&◌, cond, List, [], ◌∷◌, ◌++◌, codes, bytes_eq, Option, Some, None, option_map}
 use Rattle.std.specs.List.{list_all}
-use Rattle.gql_ast.specs.Value.{Val}
-use Rattle.gql_ast.specs.ValueView.{value_of}
-use Rattle.gql_plain.specs.Names.{is_name}
-use Rattle.gql_plain.specs.Order.{has_text}
-use Rattle.gql_plain.specs.declared.ids.Conn.{Conn}
+use Rattle.relay_dirs.specs.gql_ast.Value.{Val}
+use Rattle.relay_dirs.specs.gql_ast.ValueView.{value_of}
+use Rattle.store_model.specs.gql_plain.Names.{is_name}
+use Rattle.store_model.specs.gql_plain.Order.{has_text}
+use Rattle.store_model.specs.gql_plain.declared.ids.Conn.{Conn}
 use Rattle.plan_ir.specs.Normal as n
 use Rattle.plan_ir.specs.Normal.{Normal}
 use Rattle.plan_ir.specs.declared.guard.Condition.{Condition}
 use Rattle.plan_ir.specs.declared.guard.Guard.{Guard}
-use Rattle.schema_tables.specs.Types.{Text}
-use Rattle.schema_types.specs.Environments.{Values, arguments_in_environment, evaluation, is_true}
+use Rattle.relay_dirs.specs.schema_tables.Types.{Text}
+use Rattle.relay_dirs.specs.schema_types.Environments.{Values, arguments_in_environment, evaluation, is_true}
 use Rattle.serde_json.specs.Data as J
 use Rattle.store_model.specs.Items.{Ask, Below, Collect, Connection, Form, Item, asked, typename, leaf, one, many}
 use Rattle.store_model.specs.Verdicts.{Verdict, says}

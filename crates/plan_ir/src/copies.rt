@@ -1,7 +1,7 @@
 //! Copies of what may be there or not.
 ghost use Rattle.std.specs.Prelude.{◌≡◌, IfOk};
 
-use gql_plain::{Conn, Ids, Name, NoMemory};
+use store_model::gql_plain::{Conn, Ids, Name, NoMemory};
 
 /// The same name, or none where there is none.
 pub(crate) fn copy_of_name(name: &Option<Name>) -> Result<Option<Name>, NoMemory>

@@ -2,8 +2,8 @@
 ghost use Rattle.std.specs.Prelude.{◌≡◌, IfOk};
 
 use crate::node::Nodes;
-use gql_ast::{Directives, Kind, VariableDefs};
-use gql_plain::{Name, NoMemory};
+use relay_dirs::{Directives, Kind, VariableDefs};
+use store_model::gql_plain::{Name, NoMemory};
 
 /// An operation or a fragment in which all spreads are followed.
 ///

@@ -2,10 +2,10 @@
 ghost use Rattle.std.specs.Prelude.{◌≡◌, [], ◌∷◌, ◌++◌, length, IfOk, OnOk, OnErr, IsTrue, ◌↔◌};
 
 use crate::copies::copy_of_ids;
-use gql_ast::ValueTree;
-use gql_plain::{Ids, NoMemory};
+use relay_dirs::ValueTree;
 use std::alloc::Global;
 use std::marker::Model;
+use store_model::gql_plain::{Ids, NoMemory};
 
 /// The value of `if` at a `@skip` or an `@include` (GraphQL, October 2021, sections 3.13.1 and
 /// 3.13.2).

@@ -2,11 +2,10 @@
 ghost use Rattle.std.specs.Prelude.{◌≡◌, IfOk};
 ghost use Rattle.plan_ir.specs.FieldKeys as keys;
 
-use gql_ast::Arguments;
-use gql_plain::{Name, NoMemory, SharedText};
-use schema_values::{evaluate_constants, have_constants};
+use relay_dirs::{Arguments, evaluate_constants, have_constants};
 use std::alloc::Global;
-use store_record::field_key;
+use store_model::gql_plain::{Name, NoMemory, SharedText};
+use store_model::store_record::field_key;
 
 /// The key that a field is stored under, where no variable stands in its arguments; else None.
 pub(crate) fn constant_key(

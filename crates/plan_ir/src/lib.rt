@@ -18,7 +18,137 @@ pub mod reader;
 pub use copies::copy_of_conn;
 pub use expanded::Expanded;
 pub use form::Form;
-pub use guard::{Condition, Conditions, Guard};
-pub use node::{Node, Nodes};
-pub use normal::{NormalPlan, NormalStep, NormalSteps};
-pub use reader::{ReaderPlan, ReaderStep, ReaderSteps};
+pub use guard::Condition;
+pub use guard::Conditions;
+pub use guard::Guard;
+pub use node::Node;
+pub use node::Nodes;
+pub use normal::NormalPlan;
+pub use normal::NormalStep;
+pub use normal::NormalSteps;
+pub use reader::ReaderPlan;
+pub use reader::ReaderStep;
+pub use reader::ReaderSteps;
+pub use relay_dirs::Argument;
+pub use relay_dirs::ArgumentAt;
+pub use relay_dirs::Arguments;
+pub use relay_dirs::Cursor;
+pub use relay_dirs::Definition;
+pub use relay_dirs::DefinitionAt;
+pub use relay_dirs::Directive;
+pub use relay_dirs::DirectiveAt;
+pub use relay_dirs::Directives;
+pub use relay_dirs::Document;
+pub use relay_dirs::Documents;
+pub use relay_dirs::Env;
+pub use relay_dirs::FilePlace;
+pub use relay_dirs::FilePlaces;
+pub use relay_dirs::Fragment;
+pub use relay_dirs::FragmentAt;
+pub use relay_dirs::InputDef;
+pub use relay_dirs::InputDefs;
+pub use relay_dirs::Kind;
+pub use relay_dirs::NESTING_LIMIT;
+pub use relay_dirs::NodeFault;
+pub use relay_dirs::Operation;
+pub use relay_dirs::OperationAt;
+pub use relay_dirs::ParseFault;
+pub use relay_dirs::Place;
+pub use relay_dirs::Placed;
+pub use relay_dirs::Rule;
+pub use relay_dirs::RuleFault;
+pub use relay_dirs::Schema;
+pub use relay_dirs::Selection;
+pub use relay_dirs::Selections;
+pub use relay_dirs::Site;
+pub use relay_dirs::SyntaxFault;
+pub use relay_dirs::TypeBox;
+pub use relay_dirs::TypeKind;
+pub use relay_dirs::TypeTree;
+pub use relay_dirs::ValueTree;
+pub use relay_dirs::ValueTrees;
+pub use relay_dirs::VarFault;
+pub use relay_dirs::VariableAt;
+pub use relay_dirs::VariableDef;
+pub use relay_dirs::VariableDefs;
+pub use relay_dirs::check_relay;
+pub use relay_dirs::check_relay_of;
+pub use relay_dirs::connection;
+pub use relay_dirs::connection_among;
+pub use relay_dirs::count_fragments;
+pub use relay_dirs::definitions_at;
+pub use relay_dirs::evaluate;
+pub use relay_dirs::evaluate_arguments;
+pub use relay_dirs::field_place;
+pub use relay_dirs::fits;
+pub use relay_dirs::item_place;
+pub use relay_dirs::local_of;
+pub use relay_dirs::locals;
+pub use relay_dirs::name_of_place;
+pub use relay_dirs::place_of_input;
+pub use relay_dirs::read_type;
+pub use relay_dirs::read_value;
+pub use relay_dirs::variables;
+pub use store_model::Answer;
+pub use store_model::Cause;
+pub use store_model::Command;
+pub use store_model::Commands;
+pub use store_model::EdgeEdit;
+pub use store_model::Entry;
+pub use store_model::FactList;
+pub use store_model::FactRow;
+pub use store_model::Facts;
+pub use store_model::HandleFact;
+pub use store_model::HandleFacts;
+pub use store_model::Part;
+pub use store_model::PathStep;
+pub use store_model::PathSteps;
+pub use store_model::PayloadFault;
+pub use store_model::Target;
+pub use store_model::gql_plain::Conn;
+pub use store_model::gql_plain::Counts;
+pub use store_model::gql_plain::Id;
+pub use store_model::gql_plain::Ids;
+pub use store_model::gql_plain::MAX_LINE;
+pub use store_model::gql_plain::Name;
+pub use store_model::gql_plain::NoMemory;
+pub use store_model::gql_plain::OptIds;
+pub use store_model::gql_plain::Pairs;
+pub use store_model::gql_plain::Plain;
+pub use store_model::gql_plain::PlainFault;
+pub use store_model::gql_plain::Plains;
+pub use store_model::gql_plain::SharedText;
+pub use store_model::gql_plain::Steps;
+pub use store_model::gql_plain::Words;
+pub use store_model::gql_plain::is_name;
+pub use store_model::gql_plain::plain_of;
+pub use store_model::gql_plain::text_of;
+pub use store_model::gql_plain::write_plain;
+pub use store_model::store_record::Field;
+pub use store_model::store_record::Fields;
+pub use store_model::store_record::Record;
+pub use store_model::store_record::SharedField;
+pub use store_model::store_record::Slot;
+pub use store_model::store_record::client_id;
+pub use store_model::store_record::field_key;
+pub use store_model::store_record::handle_key;
+
+/// Passed on from the crates below.
+pub mod around {
+    pub use relay_dirs::around::{below, below_on};
+}
+
+/// Passed on from the crates below.
+pub mod least {
+    pub use relay_dirs::least::Least;
+}
+
+/// Passed on from the crates below.
+pub mod located {
+    pub use relay_dirs::located::{NameAt, pass};
+}
+
+/// Passed on from the crates below.
+pub mod type_forms {
+    pub use relay_dirs::type_forms::{base_of, item_of};
+}

@@ -4,10 +4,10 @@ ghost use Rattle.plan_ir.specs.Nodes.{end, nodes_append, number_of};
 ghost use Rattle.plan_ir.specs.NodesView.{node_of, nodes_of};
 
 use crate::copies::{copy_of_conn, copy_of_name};
-use gql_ast::{Arguments, Directives, FilePlace, TypeTree};
-use gql_plain::{Conn, Name, NoMemory};
+use relay_dirs::{Arguments, Directives, FilePlace, TypeTree};
 use std::alloc::Global;
 use std::marker::Model;
+use store_model::gql_plain::{Conn, Name, NoMemory};
 
 /// One node of an expanded selection set. Its directives are those that the operation text prints,
 /// in written order.

@@ -7,10 +7,10 @@ ghost use Rattle.plan_ir.specs.ReaderView.{step_of, steps_of};
 use crate::copies::copy_of_conn;
 use crate::guard::Guard;
 use crate::keys::{constant_key, copy_of_keys};
-use gql_ast::Arguments;
-use gql_plain::{Conn, Ids, Name, NoMemory, SharedText};
+use relay_dirs::Arguments;
 use std::alloc::Global;
 use std::marker::Model;
+use store_model::gql_plain::{Conn, Ids, Name, NoMemory, SharedText};
 
 /// What records are asked for, in the masked form: a spread stands as a pointer to its fragment.
 #[cycle(reader)]

@@ -2,8 +2,8 @@
 use Rattle.std.proofs.Common.{◌≡◌, Bool, true, false, ◌||◌, List, [], ◌++◌, append-nil, append_assoc, refl, sym, ap, subst, ◌∙◌}
 use Rattle.std.proofs.lemmas.List.Sorted.{IsPermutation-refl, IsPermutation-sym, IsPermutation-trans, IsPermutation-append, IsPermutation-append_comm}
 use Rattle.std.specs.List.Sorted.{IsPermutation}
-use Rattle.store_model.specs.Walks.{Trace, join_traces, still}
-use Rattle.store_record.specs.Keys.{Text}
+use Rattle.plan_ir.specs.store_model.Walks.{Trace, join_traces, still}
+use Rattle.plan_ir.specs.store_record.Keys.{Text}
 
 pub record AreMet (s t : Trace) : Type 0 where
   pub missing : s.missing ≡ t.missing

@@ -1,13 +1,13 @@
 -- Where what stands below reads alike, so do fields and pointers.
 use Rattle.std.proofs.Common.{◌≡◌, Bool, true, false, List, [], ◌∷◌, Option, Some, None, refl, sym, ap}
 use Rattle.std.proofs.lemmas.List.Sorted.{IsPermutation-refl}
-use Rattle.gql_plain.specs.Tree.{Tree, list, trees_of}
+use Rattle.plan_ir.specs.gql_plain.Tree.{Tree, list, trees_of}
 use Rattle.plan_order.proofs.AlikeTraces.{AreMet, met-join, met-refl, met-sym}
-use Rattle.store_model.specs.Items.{Form, typename, leaf, one, many, Pointer}
-use Rattle.store_model.specs.Walks.{Found, Next, element_at, elements_at, issue, many_at, one_at, or_null, pointer_at, shown_object, value_at}
-use Rattle.store_record.specs.Keys.{Text}
-use Rattle.store_record.specs.declared.field.Field.{Field}
-use Rattle.store_record.specs.declared.field.Field.TheVariants.{Leaf, Link, Links}
+use Rattle.plan_ir.specs.store_model.Items.{Form, typename, leaf, one, many, Pointer}
+use Rattle.plan_ir.specs.store_model.Walks.{Found, Next, element_at, elements_at, issue, many_at, one_at, or_null, pointer_at, shown_object, value_at}
+use Rattle.plan_ir.specs.store_record.Keys.{Text}
+use Rattle.plan_ir.specs.store_record.declared.field.Field.{Field}
+use Rattle.plan_ir.specs.store_record.declared.field.Field.TheVariants.{Leaf, Link, Links}
 
 -- equal data, and the same met
 pub record AreFound (a b : Found) : Type 0 where

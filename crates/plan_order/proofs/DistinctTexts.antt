@@ -2,12 +2,12 @@
 use Rattle.std.proofs.Common.{◌≡◌, Bool, true, false, true≢false, not, ◌&&◌, ◌||◌, bytes_eq, List, [], ◌∷◌, refl, sym, ap, ◌∙◌}
 use Rattle.std.proofs.lemmas.Bool.{or_parts}
 use Rattle.std.specs.List.{AllByRecursion, list_all}
-use Rattle.gql_plain.proofs.Booleans.{both_ways}
-use Rattle.gql_plain.specs.Order.{has_text}
+use Rattle.plan_ir.proofs.gql_plain_laws.Booleans.{both_ways}
+use Rattle.plan_ir.specs.gql_plain.Order.{has_text}
 use Rattle.plan_order.proofs.Shuffles.{Differ, DoDiffer, Shuffle, nothing, next, turned, chained, differ-back, differ-shuffled, shuffle-back}
 use Rattle.plan_order.specs.HasOrder.{distinct}
 use Rattle.plan_order.specs.Walk.{is_none}
-use Rattle.store_record.specs.Keys.{Text}
+use Rattle.plan_ir.specs.store_record.Keys.{Text}
 
 -- ---- truth values
 

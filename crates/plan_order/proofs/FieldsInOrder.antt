@@ -2,17 +2,17 @@
 use Rattle.std.proofs.Common.{◌≡◌, inl, inr, Bool, true, false, not, codes, List, [], ◌∷◌, ◌++◌, append-nil, append_assoc, Option, refl, sym, ap, ◌∙◌}
 use Rattle.std.specs.List.{AllByRecursion}
 use Rattle.std.specs.Ordering.{is_lt}
-use Rattle.gql_plain.specs.Order.{AreInOrder}
-use Rattle.gql_plain.specs.Tree.{Tree}
+use Rattle.plan_ir.specs.gql_plain.Order.{AreInOrder}
+use Rattle.plan_ir.specs.gql_plain.Tree.{Tree}
 use Rattle.plan_ir.specs.ReaderMeaning.{ReaderPart}
 use Rattle.plan_order.proofs.Grouping.{keys_in}
 use Rattle.plan_order.proofs.Putting.{IsAboveAll, IsBelowAll, found_front, found_past, found-all}
 use Rattle.plan_order.proofs.Rising.{IsBelow, above, all-append, all-weaker, below-trans, rising-first, rising-rest}
 use Rattle.plan_order.specs.Ordered.{IsApart}
 use Rattle.plan_order.specs.Walk.{Span, whole, before, behind, alone, field_shown, fields_shown, found_member, is_taken}
-use Rattle.store_model.specs.Items.{Asked, Item, asked, pointed}
-use Rattle.store_model.specs.Walks.{Fields, Next, Shown, group_at, with_found}
-use Rattle.store_record.specs.Keys.{Text}
+use Rattle.plan_ir.specs.store_model.Items.{Asked, Item, asked, pointed}
+use Rattle.plan_ir.specs.store_model.Walks.{Fields, Next, Shown, group_at, with_found}
+use Rattle.plan_ir.specs.store_record.Keys.{Text}
 
 module _ (next : Next ReaderPart) (T : Text) (fields : Fields) where
   abbrev pub value_of : Asked ReaderPart → Option Tree

@@ -6,9 +6,9 @@ use Rattle.plan_order.proofs.AlikeValues.{IsAlikePart, value_alike}
 use Rattle.plan_order.proofs.FieldsInOrder.{put_all}
 use Rattle.plan_order.proofs.Grouping.{alone_in}
 use Rattle.plan_order.specs.Walk.{whole, before, behind, alone, field_met, fields_met, is_below}
-use Rattle.store_model.specs.Items.{Asked, Form, typename, leaf, one, many, Item, asked, pointed, asked_of}
-use Rattle.store_model.specs.Walks.{Fields, Next, Shown, Trace, fields_at, group_at, join_traces, looks_at, read_key, still, with_found}
-use Rattle.store_record.specs.Keys.{Text}
+use Rattle.plan_ir.specs.store_model.Items.{Asked, Form, typename, leaf, one, many, Item, asked, pointed, asked_of}
+use Rattle.plan_ir.specs.store_model.Walks.{Fields, Next, Shown, Trace, fields_at, group_at, join_traces, looks_at, read_key, still, with_found}
+use Rattle.plan_ir.specs.store_record.Keys.{Text}
 
 -- a look at a field is nothing missing, and no id stood at
 pub looks_no_loss : (f : Form) (id key : Text) → (looks_at f id key).missing ≡ false

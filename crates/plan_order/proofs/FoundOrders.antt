@@ -4,7 +4,7 @@ use Rattle.std.specs.Cmp.Lexicographic.{slice_cmp}
 use Rattle.std.specs.List.{AllByRecursion, list_all}
 use Rattle.std.specs.List.Sorted.{IsPermutation, IsSortedByKey}
 use Rattle.std.specs.Ordering.{is_lt}
-use Rattle.gql_plain.proofs.Booleans.{both_ways, or_true}
+use Rattle.plan_ir.proofs.gql_plain_laws.Booleans.{both_ways, or_true}
 use Rattle.plan_ir.specs.Reader.{Reader}
 use Rattle.plan_order.proofs.DistinctTexts.{both, differ_so, distinct_shuffled, distinct_so, list_all_shuffled, none_shuffled}
 use Rattle.plan_order.proofs.NotedSteps.{less_when}
@@ -17,7 +17,7 @@ use Rattle.plan_order.specs.Responses.{fragments, responses}
 use Rattle.plan_order.specs.Singles.{AreSingles, IsKeyed, key_in, step_in, steps_in}
 use Rattle.plan_order.specs.Walk.{is_none}
 use Rattle.plan_order.specs.declared.single.Single.{Single}
-use Rattle.store_record.specs.Keys.{Text}
+use Rattle.plan_ir.specs.store_record.Keys.{Text}
 
 -- ---- response keys apart
 

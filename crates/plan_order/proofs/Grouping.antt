@@ -3,8 +3,8 @@ use Rattle.std.proofs.Common.{◌≡◌, cond, List, [], ◌∷◌, ◌++◌, ma
 use Rattle.std.proofs.lemmas.List.{map-append}
 use Rattle.std.specs.List.{AllByRecursion}
 use Rattle.plan_order.proofs.Shuffles.{Differ, DoDiffer, differ-back, differ-before}
-use Rattle.store_model.specs.Items.{Asked, Group, Item, asked, pointed, Pointer, asked_of, groups_of, grouped_onto, pointers, with_asked, without}
-use Rattle.store_record.specs.Keys.{Text}
+use Rattle.plan_ir.specs.store_model.Items.{Asked, Group, Item, asked, pointed, Pointer, asked_of, groups_of, grouped_onto, pointers, with_asked, without}
+use Rattle.plan_ir.specs.store_record.Keys.{Text}
 
 module _ {F : Type 0} where
   abbrev pub response_of : Asked F → Text

@@ -9,9 +9,9 @@ use Rattle.plan_order.proofs.Grouping.{fragments-append, fragments_in, keys-appe
 use Rattle.plan_order.proofs.Rising.{Within, none, kept, within-append, within-nothing}
 use Rattle.plan_order.specs.Ordered.{AreInOrderBelow, IsOrdered}
 use Rattle.plan_order.specs.Responses.{fragments, responses}
-use Rattle.schema_types.specs.Environments.{Values}
-use Rattle.store_model.specs.Items.{Item, asked, pointed}
-use Rattle.store_record.specs.Keys.{Text}
+use Rattle.plan_ir.specs.schema_types.Environments.{Values}
+use Rattle.plan_ir.specs.store_model.Items.{Item, asked, pointed}
+use Rattle.plan_ir.specs.store_record.Keys.{Text}
 
 module _ (env : Values) (T : Text) where
   abbrev items : Reader → List (Item ReaderPart)

@@ -1,7 +1,7 @@
 -- Single steps that are put in order read what the steps read that they were taken from.
 use Rattle.std.proofs.Common.{ℕ, zero, suc, List, [], ◌∷◌, refl, sym, subst, ◌∙◌}
 use Rattle.std.specs.List.Sorted.{IsPermutation}
-use Rattle.gql_plain.specs.Order.{has_text}
+use Rattle.plan_ir.specs.gql_plain.Order.{has_text}
 use Rattle.plan_ir.specs.Reader.{Reader}
 use Rattle.plan_ir.specs.ReaderMeaning.{ReaderPart, collect_reader, collect_reading}
 use Rattle.plan_ir.specs.ReaderView.{steps_of}
@@ -18,9 +18,9 @@ use Rattle.plan_order.proofs.SingleSteps.{below_shuffled, deep_shuffled, items_s
 use Rattle.plan_order.specs.Alike.{ReadAlike, part_of}
 use Rattle.plan_order.specs.Ordered.{IsInOrder}
 use Rattle.plan_order.specs.Singles.{AreTaken, IsOrderedCopy, IsSamePart}
-use Rattle.schema_types.specs.Environments.{Values}
-use Rattle.store_model.specs.Walks.{Fields, Slots, Standing, absent, gone, lives, field_of, object_at, read_at, stand_at, standing_of}
-use Rattle.store_record.specs.Keys.{Text}
+use Rattle.plan_ir.specs.schema_types.Environments.{Values}
+use Rattle.plan_ir.specs.store_model.Walks.{Fields, Slots, Standing, absent, gone, lives, field_of, object_at, read_at, stand_at, standing_of}
+use Rattle.plan_ir.specs.store_record.Keys.{Text}
 
 pub alike-refl : (s : Reader) → ReadAlike s s
 alike-refl s = record {

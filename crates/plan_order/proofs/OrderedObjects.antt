@@ -1,7 +1,7 @@
 -- An object that is told in order is the object whose fields and pointers are put to their places.
 use Rattle.std.proofs.Common.{◌≡◌, ◌⊎◌, inl, inr, Bool, true, false, cond, List, [], ◌∷◌, map, refl, sym, ap, subst, ◌∙◌}
 use Rattle.std.specs.List.{AllByRecursion}
-use Rattle.gql_plain.specs.Order.{AreInOrder}
+use Rattle.plan_ir.specs.gql_plain.Order.{AreInOrder}
 use Rattle.plan_ir.specs.Reader.{Reader}
 use Rattle.plan_ir.specs.ReaderMeaning.{ReaderPart, collect_reader, collect_reading}
 use Rattle.plan_order.proofs.AlikeTraces.{AreMet, met-around, met-join, met-refl, met-still, met-sym, met-trans}
@@ -18,10 +18,10 @@ use Rattle.plan_order.specs.Alike.{part_of}
 use Rattle.plan_order.specs.Ordered.{IsApart, IsInOrder}
 use Rattle.plan_order.specs.Responses.{fragments, responses}
 use Rattle.plan_order.specs.Walk.{whole, before, behind, fields_alone, fields_around, fields_met, is_none, object_in_order, pointers_met, pointers_shown}
-use Rattle.schema_types.specs.Environments.{Values}
-use Rattle.store_model.specs.Items.{Item, asked, pointed, Pointer, asked_of}
-use Rattle.store_model.specs.Walks.{Fields, Next, Shown, Trace, fields_at, join_traces, mark_members, mark_pointers, marks, object_at, pointers_at, still}
-use Rattle.store_record.specs.Keys.{Text}
+use Rattle.plan_ir.specs.schema_types.Environments.{Values}
+use Rattle.plan_ir.specs.store_model.Items.{Item, asked, pointed, Pointer, asked_of}
+use Rattle.plan_ir.specs.store_model.Walks.{Fields, Next, Shown, Trace, fields_at, join_traces, mark_members, mark_pointers, marks, object_at, pointers_at, still}
+use Rattle.plan_ir.specs.store_record.Keys.{Text}
 
 none_pointed : (ps : List (Pointer ReaderPart)) → map fragment_of ps ≡ [] → ps ≡ []
 none_pointed [] e = refl

@@ -1,6 +1,6 @@
 -- The walk of a plan that is in order shows what the plan shows, and meets the same.
 use Rattle.std.proofs.Common.{ℕ, zero, suc, List, [], ◌∷◌}
-use Rattle.gql_plain.specs.Order.{has_text}
+use Rattle.plan_ir.specs.gql_plain.Order.{has_text}
 use Rattle.plan_ir.specs.Reader.{Reader}
 use Rattle.plan_ir.specs.ReaderMeaning.{ReaderPart, collect_reader, collect_reading}
 use Rattle.plan_order.proofs.AlikeValues.{AreFound, found-refl}
@@ -11,10 +11,10 @@ use Rattle.plan_order.proofs.PlainObjects.{possible_alike}
 use Rattle.plan_order.specs.Alike.{OrderedWalksReadAlike, part_of}
 use Rattle.plan_order.specs.Ordered.{IsOrdered}
 use Rattle.plan_order.specs.Walk.{first_part, object_in_order, ordered_at, stand_in_order}
-use Rattle.schema_types.specs.Environments.{Values}
-use Rattle.store_model.specs.Items.{Item, asked, pointed}
-use Rattle.store_model.specs.Walks.{Fields, Next, Slots, Standing, absent, gone, lives, field_of, object_at, read_at, stand_at, standing_of}
-use Rattle.store_record.specs.Keys.{Text}
+use Rattle.plan_ir.specs.schema_types.Environments.{Values}
+use Rattle.plan_ir.specs.store_model.Items.{Item, asked, pointed}
+use Rattle.plan_ir.specs.store_model.Walks.{Fields, Next, Slots, Standing, absent, gone, lives, field_of, object_at, read_at, stand_at, standing_of}
+use Rattle.plan_ir.specs.store_record.Keys.{Text}
 
 module _ (typed : Text → Text) (owner : Text) (m : Slots) where
   abbrev below : ℕ → Next ReaderPart

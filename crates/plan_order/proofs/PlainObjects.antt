@@ -7,10 +7,10 @@ use Rattle.plan_order.proofs.AlikeValues.{AreFound, found-refl}
 use Rattle.plan_order.proofs.Grouping.{alone_in, fragments_in, groups_alone, keys_in, pointed_of, pointers_each}
 use Rattle.plan_order.proofs.Shuffles.{DoDiffer}
 use Rattle.plan_order.specs.Alike.{part_of}
-use Rattle.schema_types.specs.Environments.{Values}
-use Rattle.store_model.specs.Items.{Item, asked_of, groups_of, pointers}
-use Rattle.store_model.specs.Walks.{Fields, Next, Shown, Trace, fields_at, marks, object_at, pointers_at, shown_object, trace_at, where_possible}
-use Rattle.store_record.specs.Keys.{Text}
+use Rattle.plan_ir.specs.schema_types.Environments.{Values}
+use Rattle.plan_ir.specs.store_model.Items.{Item, asked_of, groups_of, pointers}
+use Rattle.plan_ir.specs.store_model.Walks.{Fields, Next, Shown, Trace, fields_at, marks, object_at, pointers_at, shown_object, trace_at, where_possible}
+use Rattle.plan_ir.specs.store_record.Keys.{Text}
 
 -- equal members, and the same met
 pub record AreShown (a b : Shown × Trace) : Type 0 where

@@ -1,16 +1,16 @@
 -- The pointers of items whose fragments rise, and what an object with pointers tells beside its fields.
 use Rattle.std.proofs.Common.{◌≡◌, codes, List, [], ◌∷◌, refl, ap, ◌∙◌}
 use Rattle.std.specs.List.{AllByRecursion}
-use Rattle.gql_plain.specs.Order.{AreInOrder}
-use Rattle.gql_plain.specs.Tree.{Tree}
+use Rattle.plan_ir.specs.gql_plain.Order.{AreInOrder}
+use Rattle.plan_ir.specs.gql_plain.Tree.{Tree}
 use Rattle.plan_ir.specs.ReaderMeaning.{ReaderPart}
 use Rattle.plan_order.proofs.Grouping.{fragments_in, pointed_of}
 use Rattle.plan_order.proofs.Putting.{IsAboveAll, IsBelowAll, put_front}
 use Rattle.plan_order.proofs.Rising.{IsBelow, below-trans, rising-first, rising-rest}
 use Rattle.plan_order.specs.Walk.{pointers_met, pointers_shown}
-use Rattle.store_model.specs.Items.{Item, asked, pointed}
-use Rattle.store_model.specs.Walks.{Next, Shown, join_traces, mark_members, mark_pointers, pointer_at, pointers_at, with_value}
-use Rattle.store_record.specs.Keys.{Text}
+use Rattle.plan_ir.specs.store_model.Items.{Item, asked, pointed}
+use Rattle.plan_ir.specs.store_model.Walks.{Next, Shown, join_traces, mark_members, mark_pointers, pointer_at, pointers_at, with_value}
+use Rattle.plan_ir.specs.store_record.Keys.{Text}
 
 -- ---- marks
 

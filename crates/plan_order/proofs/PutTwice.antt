@@ -5,10 +5,10 @@ use Rattle.std.proofs.lemmas.Map.Text.{is_eq-slice_cmp}
 use Rattle.std.specs.Cmp.Lexicographic.{slice_cmp}
 use Rattle.std.specs.FinMap.Entries.{by_order}
 use Rattle.std.specs.Ordering.{is_eq, ordering_reverse}
-use Rattle.gql_plain.specs.Tree.{Tree}
+use Rattle.plan_ir.specs.gql_plain.Tree.{Tree}
 use Rattle.plan_order.proofs.Rising.{IsBelow, above, below-trans}
-use Rattle.store_model.specs.Walks.{Shown, with_found, with_value}
-use Rattle.store_record.specs.Keys.{Text}
+use Rattle.plan_ir.specs.store_model.Walks.{Shown, with_found, with_value}
+use Rattle.plan_ir.specs.store_record.Keys.{Text}
 
 at_order : (o : Ordering) (k : Text) (v : Tree) (e : Text × Tree) (es : Shown) → slice_cmp nat_cmp k e.0 ≡ o → with_value k v (e ∷ es) ≡ by_order o ((k, v) ∷ e ∷ es) ((e.0, v) ∷ es) (e ∷ with_value k v es)
 at_order o k v e es is = ap (λ r. by_order r ((k, v) ∷ e ∷ es) ((e.0, v) ∷ es) (e ∷ with_value k v es)) is

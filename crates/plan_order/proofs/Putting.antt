@@ -2,11 +2,11 @@
 use Rattle.std.proofs.Common.{◌≡◌, List, [], ◌∷◌, ◌++◌, Option, Some, None, refl, ap, ◌∙◌}
 use Rattle.std.specs.FinMap.Entries.{by_order}
 use Rattle.std.specs.List.{AllByRecursion}
-use Rattle.gql_plain.specs.Tree.{Tree}
+use Rattle.plan_ir.specs.gql_plain.Tree.{Tree}
 use Rattle.plan_order.proofs.Rising.{IsBelow, above}
 use Rattle.plan_order.specs.Walk.{found_member}
-use Rattle.store_model.specs.Walks.{Shown, with_found, with_value}
-use Rattle.store_record.specs.Keys.{Text}
+use Rattle.plan_ir.specs.store_model.Walks.{Shown, with_found, with_value}
+use Rattle.plan_ir.specs.store_record.Keys.{Text}
 
 -- the key is below those of all members
 abbrev pub IsBelowAll : Text → List (Text × Tree) → Type 0

@@ -7,7 +7,7 @@ use Rattle.std.specs.Cmp.Lexicographic.{slice_cmp}
 use Rattle.std.specs.List.{AllByRecursion}
 use Rattle.std.specs.List.Sorted.{IsSortedByKey, IsStrictlySortedBy}
 use Rattle.std.specs.Ordering.{is_eq, is_lt, ordering_reverse}
-use Rattle.gql_plain.specs.Order.{AreInOrder}
+use Rattle.plan_ir.specs.gql_plain.Order.{AreInOrder}
 use Rattle.plan_ir.specs.ReaderView.{step_of}
 use Rattle.plan_order.proofs.Rising.{IsBelow, Within, none, left_out, kept, all-within, within-append, within-nothing}
 use Rattle.plan_order.proofs.Shuffles.{Differ, DoDiffer}
@@ -15,7 +15,7 @@ use Rattle.plan_order.proofs.StepKeys.{fragments_step, responses_step}
 use Rattle.plan_order.specs.Responses.{fragments, responses}
 use Rattle.plan_order.specs.Singles.{IsKeyed, key_in, steps_in}
 use Rattle.plan_order.specs.declared.single.Single.{Single}
-use Rattle.store_record.specs.Keys.{Text}
+use Rattle.plan_ir.specs.store_record.Keys.{Text}
 
 -- the later text is not below the other one
 abbrev pub IsNoFall : Text → Text → Type 0

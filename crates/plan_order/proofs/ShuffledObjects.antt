@@ -1,16 +1,16 @@
 -- An object whose fields and pointers stand in another order, over plans that read alike, reads alike.
 use Rattle.std.proofs.Common.{◌≡◌, List, [], ◌∷◌, map, Option, refl, sym, ap, subst, ◌∙◌}
 use Rattle.std.specs.List.{AllZip}
-use Rattle.gql_plain.specs.Tree.{Tree}
+use Rattle.plan_ir.specs.gql_plain.Tree.{Tree}
 use Rattle.plan_ir.specs.ReaderMeaning.{ReaderPart}
 use Rattle.plan_order.proofs.AlikeTraces.{AreMet, met-join, met-refl, met-second, met-trans}
 use Rattle.plan_order.proofs.Grouping.{fragment_of, fragments_in, keys_in, pointed_of, response_of}
 use Rattle.plan_order.proofs.PutTwice.{found_turned}
 use Rattle.plan_order.proofs.Shuffles.{DoDiffer, Shuffle, nothing, next, turned, chained, differ-shuffled, shuffle-back, shuffle-map, shuffle-refl}
 use Rattle.plan_order.specs.Singles.{IsSameAsked, IsSameItem, IsSamePointed}
-use Rattle.store_model.specs.Items.{Item, asked, pointed, asked_of}
-use Rattle.store_model.specs.Walks.{Shown, Trace, join_traces, still, with_found}
-use Rattle.store_record.specs.Keys.{Text}
+use Rattle.plan_ir.specs.store_model.Items.{Item, asked, pointed, asked_of}
+use Rattle.plan_ir.specs.store_model.Walks.{Shown, Trace, join_traces, still, with_found}
+use Rattle.plan_ir.specs.store_record.Keys.{Text}
 
 -- ---- members and traces of lists
 

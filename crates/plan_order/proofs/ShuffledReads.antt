@@ -1,7 +1,7 @@
 -- What an object tells does not depend on the order of its fields and pointers, where these differ.
 use Rattle.std.proofs.Common.{◌≡◌, List, [], ◌∷◌, map, Option, Some, refl, sym, ap, subst, ◌∙◌}
 use Rattle.std.specs.List.{AllZip}
-use Rattle.gql_plain.specs.Tree.{Tree}
+use Rattle.plan_ir.specs.gql_plain.Tree.{Tree}
 use Rattle.plan_ir.specs.ReaderMeaning.{ReaderPart}
 use Rattle.plan_order.proofs.AlikeTraces.{AreMet, met-after, met-assoc, met-join, met-refl, met-sym, met-trans}
 use Rattle.plan_order.proofs.AlikeValues.{AreAlikeBelow, pointed_met, pointed_shown, value_alike}
@@ -11,9 +11,9 @@ use Rattle.plan_order.proofs.PlainObjects.{AreShown, object_of}
 use Rattle.plan_order.proofs.ShuffledObjects.{asked_same, asked_shuffled, join_all, join_shuffled, pairs_shuffled, pointed_same, pointed_shuffled, put_pairs, zip_join, zip_map}
 use Rattle.plan_order.proofs.Shuffles.{DoDiffer, Shuffle, shuffle-back, shuffle-map}
 use Rattle.plan_order.specs.Singles.{IsSameAsked, IsSameItem, IsSamePart, IsSamePointed}
-use Rattle.store_model.specs.Items.{Asked, Item, Pointer, asked_of}
-use Rattle.store_model.specs.Walks.{Fields, Next, Shown, Trace, fields_at, group_at, join_traces, looks_at, mark_pointers, marks, pointer_at, pointers_at, read_key, value_at, with_found, with_value}
-use Rattle.store_record.specs.Keys.{Text}
+use Rattle.plan_ir.specs.store_model.Items.{Asked, Item, Pointer, asked_of}
+use Rattle.plan_ir.specs.store_model.Walks.{Fields, Next, Shown, Trace, fields_at, group_at, join_traces, looks_at, mark_pointers, marks, pointer_at, pointers_at, read_key, value_at, with_found, with_value}
+use Rattle.plan_ir.specs.store_record.Keys.{Text}
 
 module _ (next : Next ReaderPart) (T id : Text) (fields : Fields) where
   abbrev pair_of : Asked ReaderPart → Text × Option Tree

@@ -8,9 +8,9 @@ use Rattle.plan_ir.specs.declared.reader.ReaderStep.{ReaderStep}
 use Rattle.plan_ir.specs.declared.reader.ReaderStep.TheVariants as N
 use Rattle.plan_order.proofs.Shuffles.{Shuffle, nothing, next, turned, chained, shuffle-append_left, shuffle-turn}
 use Rattle.plan_order.specs.Ordered.{AreInOrderBelow}
-use Rattle.schema_tables.specs.Types.{Text}
-use Rattle.schema_types.specs.Environments.{Values}
-use Rattle.store_model.specs.Items.{Item}
+use Rattle.plan_ir.specs.schema_tables.Types.{Text}
+use Rattle.plan_ir.specs.schema_types.Environments.{Values}
+use Rattle.plan_ir.specs.store_model.Items.{Item}
 
 pub items_step : (env : Values) (T : Text) (x : ReaderStep) (s : Reader) → collect_reading env T (step_before x s) ≡ collect_reading env T (step_of x) ++ collect_reading env T s
 items_step env T (N.Typename n) s = refl

@@ -21,7 +21,7 @@ use Rattle.plan_order.specs.Ordered.{IsInOrder}
 use Rattle.plan_order.specs.Responses.{fragments, responses}
 use Rattle.plan_order.specs.Singles.{AreSingles, AreTaken, IsKeyed, IsOrderedCopy, guard_each, key_in, single_of, step_in, steps_in}
 use Rattle.plan_order.specs.declared.single.Single.{Single}
-use Rattle.schema_tables.specs.Types.{Text}
+use Rattle.plan_ir.specs.schema_tables.Types.{Text}
 
 pub singles_nothing : (xs : List Single) → xs ≡ [] → AreSingles r.done xs
 singles_nothing xs none = subst (AreSingles r.done) (sym none) (record { taken = taken-nothing; told = refl; spread = refl; keyed = tt })

@@ -1,6 +1,6 @@
 -- Steps one after another: their response keys and fragments, and that the plans below them have an order.
 use Rattle.std.proofs.Common.{◌≡◌, ℕ, zero, suc, ◌+◌, ◌<◌, Bool, true, false, ◌&&◌, List, [], ◌∷◌, ◌++◌, length, get_or, take, append-nil, Some, None, refl, sym, ap, subst, ◌∙◌, arith}
-use Rattle.gql_plain.proofs.Booleans.{and_false}
+use Rattle.plan_ir.proofs.gql_plain_laws.Booleans.{and_false}
 use Rattle.plan_ir.specs.Reader as r
 use Rattle.plan_ir.specs.Reader.{Reader, reader_append}
 use Rattle.plan_ir.specs.ReaderView.{step_before, step_of, steps_of}
@@ -12,7 +12,7 @@ use Rattle.plan_order.proofs.Shuffles.{Shuffle, nothing, next, turned, chained, 
 use Rattle.plan_order.specs.HasOrder.{has_order_below, is_orderable}
 use Rattle.plan_order.specs.Responses.{fragments, responses}
 use Rattle.plan_order.specs.Singles.{guard_each}
-use Rattle.schema_tables.specs.Types.{Text}
+use Rattle.plan_ir.specs.schema_tables.Types.{Text}
 
 pub responses_step : (x : ReaderStep) (s : Reader) → responses (step_before x s) ≡ responses (step_of x) ++ responses s
 responses_step (N.Typename n) s = refl

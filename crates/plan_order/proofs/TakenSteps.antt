@@ -1,8 +1,8 @@
 -- Steps that are taken apart, one after another.
 use Rattle.std.proofs.Common.{◌≡◌, Bool, true, false, cond, List, [], ◌∷◌, ◌++◌, append-nil, append_assoc, Option, None, max, refl, sym, ap, subst, ◌∙◌, arith}
 use Rattle.std.specs.List.{AllZip}
-use Rattle.gql_ast.specs.Value.{Val}
-use Rattle.gql_plain.specs.declared.ids.Conn.{Conn}
+use Rattle.plan_ir.specs.gql_ast.Value.{Val}
+use Rattle.plan_ir.specs.gql_plain.declared.ids.Conn.{Conn}
 use Rattle.plan_ir.specs.NormalMeaning.{ask_step, below_step, guard_passes, object_form, typename_ask}
 use Rattle.plan_ir.specs.Reader as r
 use Rattle.plan_ir.specs.Reader.{Reader, reader_append}
@@ -14,10 +14,10 @@ use Rattle.plan_order.proofs.OrderedCopies.{alike-refl}
 use Rattle.plan_order.proofs.SingleSteps.{below_split, deep_step, items_step}
 use Rattle.plan_order.specs.Ordered.{AreInOrderBelow}
 use Rattle.plan_order.specs.Singles.{AreTaken, IsOrderedCopy, IsSameItem, IsSamePart, guard_each}
-use Rattle.schema_tables.specs.Types.{Text}
-use Rattle.schema_types.specs.Environments.{Values}
-use Rattle.store_model.specs.Items.{Item, pointed, leaf}
-use Rattle.store_model.proofs.SameItems.{zip_append, zip_either}
+use Rattle.plan_ir.specs.schema_tables.Types.{Text}
+use Rattle.plan_ir.specs.schema_types.Environments.{Values}
+use Rattle.plan_ir.specs.store_model.Items.{Item, pointed, leaf}
+use Rattle.plan_ir.proofs.store_model_laws.SameItems.{zip_append, zip_either}
 
 part-refl : (p : ReaderPart) → IsSamePart p p
 part-refl p = record { environment = refl; reads = alike-refl p.steps }

@@ -5,9 +5,9 @@ use Rattle.plan_ir.specs.Reader.{Reader}
 use Rattle.plan_ir.specs.ReaderMeaning.{ReaderPart, collect_reader, records_below}
 use Rattle.plan_order.specs.Ordered.{IsOrdered}
 use Rattle.plan_order.specs.Walk.{ordered_at}
-use Rattle.schema_types.specs.Environments.{Values}
-use Rattle.store_model.specs.Walks.{Found, Slots, read_at}
-use Rattle.store_record.specs.Keys.{Text}
+use Rattle.plan_ir.specs.schema_types.Environments.{Values}
+use Rattle.plan_ir.specs.store_model.Walks.{Found, Slots, read_at}
+use Rattle.plan_ir.specs.store_record.Keys.{Text}
 
 -- equal data, and the same ids stood at, each as often
 pub record AreAlike (a b : Found) : Type 0 where

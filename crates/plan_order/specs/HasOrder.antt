@@ -3,12 +3,12 @@ use Rattle.std.specs.Prelude.{Bool, true, not, codes, List, [], ◌∷◌, ◌&&
 use Rattle.std.specs.Cmp.Lexicographic.{slice_cmp}
 use Rattle.std.specs.List.{list_all}
 use Rattle.std.specs.Ordering.{is_lt, nat_cmp}
-use Rattle.gql_plain.specs.Order.{has_text}
+use Rattle.plan_ir.specs.gql_plain.Order.{has_text}
 use Rattle.plan_ir.specs.Reader as r
 use Rattle.plan_ir.specs.Reader.{Reader}
 use Rattle.plan_order.specs.Responses.{fragments, responses}
 use Rattle.plan_order.specs.Walk.{is_none}
-use Rattle.schema_tables.specs.Types.{Text}
+use Rattle.plan_ir.specs.schema_tables.Types.{Text}
 
 -- no text stands twice
 abbrev pub distinct : List Text → Bool

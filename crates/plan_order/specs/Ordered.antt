@@ -4,11 +4,11 @@ use Rattle.std.specs.Cmp.Lexicographic.{slice_cmp}
 use Rattle.std.specs.List.{AllByRecursion}
 use Rattle.std.specs.Ordering.{nat_cmp}
 use Rattle.std.specs.declared.cmp.Ordering.TheVariants.{Less}
-use Rattle.gql_plain.specs.Order.{AreInOrder}
+use Rattle.plan_ir.specs.gql_plain.Order.{AreInOrder}
 use Rattle.plan_ir.specs.Reader as r
 use Rattle.plan_ir.specs.Reader.{Reader}
 use Rattle.plan_order.specs.Responses.{fragments, responses}
-use Rattle.schema_tables.specs.Types.{Text}
+use Rattle.plan_ir.specs.schema_tables.Types.{Text}
 
 -- the response key stands before all that an object with pointers tells beside its fields, or behind all of it
 abbrev pub IsApart : Text → Type 0

@@ -1,7 +1,7 @@
 -- The response keys and the fragments of a plan's steps, those behind guards among them.
 use Rattle.std.specs.Prelude.{List, [], ◌∷◌, ◌++◌}
 use Rattle.plan_ir.specs.Reader.{Reader, done, typename, leaf, object, guarded, pointer, pointer_inline}
-use Rattle.schema_tables.specs.Types.{Text}
+use Rattle.plan_ir.specs.schema_tables.Types.{Text}
 
 -- the response keys of the fields, in the order of the steps
 abbrev pub responses : Reader → List Text

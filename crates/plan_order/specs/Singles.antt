@@ -12,9 +12,9 @@ use Rattle.plan_order.specs.Alike.{ReadAlike}
 use Rattle.plan_order.specs.Ordered.{AreInOrderBelow, IsOrdered}
 use Rattle.plan_order.specs.Responses.{fragments, responses}
 use Rattle.plan_order.specs.declared.single.Single.{Single}
-use Rattle.schema_tables.specs.Types.{Text}
-use Rattle.schema_types.specs.Environments.{Values}
-use Rattle.store_model.specs.Items.{Asked, Item, asked, pointed, Pointer}
+use Rattle.plan_ir.specs.schema_tables.Types.{Text}
+use Rattle.plan_ir.specs.schema_types.Environments.{Values}
+use Rattle.plan_ir.specs.store_model.Items.{Asked, Item, asked, pointed, Pointer}
 
 -- ---- what is kept of each item
 

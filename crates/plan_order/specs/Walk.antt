@@ -2,15 +2,15 @@
 use Rattle.std.specs.Prelude.{ℕ, zero, suc, Bool, true, false, not, cond, codes, List, [], ◌∷◌, ◌++◌, Option, Some, None}
 use Rattle.std.specs.Cmp.Lexicographic.{slice_cmp}
 use Rattle.std.specs.Ordering.{is_lt, nat_cmp}
-use Rattle.gql_plain.specs.Order.{has_text}
-use Rattle.gql_plain.specs.Tree.{Tree, null}
+use Rattle.plan_ir.specs.gql_plain.Order.{has_text}
+use Rattle.plan_ir.specs.gql_plain.Tree.{Tree, null}
 use Rattle.plan_ir.specs.Reader.{Reader}
 use Rattle.plan_ir.specs.ReaderMeaning.{ReaderPart, collect_reading}
 use Rattle.plan_order.specs.Responses.{fragments}
-use Rattle.schema_types.specs.Environments.{Values}
-use Rattle.store_model.specs.Items.{Asked, Group, Item, asked, pointed}
-use Rattle.store_model.specs.Walks.{Fields, Found, Next, Shown, Slots, Standing, Trace, absent, gone, lives, field_of, group_at, join_traces, mark_members, pointer_at, standing_of, still, stood_lost, trace_at, where_possible}
-use Rattle.store_record.specs.Keys.{Text}
+use Rattle.plan_ir.specs.schema_types.Environments.{Values}
+use Rattle.plan_ir.specs.store_model.Items.{Asked, Group, Item, asked, pointed}
+use Rattle.plan_ir.specs.store_model.Walks.{Fields, Found, Next, Shown, Slots, Standing, Trace, absent, gone, lives, field_of, group_at, join_traces, mark_members, pointer_at, standing_of, still, stood_lost, trace_at, where_possible}
+use Rattle.plan_ir.specs.store_record.Keys.{Text}
 
 -- a field alone
 abbrev pub alone : Asked ReaderPart → Group ReaderPart

@@ -7,8 +7,7 @@ ghost use Rattle.plan_order.specs.HasOrder.{is_orderable};
 ghost use Rattle.plan_order.specs.Ordered.{IsOrdered};
 
 use crate::ordering::ordered;
-use gql_plain::NoMemory;
-use plan_ir::ReaderPlan;
+use plan_ir::{NoMemory, ReaderPlan};
 use std::alloc::Global;
 use std::marker::Model;
 

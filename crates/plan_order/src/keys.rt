@@ -3,14 +3,13 @@ ghost use Rattle.std.specs.Prelude.{◌≡◌, ◌↔◌, true, ◌++◌, map, I
 ghost use Rattle.std.specs.Cmp.Lexicographic.{slice_cmp};
 ghost use Rattle.std.specs.List.{list_all};
 ghost use Rattle.std.specs.Ordering.{is_lt, nat_cmp};
-ghost use Rattle.gql_plain.specs.Order.{AreInOrder};
+ghost use Rattle.plan_ir.specs.gql_plain.Order.{AreInOrder};
 ghost use Rattle.plan_ir.specs.ReaderView.{step_of};
 ghost use Rattle.plan_order.specs.HasOrder.{stands_apart};
 ghost use Rattle.plan_order.specs.Ordered.{IsInOrder};
 ghost use Rattle.plan_order.specs.Responses.{fragments, responses};
 
-use gql_plain::NoMemory;
-use plan_ir::{ReaderStep, ReaderSteps};
+use plan_ir::{NoMemory, ReaderStep, ReaderSteps};
 use std::alloc::Global;
 
 /// The response keys of steps, and the fragments of their pointers, in the order of the steps.

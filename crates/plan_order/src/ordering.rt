@@ -10,9 +10,7 @@ ghost use Rattle.plan_order.specs.Singles.{AreSingles, IsOrderedCopy, key_in};
 
 use crate::keys::is_in_order;
 use crate::single::{Single, each_guarded, one_of, plan_of, with_child};
-use gql_ast::Arguments;
-use gql_plain::{Name, NoMemory};
-use plan_ir::{ReaderPlan, ReaderStep, ReaderSteps};
+use plan_ir::{Arguments, Name, NoMemory, ReaderPlan, ReaderStep, ReaderSteps};
 use std::alloc::Global;
 
 /// A plan that reads what this one reads, with its steps in order of their response keys, or None where

@@ -5,8 +5,7 @@ ghost use Rattle.plan_ir.specs.Reader as reader;
 ghost use Rattle.plan_ir.specs.ReaderView.{step_of};
 ghost use Rattle.plan_order.specs.Singles.{IsKeyed, guard_each, over_child, single_of, step_in, steps_in};
 
-use gql_plain::NoMemory;
-use plan_ir::{Guard, ReaderPlan, ReaderStep, ReaderSteps, copy_of_conn};
+use plan_ir::{Guard, NoMemory, ReaderPlan, ReaderStep, ReaderSteps, copy_of_conn};
 use std::alloc::Global;
 
 /// A step by itself, and what it is put in order by: the response key of its field, or its fragment.

@@ -1,18 +1,18 @@
 -- What the rules give of the operations and the fragments of an accepted project, by their names.
 use Rattle.std.proofs.Common.{◌≡◌, ℕ, Bool, true, false, true≢false, ◌&&◌, cond, List, [], ◌∷◌, ◌++◌, Option, Some, None, option_map, is_some, bytes_eq, refl, ap, sym, subst, ◌∙◌}
 use Rattle.std.specs.List.{AllByRecursion, list_all}
-use Rattle.doc_merge.specs.Faults.{fault_or, field_differences, values_unfit}
-use Rattle.doc_merge.specs.Places.{least}
-use Rattle.gql_ast.specs.declared.document.Document.{Document}
-use Rattle.gql_ast.specs.declared.place.FilePlace.{FilePlace}
-use Rattle.gql_ast.specs.declared.place.Placed.{Placed}
-use Rattle.gql_graph.proofs.TextSteps.{same_text}
-use Rattle.gql_graph.specs.Rules.{each, first_broken}
-use Rattle.gql_plain.specs.Names.{is_name}
-use Rattle.gql_syntax.specs.Words.{IsName}
-use Rattle.plan_build.proofs.CovarianceLists.{all_hold, right}
-use Rattle.plan_build.specs.Plans.{HaveNames}
-use Rattle.plan_expand.specs.Answers.{definitions_in, project, whole_in}
+use Rattle.plan_read.specs.doc_merge.Faults.{fault_or, field_differences, values_unfit}
+use Rattle.plan_read.specs.doc_merge.Places.{least}
+use Rattle.plan_ir.specs.gql_ast.declared.document.Document.{Document}
+use Rattle.plan_ir.specs.gql_ast.declared.place.FilePlace.{FilePlace}
+use Rattle.plan_ir.specs.gql_ast.declared.place.Placed.{Placed}
+use Rattle.plan_ir.proofs.gql_graph_laws.TextSteps.{same_text}
+use Rattle.plan_ir.specs.gql_graph.Rules.{each, first_broken}
+use Rattle.plan_ir.specs.gql_plain.Names.{is_name}
+use Rattle.plan_ir.specs.gql_syntax.Words.{IsName}
+use Rattle.plan_read.proofs.plan_build_laws.CovarianceLists.{all_hold, right}
+use Rattle.plan_read.specs.plan_build.Plans.{HaveNames}
+use Rattle.plan_read.specs.plan_expand.Answers.{definitions_in, project, whole_in}
 use Rattle.plan_ir.specs.Expansion.{Whole, name_or, whole_fragment, whole_operation}
 use Rattle.plan_ir.specs.declared.form.Form.TheVariants as F
 use Rattle.plan_project.proofs.LeastLaws.{no_places, nothing_first}
@@ -22,11 +22,11 @@ use Rattle.plan_project.proofs.SpreadChains.{none_each}
 use Rattle.plan_project.specs.Expansions.{differences_at, merge_fault, values_unfit_at, whole_at, whole_of_operation}
 use Rattle.plan_project.specs.Lookups.{fragment_in, operation_in}
 use Rattle.plan_project.specs.Projects.{IsAccepted, IsAcceptedProject, document_rules}
-use Rattle.schema_rules.specs.declared.fault.Rule.{Rule}
-use Rattle.schema_tables.specs.Types.{Text, Defs, is_composite, possible, root}
-use Rattle.schema_trees.specs.Located.{Located}
-use Rattle.schema_types.specs.NameRules.{condition_at, conditions_in, fragment_named, fragments, not_composite, operations, without_root}
-use Rattle.schema_types.specs.Sites.{DefinitionAt, FragmentAt, OperationAt, fragment, operation}
+use Rattle.plan_ir.specs.schema_rules.declared.fault.Rule.{Rule}
+use Rattle.plan_ir.specs.schema_tables.Types.{Text, Defs, is_composite, possible, root}
+use Rattle.plan_ir.specs.schema_trees.Located.{Located}
+use Rattle.plan_ir.specs.schema_types.NameRules.{condition_at, conditions_in, fragment_named, fragments, not_composite, operations, without_root}
+use Rattle.plan_ir.specs.schema_types.Sites.{DefinitionAt, FragmentAt, OperationAt, fragment, operation}
 
 -- ---- rules that hold
 

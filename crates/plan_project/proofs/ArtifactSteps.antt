@@ -1,12 +1,12 @@
 -- The line of a definition by its number.
 use Rattle.std.proofs.Common.{◌≡◌, ◌<◌, ◌≤◌, ℕ, zero, suc, List, [], ◌∷◌, length, map, get_or, false, Option, Some, None, option_map, refl, sym, ap, subst, ◌∙◌, arith}
 use Rattle.std.specs.List.{AllByRecursion}
-use Rattle.doc_sites.specs.SitesView.{definition_of}
-use Rattle.doc_sites.specs.declared.site.DefinitionAt as code
-use Rattle.gql_ast.specs.declared.document.Document.{Document}
-use Rattle.gql_ast.specs.declared.place.Placed.{Placed}
-use Rattle.gql_graph.specs.Rules.{first_broken}
-use Rattle.plan_expand.specs.Answers.{definitions_in, project, whole_in, whole_is}
+use Rattle.plan_ir.specs.doc_sites.SitesView.{definition_of}
+use Rattle.plan_ir.specs.doc_sites.declared.site.DefinitionAt as code
+use Rattle.plan_ir.specs.gql_ast.declared.document.Document.{Document}
+use Rattle.plan_ir.specs.gql_ast.declared.place.Placed.{Placed}
+use Rattle.plan_ir.specs.gql_graph.Rules.{first_broken}
+use Rattle.plan_read.specs.plan_expand.Answers.{definitions_in, project, whole_in, whole_is}
 use Rattle.plan_ir.specs.Expansion.{Whole, operation_named, whole_operation}
 use Rattle.plan_ir.specs.Sizes.{has_too_many_nodes, is_too_deep}
 use Rattle.plan_ir.specs.declared.form.Form.TheVariants as F
@@ -15,10 +15,10 @@ use Rattle.plan_project.proofs.LeastLaws.{nothing_first, nothing_then}
 use Rattle.plan_project.proofs.NotingLaws.{limits_by}
 use Rattle.plan_project.proofs.SoundProjects.{operation_found}
 use Rattle.plan_project.specs.Expansions.{IsWithinLimits, lines_at, line_lists, size_rules, too_deep, too_many, whole_of_operation}
-use Rattle.schema_rules.specs.declared.fault.Rule.TheVariants as R
-use Rattle.schema_tables.specs.Types.{Text, Defs}
-use Rattle.schema_types.specs.NameRules.{operations}
-use Rattle.schema_types.specs.Sites.{DefinitionAt, OperationAt, operation, fragment}
+use Rattle.plan_ir.specs.schema_rules.declared.fault.Rule.TheVariants as R
+use Rattle.plan_ir.specs.schema_tables.Types.{Text, Defs}
+use Rattle.plan_ir.specs.schema_types.NameRules.{operations}
+use Rattle.plan_ir.specs.schema_types.Sites.{DefinitionAt, OperationAt, operation, fragment}
 
 -- an element of a list that is seen through a function
 pub element_of : {X A : Type 0} (view : X → A) (xs : List X) (i : ℕ) (x : X) (d : A) → i < length xs → x ≡ get_or xs i x → get_or (map view xs) i d ≡ view x

@@ -1,20 +1,20 @@
 -- The codes of the faults of a text are 1 to 8.
 use Rattle.std.specs.List.{prefix_len}
 use Rattle.std.proofs.Common.{◌≡◌, ◌==◌, ◌&&◌, ◌||◌, ◌-◌, slice_index, length, take, ◌≤◌, ℕ, zero, suc, ◌+◌, Bool, true, false, cond, List, [], ◌∷◌, drop, Result, Ok, Err, subst, inl, inr, arith}
-use Rattle.gql_ast.specs.declared.fault.ParseFault.{ParseFault}
-use Rattle.gql_ast.specs.declared.fault.ParseFault.TheVariants.{Syntax, NoMemory}
-use Rattle.gql_ast.specs.declared.fault.SyntaxFault.{SyntaxFault}
-use Rattle.gql_lex.specs.Heads.{comment, int_before, number, string, string_head, head}
-use Rattle.gql_lex.specs.Sources.{Source, ended, faulty, token, read_head, read}
-use Rattle.gql_lex.specs.Characters.{quote, backslash, number_sign, is_line_end, may_stand, may_stand_in_block, is_punctuator, is_ignored, is_mark, is_spread, is_number_start, is_float_mark, is_two_quotes, is_three_quotes, is_escaped_quotes}
-use Rattle.gql_plain.specs.Names.{is_name_start, is_name_byte}
-use Rattle.gql_lex.specs.Numbers.{sign_len, digits_len, int_len, is_in_i64}
-use Rattle.gql_lex.specs.Strings.{further, and_then, is_simple_escape, is_four_hex, code_of_hex, is_surrogate, escape_len, text_end, block_end}
-use Rattle.gql_lex.specs.Toks.{Tok}
-use Rattle.gql_lex.specs.declared.tokens.TokenKind.{TokenKind}
-use Rattle.gql_lex.specs.declared.tokens.TokenKind.TheVariants.{Text, Block}
-use Rattle.gql_syntax.specs.FirstFault.{Grammar, Leads, FaultAhead}
-use Rattle.gql_syntax.specs.Texts.{IsParseFault}
+use Rattle.plan_ir.specs.gql_ast.declared.fault.ParseFault.{ParseFault}
+use Rattle.plan_ir.specs.gql_ast.declared.fault.ParseFault.TheVariants.{Syntax, NoMemory}
+use Rattle.plan_ir.specs.gql_ast.declared.fault.SyntaxFault.{SyntaxFault}
+use Rattle.plan_ir.specs.gql_lex.Heads.{comment, int_before, number, string, string_head, head}
+use Rattle.plan_ir.specs.gql_lex.Sources.{Source, ended, faulty, token, read_head, read}
+use Rattle.plan_ir.specs.gql_lex.Characters.{quote, backslash, number_sign, is_line_end, may_stand, may_stand_in_block, is_punctuator, is_ignored, is_mark, is_spread, is_number_start, is_float_mark, is_two_quotes, is_three_quotes, is_escaped_quotes}
+use Rattle.plan_ir.specs.gql_plain.Names.{is_name_start, is_name_byte}
+use Rattle.plan_ir.specs.gql_lex.Numbers.{sign_len, digits_len, int_len, is_in_i64}
+use Rattle.plan_ir.specs.gql_lex.Strings.{further, and_then, is_simple_escape, is_four_hex, code_of_hex, is_surrogate, escape_len, text_end, block_end}
+use Rattle.plan_ir.specs.gql_lex.Toks.{Tok}
+use Rattle.plan_ir.specs.gql_lex.declared.tokens.TokenKind.{TokenKind}
+use Rattle.plan_ir.specs.gql_lex.declared.tokens.TokenKind.TheVariants.{Text, Block}
+use Rattle.plan_ir.specs.gql_syntax.FirstFault.{Grammar, Leads, FaultAhead}
+use Rattle.plan_ir.specs.gql_syntax.Texts.{IsParseFault}
 use Rattle.plan_project.specs.Verdicts.{IsCoded}
 
 abbrev InRange : ℕ → Type 0

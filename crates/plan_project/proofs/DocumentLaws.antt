@@ -1,16 +1,16 @@
 -- Texts are read as documents, one after another.
 use Rattle.std.proofs.Common.{◌≡◌, ◌⊎◌, ◌<◌, ◌+◌, ℕ, suc, List, [], ◌∷◌, ◌++◌, length, get_or, drop, Result, Ok, Err, sym, ap, subst, inl, inr, ◌∙◌, append_assoc, append-nil, add-one, drop-cons}
-use Rattle.gql_ast.specs.declared.document.Document.{Document}
-use Rattle.gql_ast.specs.declared.fault.ParseFault.{ParseFault}
-use Rattle.gql_ast.specs.declared.fault.ParseFault.TheVariants.{Syntax, NoMemory}
-use Rattle.gql_ast.specs.declared.place.Placed.{Placed}
-use Rattle.gql_parse.specs.Documents.{documents}
-use Rattle.gql_parse.specs.Trees.{IsDocument}
-use Rattle.gql_syntax.specs.Texts.{IsParseFault}
+use Rattle.plan_ir.specs.gql_ast.declared.document.Document.{Document}
+use Rattle.plan_ir.specs.gql_ast.declared.fault.ParseFault.{ParseFault}
+use Rattle.plan_ir.specs.gql_ast.declared.fault.ParseFault.TheVariants.{Syntax, NoMemory}
+use Rattle.plan_ir.specs.gql_ast.declared.place.Placed.{Placed}
+use Rattle.text_places.specs.gql_parse.Documents.{documents}
+use Rattle.text_places.specs.gql_parse.Trees.{IsDocument}
+use Rattle.plan_ir.specs.gql_syntax.Texts.{IsParseFault}
 use Rattle.plan_project.proofs.Codes.{parse_fault_coded}
 use Rattle.plan_project.specs.Projects.{AreDocuments, IsDocumentsFault}
 use Rattle.plan_project.specs.Verdicts.{Files, texts_of, AreOnlyDocuments, AreNoDocuments}
-use Rattle.gql_graph.specs.Texts.{Text}
+use Rattle.plan_ir.specs.gql_graph.Texts.{Text}
 use Rattle.plan_project.specs.declared.fault.ProjectFault.{ProjectFault}
 
 -- what an answer is, where it is the one of a tree

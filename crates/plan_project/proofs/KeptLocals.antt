@@ -1,15 +1,15 @@
 -- An environment of a fragment's local variables has all of them, whatever they are given, and no others.
 use Rattle.std.proofs.Common.{◌≡◌, Bool, true, false, cond, List, [], ◌∷◌, map, Option, Some, None, is_some, bytes_eq, refl, ap, sym, ◌∙◌}
-use Rattle.gql_ast.specs.declared.variable.VariableDef.{VariableDef}
-use Rattle.gql_plain.specs.Order.{member_at}
+use Rattle.plan_ir.specs.gql_ast.declared.variable.VariableDef.{VariableDef}
+use Rattle.plan_ir.specs.gql_plain.Order.{member_at}
 use Rattle.plan_ir.specs.Substitution.{default_named}
 use Rattle.plan_read.specs.Laws.{AreLocals}
-use Rattle.plan_text.proofs.Evaluating.{found-with_pair}
-use Rattle.relay_dirs.specs.Locals.{locals_of}
-use Rattle.relay_dirs.specs.View.{local_view}
-use Rattle.schema_tables.specs.Types.{Text}
-use Rattle.schema_types.specs.Environments.{Values, environment, value_or_default}
-use Rattle.schema_types.specs.Sites.{FragmentAt}
+use Rattle.plan_read.proofs.plan_text_laws.Evaluating.{found-with_pair}
+use Rattle.plan_ir.specs.relay_dirs.Locals.{locals_of}
+use Rattle.plan_ir.specs.relay_dirs.View.{local_view}
+use Rattle.plan_ir.specs.schema_tables.Types.{Text}
+use Rattle.plan_ir.specs.schema_types.Environments.{Values, environment, value_or_default}
+use Rattle.plan_ir.specs.schema_types.Sites.{FragmentAt}
 
 some_if : {A : Type 0} (b : Bool) (x : A) (o : Option A) → is_some (cond b (Some x) o) ≡ cond b true (is_some o)
 some_if true x o = refl

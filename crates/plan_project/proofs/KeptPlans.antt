@@ -1,17 +1,17 @@
 -- What is kept of the operations and the fragments of an accepted project is what the documents have.
 use Rattle.std.proofs.Common.{◌≡◌, ◌≤◌, ℕ, ◌+◌, Bool, true, cond, List, [], ◌∷◌, length, map, take, Option, Some, None, option_map, is_some, refl, ap, sym, subst, ◌∙◌}
-use Rattle.gql_ast.specs.declared.document.Document.{Document}
-use Rattle.gql_ast.specs.declared.document.Fragment.{Fragment}
-use Rattle.gql_ast.specs.declared.document.Operation.{Operation}
-use Rattle.gql_ast.specs.declared.place.Placed.{Placed}
-use Rattle.gql_plain.specs.Order.{has_text}
-use Rattle.plan_build.proofs.DocumentsAsNodes.{documents_are_nodes}
-use Rattle.plan_build.proofs.Reaches.{documents_reach_nodes}
-use Rattle.plan_build.proofs.SuitedOperations.{operations_are_suited}
-use Rattle.plan_build.specs.Plans.{IsWellFormed, MeansTheSame, ReachesTheSame}
-use Rattle.plan_build.specs.Suited.{IsSuited}
-use Rattle.plan_expand.specs.Answers.{project, whole_in}
-use Rattle.plan_expand.specs.Places.{place_in}
+use Rattle.plan_ir.specs.gql_ast.declared.document.Document.{Document}
+use Rattle.plan_ir.specs.gql_ast.declared.document.Fragment.{Fragment}
+use Rattle.plan_ir.specs.gql_ast.declared.document.Operation.{Operation}
+use Rattle.plan_ir.specs.gql_ast.declared.place.Placed.{Placed}
+use Rattle.plan_ir.specs.gql_plain.Order.{has_text}
+use Rattle.plan_read.proofs.plan_build_laws.DocumentsAsNodes.{documents_are_nodes}
+use Rattle.plan_read.proofs.plan_build_laws.Reaches.{documents_reach_nodes}
+use Rattle.plan_read.proofs.plan_build_laws.SuitedOperations.{operations_are_suited}
+use Rattle.plan_read.specs.plan_build.Plans.{IsWellFormed, MeansTheSame, ReachesTheSame}
+use Rattle.plan_read.specs.plan_build.Suited.{IsSuited}
+use Rattle.plan_read.specs.plan_expand.Answers.{project, whole_in}
+use Rattle.plan_read.specs.plan_expand.Places.{place_in}
 use Rattle.plan_ir.specs.Expansion.{Whole, name_or, whole_operation}
 use Rattle.plan_ir.specs.NormalMeaning.{is_formed, plan_says}
 use Rattle.plan_ir.specs.NormalReach.{plan_reaches}
@@ -28,16 +28,16 @@ use Rattle.plan_project.specs.Projects.{IsAcceptedProject}
 use Rattle.plan_project.specs.declared.operations.Compiled.{Compiled}
 use Rattle.plan_project.specs.declared.operations.CompiledFragment.{CompiledFragment}
 use Rattle.plan_read.specs.Plans.{reader_in}
-use Rattle.relay_dirs.specs.Locals.{locals_of}
-use Rattle.relay_dirs.specs.View.{local_view}
-use Rattle.relay_model.specs.Readings.{no_place}
-use Rattle.relay_model.specs.Responses.{operation_says}
-use Rattle.schema_tables.specs.Types.{Text, Defs, is_composite, possible, root}
-use Rattle.schema_types.specs.DocumentRules.{places_of}
-use Rattle.schema_types.specs.Environments.{Values}
-use Rattle.schema_types.specs.Sites.{FragmentAt, OperationAt}
+use Rattle.plan_ir.specs.relay_dirs.Locals.{locals_of}
+use Rattle.plan_ir.specs.relay_dirs.View.{local_view}
+use Rattle.plan_read.specs.relay_model.Readings.{no_place}
+use Rattle.plan_read.specs.relay_model.Responses.{operation_says}
+use Rattle.plan_ir.specs.schema_tables.Types.{Text, Defs, is_composite, possible, root}
+use Rattle.plan_ir.specs.schema_types.DocumentRules.{places_of}
+use Rattle.plan_ir.specs.schema_types.Environments.{Values}
+use Rattle.plan_ir.specs.schema_types.Sites.{FragmentAt, OperationAt}
 use Rattle.serde_json.specs.Data as J
-use Rattle.store_model.specs.Walks.{type_of_record}
+use Rattle.plan_ir.specs.store_model.Walks.{type_of_record}
 
 -- what holds of both, where both are there
 pub agree_so : {X Y : Type 0} (P Q : X → Y → Type 0) → ((x : X) (y : Y) → P x y → Q x y) → (a : Option X) (b : Option Y) → Agree P a b → Agree Q a b

@@ -1,9 +1,9 @@
 -- The plans by which operations and fragments of an accepted project are read mean reading along the documents.
 use Rattle.std.proofs.Common.{◌≡◌, true, List, [], ◌∷◌, Option, Some, None, IfSome, option_map, is_some, refl, ap, ◌∙◌}
-use Rattle.gql_ast.specs.declared.document.Document.{Document}
-use Rattle.gql_ast.specs.declared.place.Placed.{Placed}
-use Rattle.plan_expand.specs.Answers.{project, whole_in}
-use Rattle.plan_expand.specs.Places.{place_in}
+use Rattle.plan_ir.specs.gql_ast.declared.document.Document.{Document}
+use Rattle.plan_ir.specs.gql_ast.declared.place.Placed.{Placed}
+use Rattle.plan_read.specs.plan_expand.Answers.{project, whole_in}
+use Rattle.plan_read.specs.plan_expand.Places.{place_in}
 use Rattle.plan_ir.specs.Expansion.{Project, Whole, name_or, whole_operation}
 use Rattle.plan_ir.specs.ReaderMeaning.{plan_reads}
 use Rattle.plan_ir.specs.declared.expanded.Expanded.{Expanded}
@@ -18,11 +18,11 @@ use Rattle.plan_read.proofs.ReaderLaws.{readers_mean_fragments, readers_mean_ope
 use Rattle.plan_read.specs.Plans.{reader_in}
 use Rattle.plan_read.specs.Premises.{IsComposite, IsOnComposite}
 use Rattle.plan_read.specs.Steps.{fragment_reader, operation_reader}
-use Rattle.relay_model.specs.Readings.{with_marked}
-use Rattle.schema_tables.specs.Types.{Text, Defs, possible, root}
-use Rattle.schema_types.specs.DocumentRules.{places_of}
-use Rattle.schema_types.specs.Sites.{FragmentAt, OperationAt}
-use Rattle.store_model.specs.Walks.{type_of_record}
+use Rattle.plan_read.specs.relay_model.Readings.{with_marked}
+use Rattle.plan_ir.specs.schema_tables.Types.{Text, Defs, possible, root}
+use Rattle.plan_ir.specs.schema_types.DocumentRules.{places_of}
+use Rattle.plan_ir.specs.schema_types.Sites.{FragmentAt, OperationAt}
+use Rattle.plan_ir.specs.store_model.Walks.{type_of_record}
 
 module _ (defs : Defs) (ps : List (Placed Document)) where
   -- ---- which plans there are

@@ -1,9 +1,9 @@
 -- Lists of which nothing is left, and the least of places of which parts were put together by their least.
 use Rattle.std.proofs.Common.{◌≡◌, ℕ, Bool, true, false, true≢false, cond, List, [], ◌∷◌, ◌++◌, Option, Some, None, refl, sym, ap, ◌∙◌}
-use Rattle.doc_merge.proofs.LeastSteps.{before_steps, not_before}
-use Rattle.doc_merge.specs.Places.{is_before, least, least_from, lower}
-use Rattle.gql_ast.specs.declared.place.FilePlace.{FilePlace}
-use Rattle.gql_graph.specs.Leasts as nodes
+use Rattle.plan_read.proofs.doc_merge_laws.LeastSteps.{before_steps, not_before}
+use Rattle.plan_read.specs.doc_merge.Places.{is_before, least, least_from, lower}
+use Rattle.plan_ir.specs.gql_ast.declared.place.FilePlace.{FilePlace}
+use Rattle.plan_ir.specs.gql_graph.Leasts as nodes
 
 -- ---- nothing
 

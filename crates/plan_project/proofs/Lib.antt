@@ -1,3 +1,5 @@
+pub use Rattle.plan_read.proofs.plan_build_laws
+pub use Rattle.plan_read.proofs as plan_read_laws
 pub mod Codes
 pub mod PlaceSteps
 pub mod PlaceCounts

@@ -1,15 +1,15 @@
 -- What was noted of all definitions is the first fault of what they become.
 use Rattle.std.proofs.Common.{◌≡◌, ℕ, Bool, true, false, true≢false, cond, List, [], ◌∷◌, ◌++◌, Option, Some, None, refl, sym, ap, subst, ◌∙◌}
-use Rattle.doc_merge.proofs.LeastSteps.{least-append}
-use Rattle.doc_merge.specs.Faults.{fault_or, field_differences, values_unfit}
-use Rattle.doc_merge.specs.Places as places
-use Rattle.gql_ast.specs.declared.document.Document.{Document}
-use Rattle.gql_ast.specs.declared.place.FilePlace.{FilePlace}
-use Rattle.gql_ast.specs.declared.place.Placed.{Placed}
-use Rattle.gql_graph.proofs.LeastSteps.{breaks, holds}
-use Rattle.gql_graph.specs.Leasts.{least_from}
-use Rattle.gql_graph.specs.Rules.{each, first_broken}
-use Rattle.plan_expand.specs.Answers.{definitions_in, whole_is}
+use Rattle.plan_read.proofs.doc_merge_laws.LeastSteps.{least-append}
+use Rattle.plan_read.specs.doc_merge.Faults.{fault_or, field_differences, values_unfit}
+use Rattle.plan_read.specs.doc_merge.Places as places
+use Rattle.plan_ir.specs.gql_ast.declared.document.Document.{Document}
+use Rattle.plan_ir.specs.gql_ast.declared.place.FilePlace.{FilePlace}
+use Rattle.plan_ir.specs.gql_ast.declared.place.Placed.{Placed}
+use Rattle.plan_ir.proofs.gql_graph_laws.LeastSteps.{breaks, holds}
+use Rattle.plan_ir.specs.gql_graph.Leasts.{least_from}
+use Rattle.plan_ir.specs.gql_graph.Rules.{each, first_broken}
+use Rattle.plan_read.specs.plan_expand.Answers.{definitions_in, whole_is}
 use Rattle.plan_ir.specs.Expansion.{Whole}
 use Rattle.plan_ir.specs.Sizes.{has_too_many_nodes, is_too_deep}
 use Rattle.plan_project.proofs.LeastLaws.{least_alone, no_nodes, no_places, nothing_first, nothing_then, place_list}
@@ -17,10 +17,10 @@ use Rattle.plan_project.specs.Expansions.{IsWithinLimits, differences_at, merge_
 use Rattle.plan_project.specs.Noting.{IsFaultOfExpansions, HasNotedAll, fields_in, first_fault_of, depth_at, fields_at, first_noted, size_at, values_at, values_in}
 use Rattle.plan_project.specs.declared.fault.DocumentsFault.{DocumentsFault}
 use Rattle.plan_project.specs.declared.least_faults.LeastFaults.{LeastFaults}
-use Rattle.schema_rules.specs.declared.fault.Rule.TheVariants as R
-use Rattle.schema_tables.specs.Types.{Defs}
-use Rattle.schema_trees.specs.Located.{Located}
-use Rattle.schema_types.specs.Sites.{DefinitionAt, operation, fragment}
+use Rattle.plan_ir.specs.schema_rules.declared.fault.Rule.TheVariants as R
+use Rattle.plan_ir.specs.schema_tables.Types.{Defs}
+use Rattle.plan_ir.specs.schema_trees.Located.{Located}
+use Rattle.plan_ir.specs.schema_types.Sites.{DefinitionAt, operation, fragment}
 
 -- ---- one definition
 

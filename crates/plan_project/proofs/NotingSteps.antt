@@ -1,20 +1,20 @@
 -- What becomes of one definition is noted, and what becomes of all.
 use Rattle.std.proofs.Common.{◌≡◌, ℕ, ◌+◌, ◌<◌, List, [], ◌∷◌, length, get_or, drop, map, Option, Some, None, sym, ap, subst, ◌∙◌, add-one, drop-cons}
-use Rattle.doc_merge.proofs.LeastSteps.{least-append}
-use Rattle.doc_merge.specs.Places as places
-use Rattle.doc_merge.specs.declared.fault.PlaceFault.{PlaceFault}
-use Rattle.doc_sites.specs.SitesView.{definition_of}
-use Rattle.doc_sites.specs.declared.site.DefinitionAt as code
-use Rattle.gql_ast.specs.declared.document.Document.{Document}
-use Rattle.gql_ast.specs.declared.place.Placed.{Placed}
-use Rattle.gql_graph.proofs.LeastSteps.{noted-append}
-use Rattle.gql_graph.specs.Leasts.{least_from}
-use Rattle.gql_graph.specs.Rules.{each}
-use Rattle.plan_expand.specs.Answers.{definitions_in}
+use Rattle.plan_read.proofs.doc_merge_laws.LeastSteps.{least-append}
+use Rattle.plan_read.specs.doc_merge.Places as places
+use Rattle.plan_read.specs.doc_merge.declared.fault.PlaceFault.{PlaceFault}
+use Rattle.plan_ir.specs.doc_sites.SitesView.{definition_of}
+use Rattle.plan_ir.specs.doc_sites.declared.site.DefinitionAt as code
+use Rattle.plan_ir.specs.gql_ast.declared.document.Document.{Document}
+use Rattle.plan_ir.specs.gql_ast.declared.place.Placed.{Placed}
+use Rattle.plan_ir.proofs.gql_graph_laws.LeastSteps.{noted-append}
+use Rattle.plan_ir.specs.gql_graph.Leasts.{least_from}
+use Rattle.plan_ir.specs.gql_graph.Rules.{each}
+use Rattle.plan_read.specs.plan_expand.Answers.{definitions_in}
 use Rattle.plan_project.specs.Noting.{depth_at, fields_at, size_at, values_at, values_in, fields_in, HasNotedAll, HasNotedAt, HasNotedFault}
 use Rattle.plan_project.specs.declared.least_faults.LeastFaults.{LeastFaults}
-use Rattle.schema_tables.specs.Types.{Defs}
-use Rattle.schema_types.specs.Sites.{DefinitionAt}
+use Rattle.plan_ir.specs.schema_tables.Types.{Defs}
+use Rattle.plan_ir.specs.schema_types.Sites.{DefinitionAt}
 
 -- what the check said is noted
 pub fault_said : (old new : LeastFaults) (said : Option PlaceFault) (f : PlaceFault) → said ≡ Some f → HasNotedFault old new (Some f) → HasNotedFault old new said

@@ -1,31 +1,31 @@
 -- The node of a fault is one of those that have a place.
 use Rattle.std.proofs.Common.{◌≡◌, ℕ, suc, ◌<◌, Bool, cond, List, [], ◌∷◌, ◌++◌, length, Option, Some, None, IfSome, refl, sym, subst, ◌∙◌, length-append, arith}
 use Rattle.std.specs.List.{AllByRecursion}
-use Rattle.gql_ast.specs.declared.document.Document.{Document}
-use Rattle.gql_ast.specs.declared.place.Placed.{Placed}
-use Rattle.gql_ast.specs.declared.schema.SchemaTree.{SchemaTree}
-use Rattle.gql_graph.specs.Rules.{each, first_broken}
-use Rattle.gql_sdl.specs.Trees.{IsSchema}
-use Rattle.plan_expand.specs.Answers.{definitions_in, whole_is}
+use Rattle.plan_ir.specs.gql_ast.declared.document.Document.{Document}
+use Rattle.plan_ir.specs.gql_ast.declared.place.Placed.{Placed}
+use Rattle.plan_ir.specs.gql_ast.declared.schema.SchemaTree.{SchemaTree}
+use Rattle.plan_ir.specs.gql_graph.Rules.{each, first_broken}
+use Rattle.text_places.specs.gql_sdl.Trees.{IsSchema}
+use Rattle.plan_read.specs.plan_expand.Answers.{definitions_in, whole_is}
 use Rattle.plan_ir.specs.Expansion.{Whole}
 use Rattle.plan_ir.specs.Sizes.{has_too_many_nodes, is_too_deep}
 use Rattle.plan_project.specs.Expansions.{name_node, node_of, size_rules, whole_at}
 use Rattle.plan_project.specs.Projects.{AreDocuments, document_rules, node_rules}
-use Rattle.relay_dirs.proofs.RulePlaces.{relay_rules_below}
-use Rattle.relay_dirs.specs.RelayRules.{relay_rules}
-use Rattle.schema_rules.proofs.RulePlaces.{fault_below}
-use Rattle.schema_rules.specs.Checked.{first_fault}
-use Rattle.schema_rules.specs.declared.fault.NodeFault.{NodeFault}
-use Rattle.schema_rules.specs.declared.fault.Rule.{Rule}
-use Rattle.schema_tables.specs.Types.{Text, Defs}
-use Rattle.schema_trees.proofs.BelowSteps.{all_append, below_cond, below_each, below_first}
-use Rattle.schema_trees.specs.Located.{Located}
-use Rattle.schema_trees.specs.Numbers.{Below, HoldsName}
-use Rattle.schema_types.proofs.RulePlaces.{name_rules_below, field_rules_below, argument_rules_below}
-use Rattle.schema_types.proofs.SiteNumberLaws.{all_below}
-use Rattle.schema_types.specs.DocumentRules.{name_rules, field_rules, argument_rules, trees_of, places_of}
-use Rattle.schema_types.specs.SiteNumbers.{DefinitionBelow, DefinitionsBelow, documents_nodes}
-use Rattle.schema_types.specs.Sites.{DefinitionAt, all_definitions, fragment, operation}
+use Rattle.plan_ir.proofs.relay_dirs_laws.RulePlaces.{relay_rules_below}
+use Rattle.plan_ir.specs.relay_dirs.RelayRules.{relay_rules}
+use Rattle.plan_ir.proofs.schema_rules_laws.RulePlaces.{fault_below}
+use Rattle.plan_ir.specs.schema_rules.Checked.{first_fault}
+use Rattle.plan_ir.specs.schema_rules.declared.fault.NodeFault.{NodeFault}
+use Rattle.plan_ir.specs.schema_rules.declared.fault.Rule.{Rule}
+use Rattle.plan_ir.specs.schema_tables.Types.{Text, Defs}
+use Rattle.plan_ir.proofs.schema_trees_laws.BelowSteps.{all_append, below_cond, below_each, below_first}
+use Rattle.plan_ir.specs.schema_trees.Located.{Located}
+use Rattle.plan_ir.specs.schema_trees.Numbers.{Below, HoldsName}
+use Rattle.plan_ir.proofs.schema_types_laws.RulePlaces.{name_rules_below, field_rules_below, argument_rules_below}
+use Rattle.plan_ir.proofs.schema_types_laws.SiteNumberLaws.{all_below}
+use Rattle.plan_ir.specs.schema_types.DocumentRules.{name_rules, field_rules, argument_rules, trees_of, places_of}
+use Rattle.plan_ir.specs.schema_types.SiteNumbers.{DefinitionBelow, DefinitionsBelow, documents_nodes}
+use Rattle.plan_ir.specs.schema_types.Sites.{DefinitionAt, all_definitions, fragment, operation}
 use Rattle.text_places.proofs.PlaceCounts.{schema_places, document_places}
 
 -- of a schema that was read

@@ -1,11 +1,11 @@
 -- Steps of the way to a node's place.
 use Rattle.std.proofs.Common.{◌≡◌, ℕ, zero, suc, ◌+◌, ◌<◌, List, [], ◌∷◌, ◌++◌, Some, length, drop, get_or, refl, ap, subst, ◌∙◌, sym, arith}
 use Rattle.std.proofs.lemmas.List.{drop_more}
-use Rattle.gql_ast.specs.declared.document.Document.{Document}
-use Rattle.gql_ast.specs.declared.place.FilePlace.{FilePlace}
-use Rattle.gql_ast.specs.declared.place.Placed.{Placed}
+use Rattle.plan_ir.specs.gql_ast.declared.document.Document.{Document}
+use Rattle.plan_ir.specs.gql_ast.declared.place.FilePlace.{FilePlace}
+use Rattle.plan_ir.specs.gql_ast.declared.place.Placed.{Placed}
 use Rattle.plan_project.specs.Faults.{place_at}
-use Rattle.schema_types.specs.DocumentRules.{places_of}
+use Rattle.plan_ir.specs.schema_types.DocumentRules.{places_of}
 
 pub place_found : (xs : List FilePlace) (n : ℕ) (d : FilePlace) → n < length xs → place_at xs n ≡ Some (get_or xs n d)
 place_found [] n d h = absurd (omega arith)

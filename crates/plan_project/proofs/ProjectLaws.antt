@@ -1,21 +1,21 @@
 -- Files are one project at most, or have one fault at most, and not both.
 use Rattle.std.proofs.Common.{◌≡◌, ◌⊎◌, ◌==◌, ℕ, suc, cond, List, [], ◌∷◌, Option, Some, None, Result, Ok, Err, sym, ap, subst, inl, inr, ◌∙◌}
-use Rattle.doc_merge.specs.declared.fault.PlaceFault.{PlaceFault}
-use Rattle.gql_ast.specs.declared.document.Document.{Document}
-use Rattle.gql_ast.specs.declared.fault.ParseFault.{ParseFault}
-use Rattle.gql_ast.specs.declared.fault.ParseFault.TheVariants.{Syntax, NoMemory as NoRoom}
-use Rattle.gql_ast.specs.declared.fault.SyntaxFault.{SyntaxFault}
-use Rattle.gql_ast.specs.declared.place.FilePlace.{FilePlace}
-use Rattle.gql_ast.specs.declared.place.Placed.{Placed}
-use Rattle.gql_ast.specs.declared.schema.SchemaTree.{SchemaTree}
-use Rattle.gql_graph.specs.Rules.{first_broken}
-use Rattle.gql_parse.specs.Documents.{documents, nodes_of}
-use Rattle.gql_parse.specs.Trees.{IsDocument}
-use Rattle.gql_sdl.specs.Schemas as sdl
-use Rattle.gql_sdl.specs.Trees.{IsSchema}
-use Rattle.gql_syntax.proofs.OneFault.{no_parse_fault, one_parse_fault}
-use Rattle.gql_syntax.specs.FirstFault.{Grammar}
-use Rattle.gql_syntax.specs.Texts.{IsParseFault}
+use Rattle.plan_read.specs.doc_merge.declared.fault.PlaceFault.{PlaceFault}
+use Rattle.plan_ir.specs.gql_ast.declared.document.Document.{Document}
+use Rattle.plan_ir.specs.gql_ast.declared.fault.ParseFault.{ParseFault}
+use Rattle.plan_ir.specs.gql_ast.declared.fault.ParseFault.TheVariants.{Syntax, NoMemory as NoRoom}
+use Rattle.plan_ir.specs.gql_ast.declared.fault.SyntaxFault.{SyntaxFault}
+use Rattle.plan_ir.specs.gql_ast.declared.place.FilePlace.{FilePlace}
+use Rattle.plan_ir.specs.gql_ast.declared.place.Placed.{Placed}
+use Rattle.plan_ir.specs.gql_ast.declared.schema.SchemaTree.{SchemaTree}
+use Rattle.plan_ir.specs.gql_graph.Rules.{first_broken}
+use Rattle.text_places.specs.gql_parse.Documents.{documents, nodes_of}
+use Rattle.text_places.specs.gql_parse.Trees.{IsDocument}
+use Rattle.text_places.specs.gql_sdl.Schemas as sdl
+use Rattle.text_places.specs.gql_sdl.Trees.{IsSchema}
+use Rattle.plan_ir.proofs.gql_syntax_laws.OneFault.{no_parse_fault, one_parse_fault}
+use Rattle.plan_ir.specs.gql_syntax.FirstFault.{Grammar}
+use Rattle.plan_ir.specs.gql_syntax.Texts.{IsParseFault}
 use Rattle.plan_project.proofs.DocumentLaws.{only_of}
 use Rattle.plan_project.specs.Faults.{place_at, fault_at, IsFound}
 use Rattle.plan_project.proofs.RuleLaws.{all_nodes}
@@ -24,12 +24,12 @@ use Rattle.plan_project.specs.Projects.{AreDocuments, AreTrees, IsAcceptedProjec
 use Rattle.plan_project.specs.Verdicts.{IsTheProject, IsTheFault, IsRefusal, Files, texts_of, AreTheProject, HaveTheFault, AreOnlyDocuments, AreNoDocuments, IsFaultOf}
 use Rattle.plan_project.specs.declared.compiling.CompileFault.{CompileFault}
 use Rattle.plan_project.specs.declared.compiling.CompileFault.TheVariants.{Refused, NoMemory}
-use Rattle.schema_rules.specs.Checked.{IsSound}
-use Rattle.schema_types.specs.DocumentRules.{Meet, places_of}
-use Rattle.schema_tables.specs.Types.{Text, Defs}
+use Rattle.plan_ir.specs.schema_rules.Checked.{IsSound}
+use Rattle.plan_ir.specs.schema_types.DocumentRules.{Meet, places_of}
+use Rattle.plan_ir.specs.schema_tables.Types.{Text, Defs}
 use Rattle.plan_project.specs.declared.fault.ProjectFault.{ProjectFault}
-use Rattle.schema_rules.specs.declared.fault.Rule.{Rule}
-use Rattle.schema_rules.specs.declared.fault.Rule.TheVariants as R
+use Rattle.plan_ir.specs.schema_rules.declared.fault.Rule.{Rule}
+use Rattle.plan_ir.specs.schema_rules.declared.fault.Rule.TheVariants as R
 
 -- ---- faults of texts
 

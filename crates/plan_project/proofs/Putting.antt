@@ -1,13 +1,13 @@
 -- One definition is put into a table, under its name.
 use Rattle.std.proofs.Common.{◌≡◌, true, cond, Option, Some, None, is_some, bytes_eq, ap, sym, subst, ◌∙◌}
-use Rattle.gql_ast.specs.declared.document.Definition.{Definition}
-use Rattle.gql_ast.specs.declared.document.Definition.TheVariants as D
-use Rattle.gql_ast.specs.declared.document.Fragment.{Fragment}
-use Rattle.gql_ast.specs.declared.document.Operation.{Operation}
-use Rattle.gql_graph.proofs.TextSteps.{same_self}
+use Rattle.plan_ir.specs.gql_ast.declared.document.Definition.{Definition}
+use Rattle.plan_ir.specs.gql_ast.declared.document.Definition.TheVariants as D
+use Rattle.plan_ir.specs.gql_ast.declared.document.Fragment.{Fragment}
+use Rattle.plan_ir.specs.gql_ast.declared.document.Operation.{Operation}
+use Rattle.plan_ir.proofs.gql_graph_laws.TextSteps.{same_self}
 use Rattle.plan_project.proofs.Looking.{takes_nothing, takes_one}
 use Rattle.plan_project.specs.Filling.{Takes, fragment_under, operation_by, operation_under, or_else}
-use Rattle.schema_tables.specs.Types.{Text}
+use Rattle.plan_ir.specs.schema_tables.Types.{Text}
 
 -- ---- operations
 

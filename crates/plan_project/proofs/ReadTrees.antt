@@ -1,34 +1,34 @@
 -- The definitions of documents that are read, with their places: they are sound, and their variables lie within the limit of nesting.
 use Rattle.std.proofs.Common.{◌≡◌, ◌≤◌, ℕ, suc, ◌+◌, List, [], ◌∷◌, ◌++◌, map, Option, Some, None, refl, sym, subst, arith}
 use Rattle.std.specs.List.{AllByRecursion}
-use Rattle.gql_ast.specs.Sels as sels
-use Rattle.gql_ast.specs.Sels.{Sels}
-use Rattle.gql_ast.specs.TypeView.{ty_of}
-use Rattle.gql_ast.specs.Value.{val_depth}
-use Rattle.gql_ast.specs.ValueView.{value_of}
-use Rattle.gql_ast.specs.declared.document.Definition.{Definition}
-use Rattle.gql_ast.specs.declared.document.Definition.TheVariants as D
-use Rattle.gql_ast.specs.declared.document.Document.{Document}
-use Rattle.gql_ast.specs.declared.document.Fragment.{Fragment}
-use Rattle.gql_ast.specs.declared.document.Operation.{Operation}
-use Rattle.gql_ast.specs.declared.place.Placed.{Placed}
-use Rattle.gql_ast.specs.declared.value.ValueTree.{ValueTree}
-use Rattle.gql_ast.specs.declared.variable.VariableDef.{VariableDef}
-use Rattle.gql_parse.specs.Documents.{FormedWritten, Written, bare, full, definition_of, spell_braces, spell_definition, spell_definitions, spell_name, spell_on, spell_optional_name, spell_selections, spell_set, spell_variables, spell_variables_part}
-use Rattle.gql_parse.specs.Trees.{IsDocument}
-use Rattle.gql_syntax.proofs.ArgumentLaws.{arguments_depth_from}
-use Rattle.gql_syntax.proofs.DirectiveLaws.{DirectivesWithin, directives_depth_from}
-use Rattle.gql_syntax.proofs.Standing.{level_mark}
-use Rattle.gql_syntax.proofs.TypeLaws.{list_depth, type_depth_from}
-use Rattle.gql_syntax.proofs.ValueLaws.{value_depth_from}
-use Rattle.gql_syntax.specs.FirstFault.{Shallow}
-use Rattle.gql_syntax.specs.Spelling.{spell_arguments, spell_default, spell_directives}
-use Rattle.gql_syntax.specs.Texts.{nesting_limit}
+use Rattle.plan_ir.specs.gql_ast.Sels as sels
+use Rattle.plan_ir.specs.gql_ast.Sels.{Sels}
+use Rattle.plan_ir.specs.gql_ast.TypeView.{ty_of}
+use Rattle.plan_ir.specs.gql_ast.Value.{val_depth}
+use Rattle.plan_ir.specs.gql_ast.ValueView.{value_of}
+use Rattle.plan_ir.specs.gql_ast.declared.document.Definition.{Definition}
+use Rattle.plan_ir.specs.gql_ast.declared.document.Definition.TheVariants as D
+use Rattle.plan_ir.specs.gql_ast.declared.document.Document.{Document}
+use Rattle.plan_ir.specs.gql_ast.declared.document.Fragment.{Fragment}
+use Rattle.plan_ir.specs.gql_ast.declared.document.Operation.{Operation}
+use Rattle.plan_ir.specs.gql_ast.declared.place.Placed.{Placed}
+use Rattle.plan_ir.specs.gql_ast.declared.value.ValueTree.{ValueTree}
+use Rattle.plan_ir.specs.gql_ast.declared.variable.VariableDef.{VariableDef}
+use Rattle.text_places.specs.gql_parse.Documents.{FormedWritten, Written, bare, full, definition_of, spell_braces, spell_definition, spell_definitions, spell_name, spell_on, spell_optional_name, spell_selections, spell_set, spell_variables, spell_variables_part}
+use Rattle.text_places.specs.gql_parse.Trees.{IsDocument}
+use Rattle.plan_ir.proofs.gql_syntax_laws.ArgumentLaws.{arguments_depth_from}
+use Rattle.plan_ir.proofs.gql_syntax_laws.DirectiveLaws.{DirectivesWithin, directives_depth_from}
+use Rattle.plan_ir.proofs.gql_syntax_laws.Standing.{level_mark}
+use Rattle.plan_ir.proofs.gql_syntax_laws.TypeLaws.{list_depth, type_depth_from}
+use Rattle.plan_ir.proofs.gql_syntax_laws.ValueLaws.{value_depth_from}
+use Rattle.plan_ir.specs.gql_syntax.FirstFault.{Shallow}
+use Rattle.plan_ir.specs.gql_syntax.Spelling.{spell_arguments, spell_default, spell_directives}
+use Rattle.plan_ir.specs.gql_syntax.Texts.{nesting_limit}
 use Rattle.plan_project.proofs.SoundTrees.{AreSaid, SoundDefinition, definition_sound, tokens_said}
 use Rattle.plan_project.specs.Projects.{AreDocuments}
-use Rattle.schema_types.specs.DocumentRules.{trees_of}
-use Rattle.schema_types.specs.Sites.{DefinitionAt, FragmentAt, OperationAt, all_definitions, definition_nodes, definitions_at, document_nodes, documents_at, fragment, fragment_at, operation, operation_at}
-use Rattle.schema_tables.specs.Types.{Text, Defs}
+use Rattle.plan_ir.specs.schema_types.DocumentRules.{trees_of}
+use Rattle.plan_ir.specs.schema_types.Sites.{DefinitionAt, FragmentAt, OperationAt, all_definitions, definition_nodes, definitions_at, document_nodes, documents_at, fragment, fragment_at, operation, operation_at}
+use Rattle.plan_ir.specs.schema_tables.Types.{Text, Defs}
 
 -- ---- the levels of variables
 

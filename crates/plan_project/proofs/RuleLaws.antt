@@ -1,21 +1,21 @@
 -- The rules on documents in four groups, one after another, and then those on what operations and fragments become.
 use Rattle.std.proofs.Common.{◌≡◌, List, ◌++◌, Some, ◌∙◌}
-use Rattle.gql_ast.specs.declared.document.Document.{Document}
-use Rattle.gql_ast.specs.declared.place.Placed.{Placed}
+use Rattle.plan_ir.specs.gql_ast.declared.document.Document.{Document}
+use Rattle.plan_ir.specs.gql_ast.declared.place.Placed.{Placed}
 use Rattle.plan_project.specs.Expansions.{size_rules}
 use Rattle.plan_project.specs.Noting.{IsFaultOfDocuments, IsFaultOfExpansions}
 use Rattle.plan_project.specs.Projects.{document_rules, node_rules}
 use Rattle.plan_project.specs.declared.fault.DocumentsFault.{DocumentsFault}
 use Rattle.plan_project.specs.declared.fault.DocumentsFault.TheVariants as D
-use Rattle.gql_graph.specs.Rules.{first_broken}
-use Rattle.gql_graph.proofs.LeastSteps.{first_before, first_after}
-use Rattle.relay_dirs.specs.RelayRules.{relay_rules}
-use Rattle.schema_types.specs.DocumentRules.{Rules, name_rules, field_rules, argument_rules, trees_of, Meet, BreakRule, AreFaulty}
-use Rattle.schema_types.specs.Sites.{DefinitionAt, all_definitions}
-use Rattle.schema_tables.specs.Types.{Defs}
-use Rattle.schema_rules.specs.declared.fault.NodeFault.{NodeFault}
-use Rattle.schema_rules.specs.declared.fault.RuleFault.{RuleFault}
-use Rattle.schema_rules.specs.declared.fault.RuleFault.TheVariants as F
+use Rattle.plan_ir.specs.gql_graph.Rules.{first_broken}
+use Rattle.plan_ir.proofs.gql_graph_laws.LeastSteps.{first_before, first_after}
+use Rattle.plan_ir.specs.relay_dirs.RelayRules.{relay_rules}
+use Rattle.plan_ir.specs.schema_types.DocumentRules.{Rules, name_rules, field_rules, argument_rules, trees_of, Meet, BreakRule, AreFaulty}
+use Rattle.plan_ir.specs.schema_types.Sites.{DefinitionAt, all_definitions}
+use Rattle.plan_ir.specs.schema_tables.Types.{Defs}
+use Rattle.plan_ir.specs.schema_rules.declared.fault.NodeFault.{NodeFault}
+use Rattle.plan_ir.specs.schema_rules.declared.fault.RuleFault.{RuleFault}
+use Rattle.plan_ir.specs.schema_rules.declared.fault.RuleFault.TheVariants as F
 
 module _ (defs : Defs) (ps : List (Placed Document)) where
   abbrev ds : List DefinitionAt

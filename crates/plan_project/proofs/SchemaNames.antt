@@ -6,13 +6,13 @@ use Rattle.std.specs.Option.{IfSome}
 use Rattle.std.specs.Ordering.{nat_cmp, match_ordering}
 use Rattle.std.specs.declared.cmp.Ordering.{Ordering}
 use Rattle.std.specs.declared.cmp.Ordering.TheVariants.{Less, Equal, Greater}
-use Rattle.gql_ast.specs.declared.place.Placed.{Placed}
-use Rattle.gql_ast.specs.declared.schema.SchemaTree.{SchemaTree}
-use Rattle.gql_plain.specs.Order.{sorted_texts, with_text}
-use Rattle.gql_sdl.specs.Schemas.{Described, FormedWritten, Written, schema, scalar, object, interface, union, enum, input, directive, definition_of, written_of}
-use Rattle.gql_sdl.specs.Trees.{IsSchema}
-use Rattle.gql_syntax.specs.Words.{IsName}
-use Rattle.schema_tables.specs.Types.{Text, Defs, applies, object_name, possible}
+use Rattle.plan_ir.specs.gql_ast.declared.place.Placed.{Placed}
+use Rattle.plan_ir.specs.gql_ast.declared.schema.SchemaTree.{SchemaTree}
+use Rattle.plan_ir.specs.gql_plain.Order.{sorted_texts, with_text}
+use Rattle.text_places.specs.gql_sdl.Schemas.{Described, FormedWritten, Written, schema, scalar, object, interface, union, enum, input, directive, definition_of, written_of}
+use Rattle.text_places.specs.gql_sdl.Trees.{IsSchema}
+use Rattle.plan_ir.specs.gql_syntax.Words.{IsName}
+use Rattle.plan_ir.specs.schema_tables.Types.{Text, Defs, applies, object_name, possible}
 
 one : (w : Written) → FormedWritten w → IfSome (object_name (written_of w)) IsName
 one (schema ds rs) h = tt

@@ -3,22 +3,22 @@ use Rattle.std.proofs.Common.{◌≡◌, ◌≤◌, ℕ, ◌+◌, ◌-◌, false
 use Rattle.std.proofs.Math.Nat.{le-max_left, le-max_right, max-le}
 use Rattle.std.proofs.lemmas.Bool.{leb-false, or_parts}
 use Rattle.std.specs.List.{AllByRecursion}
-use Rattle.gql_ast.specs.TypeView.{ty_of}
-use Rattle.gql_ast.specs.Value.{Val, Vals, Members, variable, int, text, truth, null, enum, list, object, no_vals, val, no_members, member, members_of, members_depth, val_depth, vals_depth}
-use Rattle.gql_ast.specs.ValueView.{value_of}
-use Rattle.gql_ast.specs.declared.directive.Directive.{Directive}
-use Rattle.gql_ast.specs.declared.value.ValueTree.{ValueTree}
-use Rattle.gql_ast.specs.declared.variable.VariableDef.{VariableDef}
-use Rattle.gql_parse.specs.Documents.{documents, spell_braces, spell_name, spell_on, spell_selections, spell_set, spell_variables, spell_variables_part}
-use Rattle.gql_syntax.proofs.ArgumentLaws.{arguments_depth_to}
-use Rattle.gql_syntax.proofs.BuiltTrees.{value_of-value_tree}
-use Rattle.gql_syntax.proofs.DirectiveLaws.{DirectivesWithin, directives_depth_to}
-use Rattle.gql_syntax.proofs.Standing.{level_mark}
-use Rattle.gql_syntax.proofs.TypeLaws.{type_depth_to}
-use Rattle.gql_syntax.proofs.ValueLaws.{value_depth_to}
-use Rattle.gql_syntax.specs.FirstFault.{Shallow}
-use Rattle.gql_syntax.specs.Spelling.{spell_arguments, spell_default, spell_directives, spell_value}
-use Rattle.gql_syntax.specs.Texts.{nesting_limit}
+use Rattle.plan_ir.specs.gql_ast.TypeView.{ty_of}
+use Rattle.plan_ir.specs.gql_ast.Value.{Val, Vals, Members, variable, int, text, truth, null, enum, list, object, no_vals, val, no_members, member, members_of, members_depth, val_depth, vals_depth}
+use Rattle.plan_ir.specs.gql_ast.ValueView.{value_of}
+use Rattle.plan_ir.specs.gql_ast.declared.directive.Directive.{Directive}
+use Rattle.plan_ir.specs.gql_ast.declared.value.ValueTree.{ValueTree}
+use Rattle.plan_ir.specs.gql_ast.declared.variable.VariableDef.{VariableDef}
+use Rattle.text_places.specs.gql_parse.Documents.{documents, spell_braces, spell_name, spell_on, spell_selections, spell_set, spell_variables, spell_variables_part}
+use Rattle.plan_ir.proofs.gql_syntax_laws.ArgumentLaws.{arguments_depth_to}
+use Rattle.plan_ir.proofs.gql_syntax_laws.BuiltTrees.{value_of-value_tree}
+use Rattle.plan_ir.proofs.gql_syntax_laws.DirectiveLaws.{DirectivesWithin, directives_depth_to}
+use Rattle.plan_ir.proofs.gql_syntax_laws.Standing.{level_mark}
+use Rattle.plan_ir.proofs.gql_syntax_laws.TypeLaws.{type_depth_to}
+use Rattle.plan_ir.proofs.gql_syntax_laws.ValueLaws.{value_depth_to}
+use Rattle.plan_ir.specs.gql_syntax.FirstFault.{Shallow}
+use Rattle.plan_ir.specs.gql_syntax.Spelling.{spell_arguments, spell_default, spell_directives, spell_value}
+use Rattle.plan_ir.specs.gql_syntax.Texts.{nesting_limit}
 use Rattle.plan_ir.specs.Expansion.{Whole}
 use Rattle.plan_ir.specs.Nodes.{Nodes, end, field, inline, set_depth}
 use Rattle.plan_ir.specs.OperationText.{by_name, used_variables}
@@ -26,11 +26,11 @@ use Rattle.plan_ir.specs.Sizes.{all_depth, arguments_depth, directives_depth, is
 use Rattle.plan_ir.specs.Substitution.{Arguments}
 use Rattle.plan_ir.specs.declared.expanded.Expanded.{Expanded}
 use Rattle.plan_project.proofs.ReadTrees.{DefaultWithin, VariableWithin, VariablesWithin}
-use Rattle.plan_text.proofs.OperationRead.{all-filter}
-use Rattle.plan_text.proofs.ValuesRead.{all-by_name}
-use Rattle.plan_text.specs.Documents.{document_parts}
-use Rattle.plan_text.specs.Printed.{alias_of, printed_arguments, printed_default, printed_directives, printed_members, printed_pair, printed_selections, printed_value, printed_values, printed_variable}
-use Rattle.schema_tables.specs.Types.{Text}
+use Rattle.plan_read.proofs.plan_text_laws.OperationRead.{all-filter}
+use Rattle.plan_read.proofs.plan_text_laws.ValuesRead.{all-by_name}
+use Rattle.plan_read.specs.plan_text.Documents.{document_parts}
+use Rattle.plan_read.specs.plan_text.Printed.{alias_of, printed_arguments, printed_default, printed_directives, printed_members, printed_pair, printed_selections, printed_value, printed_values, printed_variable}
+use Rattle.plan_ir.specs.schema_tables.Types.{Text}
 
 -- ---- the two of a maximum
 

@@ -2,18 +2,18 @@
 use Rattle.std.proofs.Common.{ℕ, ◌+◌, Bool, true, false, cond, List, [], ◌∷◌, codes, Option, Some, None, is_some, bytes_eq}
 use Rattle.std.specs.List.{AllByRecursion}
 use Rattle.std.specs.Option.{IfSome}
-use Rattle.gql_ast.specs.Ty.{Ty}
-use Rattle.gql_ast.specs.Value.{Val, Members, variable, int, text, truth, null, enum, list, object, no_members, member}
-use Rattle.gql_ast.specs.declared.directive.Directive.{Directive}
-use Rattle.gql_graph.specs.Rules.{each}
+use Rattle.plan_ir.specs.gql_ast.Ty.{Ty}
+use Rattle.plan_ir.specs.gql_ast.Value.{Val, Members, variable, int, text, truth, null, enum, list, object, no_members, member}
+use Rattle.plan_ir.specs.gql_ast.declared.directive.Directive.{Directive}
+use Rattle.plan_ir.specs.gql_graph.Rules.{each}
 use Rattle.plan_project.proofs.ReadTrees.{all_append}
 use Rattle.plan_project.proofs.SoundNodes.{SoundLocal}
 use Rattle.plan_project.proofs.SoundTrees.{SoundArguments, SoundDirectives, SoundMembers, SoundValue}
-use Rattle.relay_dirs.specs.Locals.{Local, LocalObject, and_next, as_list, defines_locals, local_at, local_of, locals_of, members_from, object_by, of_said, of_text, with_default, with_member, with_type, with_type_text}
-use Rattle.relay_dirs.specs.TypeTexts.{type_in}
-use Rattle.schema_tables.specs.Types.{Text}
-use Rattle.schema_trees.specs.Located.{value_nodes}
-use Rattle.schema_types.specs.Sites.{arguments_at, arguments_nodes, directives_at}
+use Rattle.plan_ir.specs.relay_dirs.Locals.{Local, LocalObject, and_next, as_list, defines_locals, local_at, local_of, locals_of, members_from, object_by, of_said, of_text, with_default, with_member, with_type, with_type_text}
+use Rattle.plan_ir.specs.relay_dirs.TypeTexts.{type_in}
+use Rattle.plan_ir.specs.schema_tables.Types.{Text}
+use Rattle.plan_ir.specs.schema_trees.Located.{value_nodes}
+use Rattle.plan_ir.specs.schema_types.Sites.{arguments_at, arguments_nodes, directives_at}
 
 abbrev SoundObject : LocalObject → Type 0
 SoundObject s = IfSome s.default SoundValue

@@ -2,14 +2,14 @@
 use Rattle.std.proofs.Common.{◌≡◌, ℕ, zero, suc, ◌+◌, Bool, true, false, not, ◌&&◌, cond, List, [], ◌∷◌, ◌++◌, map, codes, Option, Some, None, is_some, bytes_eq, refl, sym, subst}
 use Rattle.std.specs.List.{AllByRecursion, filter}
 use Rattle.std.specs.Option.{IfSome}
-use Rattle.gql_ast.specs.Sels as sels
-use Rattle.gql_ast.specs.Sels.{Sels}
-use Rattle.gql_ast.specs.Value.{Val, Vals, Members, variable, int, text, truth, null, enum, list, object, no_vals, val, no_members, member}
-use Rattle.gql_ast.specs.declared.directive.Directive.{Directive}
-use Rattle.gql_ast.specs.declared.place.FilePlace.{FilePlace}
-use Rattle.gql_graph.specs.Rules.{each}
-use Rattle.gql_parse.specs.Documents.{SomeSelection}
-use Rattle.gql_syntax.specs.Words.{IsName}
+use Rattle.plan_ir.specs.gql_ast.Sels as sels
+use Rattle.plan_ir.specs.gql_ast.Sels.{Sels}
+use Rattle.plan_ir.specs.gql_ast.Value.{Val, Vals, Members, variable, int, text, truth, null, enum, list, object, no_vals, val, no_members, member}
+use Rattle.plan_ir.specs.gql_ast.declared.directive.Directive.{Directive}
+use Rattle.plan_ir.specs.gql_ast.declared.place.FilePlace.{FilePlace}
+use Rattle.plan_ir.specs.gql_graph.Rules.{each}
+use Rattle.text_places.specs.gql_parse.Documents.{SomeSelection}
+use Rattle.plan_ir.specs.gql_syntax.Words.{IsName}
 use Rattle.plan_ir.specs.Additions.{additions, connection_additions, edges_field, has_bare, id_additions, id_field, ids_on, is_abstract, leaf_on, node_field, or_typename, page_info_field, record_additions, type_on, type_or, typename_additions, typename_field}
 use Rattle.plan_ir.specs.Expansion.{Project, directives_such, enter_with, expansion, expansion_with, is_condition, is_printed, response_key, selections_from}
 use Rattle.plan_ir.specs.Nodes.{Nodes, end, field, inline, nodes_append}
@@ -17,14 +17,14 @@ use Rattle.plan_ir.specs.Substitution.{Arguments, Scope, arguments_at_spread, ar
 use Rattle.plan_project.proofs.SchemaNames.{PossibleNames}
 use Rattle.plan_project.proofs.SoundTrees.{SoundArguments, SoundDirective, SoundDirectives, SoundMembers, SoundSelections, SoundSet, SoundValue, SoundValues}
 use Rattle.plan_project.proofs.SpreadChains.{AllSpreads, Bounded, all_found, spreads_map}
-use Rattle.plan_text.proofs.OperationRead.{all-filter}
-use Rattle.plan_text.specs.Documents.{SomeNode}
-use Rattle.relay_dirs.specs.Connections.{connection_among, value_of_name}
-use Rattle.relay_dirs.specs.Locals.{Local, locals_of}
-use Rattle.schema_tables.specs.Types.{Text, Defs, base_of, has_id, possible}
-use Rattle.schema_trees.specs.Located.{directives_nodes}
-use Rattle.schema_types.specs.NameRules.{fragment_named}
-use Rattle.schema_types.specs.Sites.{FragmentAt, arguments_nodes, below, condition_or, field_type, head_nodes, optional_name_nodes, selections_nodes}
+use Rattle.plan_read.proofs.plan_text_laws.OperationRead.{all-filter}
+use Rattle.plan_read.specs.plan_text.Documents.{SomeNode}
+use Rattle.plan_ir.specs.relay_dirs.Connections.{connection_among, value_of_name}
+use Rattle.plan_ir.specs.relay_dirs.Locals.{Local, locals_of}
+use Rattle.plan_ir.specs.schema_tables.Types.{Text, Defs, base_of, has_id, possible}
+use Rattle.plan_ir.specs.schema_trees.Located.{directives_nodes}
+use Rattle.plan_ir.specs.schema_types.NameRules.{fragment_named}
+use Rattle.plan_ir.specs.schema_types.Sites.{FragmentAt, arguments_nodes, below, condition_or, field_type, head_nodes, optional_name_nodes, selections_nodes}
 
 abbrev pub SoundNodes : Nodes → Type 0
 SoundNodes end = Unit {0}

@@ -1,24 +1,24 @@
 -- What the rules give of the fragments and the operations of documents that are read.
 use Rattle.std.proofs.Common.{◌≡◌, ℕ, ◌+◌, Bool, true, false, cond, List, [], ◌∷◌, ◌++◌, Option, Some, None, refl, sym, subst}
 use Rattle.std.specs.List.{AllByRecursion}
-use Rattle.gql_ast.specs.declared.document.Document.{Document}
-use Rattle.gql_ast.specs.declared.place.Placed.{Placed}
-use Rattle.gql_graph.proofs.TextSteps.{same_text}
-use Rattle.gql_graph.specs.Rules.{each, first_broken}
+use Rattle.plan_ir.specs.gql_ast.declared.document.Document.{Document}
+use Rattle.plan_ir.specs.gql_ast.declared.place.Placed.{Placed}
+use Rattle.plan_ir.proofs.gql_graph_laws.TextSteps.{same_text}
+use Rattle.plan_ir.specs.gql_graph.Rules.{each, first_broken}
 use Rattle.plan_ir.specs.Expansion.{is_named, operation_named}
 use Rattle.plan_project.proofs.ReadTrees.{ReadAt, ReadFragment, ReadOperation}
 use Rattle.plan_project.proofs.SoundLocals.{locals_sound}
 use Rattle.plan_project.proofs.SoundNodes.{SoundFragment}
 use Rattle.plan_project.proofs.SpreadChains.{HasSites, Meets, names_of, none_each}
 use Rattle.plan_project.specs.Projects.{document_rules}
-use Rattle.relay_dirs.specs.RelayRules.{relay_rules}
-use Rattle.schema_rules.specs.declared.fault.Rule.{Rule}
-use Rattle.schema_rules.specs.declared.fault.Rule.TheVariants as R
-use Rattle.schema_tables.specs.Types.{Text, Defs}
-use Rattle.schema_trees.specs.Located.{Located, directives_nodes}
-use Rattle.schema_types.specs.DocumentRules.{Meet, argument_rules, field_rules, trees_of}
-use Rattle.schema_types.specs.NameRules.{conditions_wrong, fragments, fragments_not_there, fragments_not_unique, leads_back, not_there, operations, operations_not_named, roots_missing, sites_of, spreads_in, spreads_on_cycles}
-use Rattle.schema_types.specs.Sites.{DefinitionAt, FragmentAt, OperationAt, all_definitions, fragment, operation}
+use Rattle.plan_ir.specs.relay_dirs.RelayRules.{relay_rules}
+use Rattle.plan_ir.specs.schema_rules.declared.fault.Rule.{Rule}
+use Rattle.plan_ir.specs.schema_rules.declared.fault.Rule.TheVariants as R
+use Rattle.plan_ir.specs.schema_tables.Types.{Text, Defs}
+use Rattle.plan_ir.specs.schema_trees.Located.{Located, directives_nodes}
+use Rattle.plan_ir.specs.schema_types.DocumentRules.{Meet, argument_rules, field_rules, trees_of}
+use Rattle.plan_ir.specs.schema_types.NameRules.{conditions_wrong, fragments, fragments_not_there, fragments_not_unique, leads_back, not_there, operations, operations_not_named, roots_missing, sites_of, spreads_in, spreads_on_cycles}
+use Rattle.plan_ir.specs.schema_types.Sites.{DefinitionAt, FragmentAt, OperationAt, all_definitions, fragment, operation}
 
 -- ---- the fourth and the fifth of the rules on names
 

@@ -4,37 +4,37 @@ use Rattle.std.proofs.lemmas.List.{take_all}
 use Rattle.std.proofs.lemmas.Str.{IsUtf8-between}
 use Rattle.std.specs.List.{AllByRecursion}
 use Rattle.std.specs.Option.{IfSome}
-use Rattle.gql_ast.specs.Sels as sels
-use Rattle.gql_ast.specs.Sels.{Sels}
-use Rattle.gql_ast.specs.TypeView.{ty_of}
-use Rattle.gql_ast.specs.Value.{Val, Vals, Members, variable, int, text, truth, null, enum, list, object, no_vals, val, no_members, member, members_of}
-use Rattle.gql_ast.specs.ValueView.{value_of}
-use Rattle.gql_ast.specs.declared.directive.Directive.{Directive}
-use Rattle.gql_ast.specs.declared.document.Definition.{Definition}
-use Rattle.gql_ast.specs.declared.document.Definition.TheVariants as D
-use Rattle.gql_ast.specs.declared.value.ValueTree.{ValueTree}
-use Rattle.gql_ast.specs.declared.variable.VariableDef.{VariableDef}
-use Rattle.gql_lex.proofs.Gaps.{describes}
-use Rattle.gql_lex.proofs.LongestToken.{longest_token}
-use Rattle.gql_lex.specs.declared.tokens.TokenKind.{TokenKind}
-use Rattle.gql_lex.specs.declared.tokens.TokenKind.TheVariants as kind
-use Rattle.gql_lex.specs.Descriptions.{Describes}
-use Rattle.gql_lex.specs.Heads.{IsToken}
-use Rattle.gql_lex.specs.Lexemes as lexeme
-use Rattle.gql_lex.specs.Sources.{Source, ended, faulty, token, lex_from}
-use Rattle.gql_lex.specs.Toks as tok
-use Rattle.gql_lex.specs.Toks.{Tok, tok_of, tok_of_piece, tokens_of, toks_of}
-use Rattle.gql_parse.specs.Documents.{FormedSelections, FormedVariable, FormedWritten, SomeSelection, Written, bare, full, definition_of, spell_braces, spell_definition, spell_name, spell_on, spell_optional_name, spell_selections, spell_set, spell_variables, spell_variables_part}
-use Rattle.gql_syntax.proofs.Puncts.{punct_stands}
-use Rattle.gql_syntax.proofs.Tokens.{by_tok}
-use Rattle.gql_syntax.specs.Formed.{FormedDefault, FormedDirectives, FormedMembers, FormedValue, FormedValues}
-use Rattle.gql_syntax.specs.Nexts.{is_punctuator}
-use Rattle.gql_syntax.specs.Spelling.{spell_arguments, spell_default, spell_directives, spell_members, spell_type, spell_value, spell_values}
-use Rattle.gql_syntax.specs.Words.{IsEnumName, IsInt, IsName}
-use Rattle.gql_ast.specs.Ty as ty
-use Rattle.gql_ast.specs.Ty.{Ty}
+use Rattle.plan_ir.specs.gql_ast.Sels as sels
+use Rattle.plan_ir.specs.gql_ast.Sels.{Sels}
+use Rattle.plan_ir.specs.gql_ast.TypeView.{ty_of}
+use Rattle.plan_ir.specs.gql_ast.Value.{Val, Vals, Members, variable, int, text, truth, null, enum, list, object, no_vals, val, no_members, member, members_of}
+use Rattle.plan_ir.specs.gql_ast.ValueView.{value_of}
+use Rattle.plan_ir.specs.gql_ast.declared.directive.Directive.{Directive}
+use Rattle.plan_ir.specs.gql_ast.declared.document.Definition.{Definition}
+use Rattle.plan_ir.specs.gql_ast.declared.document.Definition.TheVariants as D
+use Rattle.plan_ir.specs.gql_ast.declared.value.ValueTree.{ValueTree}
+use Rattle.plan_ir.specs.gql_ast.declared.variable.VariableDef.{VariableDef}
+use Rattle.plan_ir.proofs.gql_lex_laws.Gaps.{describes}
+use Rattle.plan_ir.proofs.gql_lex_laws.LongestToken.{longest_token}
+use Rattle.plan_ir.specs.gql_lex.declared.tokens.TokenKind.{TokenKind}
+use Rattle.plan_ir.specs.gql_lex.declared.tokens.TokenKind.TheVariants as kind
+use Rattle.plan_ir.specs.gql_lex.Descriptions.{Describes}
+use Rattle.plan_ir.specs.gql_lex.Heads.{IsToken}
+use Rattle.plan_ir.specs.gql_lex.Lexemes as lexeme
+use Rattle.plan_ir.specs.gql_lex.Sources.{Source, ended, faulty, token, lex_from}
+use Rattle.plan_ir.specs.gql_lex.Toks as tok
+use Rattle.plan_ir.specs.gql_lex.Toks.{Tok, tok_of, tok_of_piece, tokens_of, toks_of}
+use Rattle.text_places.specs.gql_parse.Documents.{FormedSelections, FormedVariable, FormedWritten, SomeSelection, Written, bare, full, definition_of, spell_braces, spell_definition, spell_name, spell_on, spell_optional_name, spell_selections, spell_set, spell_variables, spell_variables_part}
+use Rattle.plan_ir.proofs.gql_syntax_laws.Puncts.{punct_stands}
+use Rattle.plan_ir.proofs.gql_syntax_laws.Tokens.{by_tok}
+use Rattle.plan_ir.specs.gql_syntax.Formed.{FormedDefault, FormedDirectives, FormedMembers, FormedValue, FormedValues}
+use Rattle.plan_ir.specs.gql_syntax.Nexts.{is_punctuator}
+use Rattle.plan_ir.specs.gql_syntax.Spelling.{spell_arguments, spell_default, spell_directives, spell_members, spell_type, spell_value, spell_values}
+use Rattle.plan_ir.specs.gql_syntax.Words.{IsEnumName, IsInt, IsName}
+use Rattle.plan_ir.specs.gql_ast.Ty as ty
+use Rattle.plan_ir.specs.gql_ast.Ty.{Ty}
 use Rattle.plan_project.proofs.Utf8Strings.{block_utf8, text_utf8}
-use Rattle.schema_tables.specs.Types.{Text}
+use Rattle.plan_ir.specs.schema_tables.Types.{Text}
 
 -- ---- what is sound
 

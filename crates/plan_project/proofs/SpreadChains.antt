@@ -1,18 +1,18 @@
 -- Where the rules on names hold, each spread is found, and no more spreads stand in one another than there are fragments.
 use Rattle.std.proofs.Common.{◌≡◌, ◌≤◌, ℕ, zero, suc, ◌+◌, ◌-◌, Bool, true, false, true≢false, cond, not, ◌||◌, List, [], ◌∷◌, ◌++◌, map, length, Option, Some, bytes_eq, refl, sym, ap, subst, ◌∙◌, arith}
 use Rattle.std.specs.List.{AllByRecursion, list_any}
-use Rattle.gql_ast.specs.Sels as sels
-use Rattle.gql_ast.specs.Sels.{Sels}
-use Rattle.gql_graph.proofs.TextSteps.{same_text, same_self, either_of, some_of}
-use Rattle.gql_graph.specs.Reached.{leads}
-use Rattle.gql_plain.proofs.Booleans.{or_true}
-use Rattle.gql_plain.specs.Order.{has_text}
-use Rattle.schema_rules.specs.Rules.{each, wrong}
-use Rattle.schema_trees.specs.Located.{Located, directives_nodes}
-use Rattle.schema_types.specs.NameRules.{fragment_named, leads_back, names_of_all, not_there, spread_by, spreads_in, spreads_of_fragment}
-use Rattle.schema_types.specs.Sites as site
-use Rattle.schema_types.specs.Sites.{Site, FragmentAt, arguments_nodes, below, condition_or, head_nodes, optional_name_nodes, selections_nodes, sites}
-use Rattle.schema_tables.specs.Types.{Text, Defs}
+use Rattle.plan_ir.specs.gql_ast.Sels as sels
+use Rattle.plan_ir.specs.gql_ast.Sels.{Sels}
+use Rattle.plan_ir.proofs.gql_graph_laws.TextSteps.{same_text, same_self, either_of, some_of}
+use Rattle.plan_ir.specs.gql_graph.Reached.{leads}
+use Rattle.plan_ir.proofs.gql_plain_laws.Booleans.{or_true}
+use Rattle.plan_ir.specs.gql_plain.Order.{has_text}
+use Rattle.plan_ir.specs.schema_rules.Rules.{each, wrong}
+use Rattle.plan_ir.specs.schema_trees.Located.{Located, directives_nodes}
+use Rattle.plan_ir.specs.schema_types.NameRules.{fragment_named, leads_back, names_of_all, not_there, spread_by, spreads_in, spreads_of_fragment}
+use Rattle.plan_ir.specs.schema_types.Sites as site
+use Rattle.plan_ir.specs.schema_types.Sites.{Site, FragmentAt, arguments_nodes, below, condition_or, head_nodes, optional_name_nodes, selections_nodes, sites}
+use Rattle.plan_ir.specs.schema_tables.Types.{Text, Defs}
 
 -- ---- lists
 

@@ -2,21 +2,21 @@
 use Rattle.std.proofs.Common.{◌≡◌, ℕ, ◌+◌, Bool, true, false, cond, List, [], ◌∷◌, length, Option, Some, None, option_map, refl, sym, ap, subst, ◌∙◌}
 use Rattle.std.specs.List.{AllByRecursion}
 use Rattle.std.specs.Option.{IfSome}
-use Rattle.gql_ast.specs.Value.{Val, Vals, Members, variable, int, text, truth, null, enum, list, object, no_vals, val, no_members, member}
-use Rattle.gql_ast.specs.declared.directive.Directive.{Directive}
-use Rattle.gql_ast.specs.declared.document.Definition.TheVariants as D
-use Rattle.gql_ast.specs.declared.document.Document.{Document}
-use Rattle.gql_ast.specs.declared.document.Operation.{Operation}
-use Rattle.gql_ast.specs.declared.place.Placed.{Placed}
-use Rattle.gql_ast.specs.declared.variable.VariableDef.{VariableDef}
-use Rattle.gql_graph.specs.Rules.{each, first_broken}
-use Rattle.gql_parse.proofs.Whole.{one_document}
-use Rattle.gql_parse.specs.Documents.{FormedVariable}
-use Rattle.gql_parse.specs.Trees.{IsDocument}
-use Rattle.gql_syntax.specs.Formed.{FormedArguments, FormedDirectives, FormedMembers, FormedValue, FormedValues}
-use Rattle.gql_syntax.specs.Texts.{nesting_limit}
-use Rattle.gql_syntax.specs.Words.{IsName}
-use Rattle.plan_expand.specs.Answers.{definitions_in, project, whole_in, whole_is}
+use Rattle.plan_ir.specs.gql_ast.Value.{Val, Vals, Members, variable, int, text, truth, null, enum, list, object, no_vals, val, no_members, member}
+use Rattle.plan_ir.specs.gql_ast.declared.directive.Directive.{Directive}
+use Rattle.plan_ir.specs.gql_ast.declared.document.Definition.TheVariants as D
+use Rattle.plan_ir.specs.gql_ast.declared.document.Document.{Document}
+use Rattle.plan_ir.specs.gql_ast.declared.document.Operation.{Operation}
+use Rattle.plan_ir.specs.gql_ast.declared.place.Placed.{Placed}
+use Rattle.plan_ir.specs.gql_ast.declared.variable.VariableDef.{VariableDef}
+use Rattle.plan_ir.specs.gql_graph.Rules.{each, first_broken}
+use Rattle.text_places.proofs.gql_parse_laws.Whole.{one_document}
+use Rattle.text_places.specs.gql_parse.Documents.{FormedVariable}
+use Rattle.text_places.specs.gql_parse.Trees.{IsDocument}
+use Rattle.plan_ir.specs.gql_syntax.Formed.{FormedArguments, FormedDirectives, FormedMembers, FormedValue, FormedValues}
+use Rattle.plan_ir.specs.gql_syntax.Texts.{nesting_limit}
+use Rattle.plan_ir.specs.gql_syntax.Words.{IsName}
+use Rattle.plan_read.specs.plan_expand.Answers.{definitions_in, project, whole_in, whole_is}
 use Rattle.plan_ir.specs.Expansion.{Project, Whole, argument_pairs, directive_trees, is_printed, name_of_located_or, operation_from, operation_named, variable_trees, whole_operation}
 use Rattle.plan_ir.specs.Nodes.{Nodes, end, field, inline}
 use Rattle.plan_ir.specs.OperationText.{operation_text}
@@ -34,15 +34,15 @@ use Rattle.plan_project.proofs.SpreadChains.{Meets, all_bounded, all_map, names_
 use Rattle.plan_project.proofs.Utf8Texts.{operation_utf8}
 use Rattle.plan_project.specs.Expansions.{name_node, node_of, size_rules, too_deep, too_many, whole_at, whole_of_operation}
 use Rattle.plan_project.specs.TextLaws.{TextsAreDocuments}
-use Rattle.plan_text.proofs.PrintedForms.{is_one_document}
-use Rattle.plan_text.specs.Documents.{FormedExpanded, FormedNodes, SomeNode, document_of}
-use Rattle.plan_text.specs.Printed.{printed_operation}
-use Rattle.schema_rules.specs.declared.fault.Rule.{Rule}
-use Rattle.schema_rules.specs.declared.fault.Rule.TheVariants as R
-use Rattle.schema_tables.specs.Types.{Text, Defs, root}
-use Rattle.schema_trees.specs.Located.{Located, directives_nodes, value_nodes}
-use Rattle.schema_types.specs.NameRules.{fragments, not_there, operations, spreads_in}
-use Rattle.schema_types.specs.Sites.{DefinitionAt, OperationAt, arguments_at, arguments_nodes, directives_at, operation, fragment, operation_at, optional_name_at, optional_name_nodes, variable_nodes, variables_at, variables_nodes}
+use Rattle.plan_read.proofs.plan_text_laws.PrintedForms.{is_one_document}
+use Rattle.plan_read.specs.plan_text.Documents.{FormedExpanded, FormedNodes, SomeNode, document_of}
+use Rattle.plan_read.specs.plan_text.Printed.{printed_operation}
+use Rattle.plan_ir.specs.schema_rules.declared.fault.Rule.{Rule}
+use Rattle.plan_ir.specs.schema_rules.declared.fault.Rule.TheVariants as R
+use Rattle.plan_ir.specs.schema_tables.Types.{Text, Defs, root}
+use Rattle.plan_ir.specs.schema_trees.Located.{Located, directives_nodes, value_nodes}
+use Rattle.plan_ir.specs.schema_types.NameRules.{fragments, not_there, operations, spreads_in}
+use Rattle.plan_ir.specs.schema_types.Sites.{DefinitionAt, OperationAt, arguments_at, arguments_nodes, directives_at, operation, fragment, operation_at, optional_name_at, optional_name_nodes, variable_nodes, variables_at, variables_nodes}
 
 -- ---- what is sound is formed
 

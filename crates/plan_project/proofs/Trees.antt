@@ -1,24 +1,24 @@
 -- The trees of documents, and the same definitions with their places: of each name the first is the same one.
 use Rattle.std.proofs.Common.{◌≡◌, ◌<◌, ◌+◌, ℕ, Bool, true, false, true≢false, cond, List, [], ◌∷◌, ◌++◌, length, get_or, Option, Some, None, is_some, bytes_eq, refl, ap, sym, subst, ◌∙◌}
-use Rattle.gql_ast.specs.Value.{Val}
-use Rattle.gql_ast.specs.declared.directive.Directive.{Directive}
-use Rattle.gql_ast.specs.declared.document.Definition.{Definition}
-use Rattle.gql_ast.specs.declared.document.Definition.TheVariants as D
-use Rattle.gql_ast.specs.declared.document.Document.{Document}
-use Rattle.gql_ast.specs.declared.document.Fragment.{Fragment}
-use Rattle.gql_ast.specs.declared.document.Operation.{Operation}
-use Rattle.gql_ast.specs.declared.place.Placed.{Placed}
-use Rattle.gql_graph.specs.Rules.{each}
+use Rattle.plan_ir.specs.gql_ast.Value.{Val}
+use Rattle.plan_ir.specs.gql_ast.declared.directive.Directive.{Directive}
+use Rattle.plan_ir.specs.gql_ast.declared.document.Definition.{Definition}
+use Rattle.plan_ir.specs.gql_ast.declared.document.Definition.TheVariants as D
+use Rattle.plan_ir.specs.gql_ast.declared.document.Document.{Document}
+use Rattle.plan_ir.specs.gql_ast.declared.document.Fragment.{Fragment}
+use Rattle.plan_ir.specs.gql_ast.declared.document.Operation.{Operation}
+use Rattle.plan_ir.specs.gql_ast.declared.place.Placed.{Placed}
+use Rattle.plan_ir.specs.gql_graph.Rules.{each}
 use Rattle.plan_ir.specs.Expansion.{is_named, operation_named}
 use Rattle.plan_project.proofs.Looking.{found-append, found-at, found_in_documents, in_document, or_else-assoc}
 use Rattle.plan_project.specs.Filling.{AreFragments, AreOperations, first_of, fragment_under, operation_by, operation_under, or_else, trees_in}
 use Rattle.plan_project.specs.Lookups.{Agree, fragment_in, operation_in}
-use Rattle.relay_dirs.specs.Locals.{as_list, defines_locals, local_at, local_in_tree, local_of, locals_of, locals_of_tree}
-use Rattle.schema_tables.specs.Types.{Text, Defs}
-use Rattle.schema_trees.specs.Located.{value_nodes}
-use Rattle.schema_types.specs.DocumentRules.{trees_of}
-use Rattle.schema_types.specs.NameRules.{fragment_named, fragments, operations}
-use Rattle.schema_types.specs.Sites.{DefinitionAt, FragmentAt, OperationAt, arguments_at, arguments_nodes, definition_at, definition_nodes, definitions_at, directives_at, document_nodes, documents_at, fragment_at, operation_at, optional_name_at}
+use Rattle.plan_ir.specs.relay_dirs.Locals.{as_list, defines_locals, local_at, local_in_tree, local_of, locals_of, locals_of_tree}
+use Rattle.plan_ir.specs.schema_tables.Types.{Text, Defs}
+use Rattle.plan_ir.specs.schema_trees.Located.{value_nodes}
+use Rattle.plan_ir.specs.schema_types.DocumentRules.{trees_of}
+use Rattle.plan_ir.specs.schema_types.NameRules.{fragment_named, fragments, operations}
+use Rattle.plan_ir.specs.schema_types.Sites.{DefinitionAt, FragmentAt, OperationAt, arguments_at, arguments_nodes, definition_at, definition_nodes, definitions_at, directives_at, document_nodes, documents_at, fragment_at, operation_at, optional_name_at}
 
 -- ---- what is first of a name, with its places and without them
 

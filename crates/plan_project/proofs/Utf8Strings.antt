@@ -6,14 +6,14 @@ use Rattle.std.proofs.lemmas.List.{drop_all, drop_at, take_at}
 use Rattle.std.proofs.lemmas.Str.{IsCharBoundary-after_ascii, IsCharBoundary-before_ascii, IsUtf8-append, IsUtf8-drop, IsUtf8-encode, IsUtf8-from_ascii, IsUtf8-take}
 use Rattle.std.specs.Char.{IsScalar}
 use Rattle.std.specs.List.{AllByRecursion, prefix_len, suffix_len}
-use Rattle.gql_lex.proofs.Escapes.{code_below, four_hex}
-use Rattle.gql_lex.proofs.Extents.{or_below, same_below}
-use Rattle.gql_lex.proofs.Texts.{hex_below, simple_below}
-use Rattle.gql_lex.proofs.Margins.{indent_boundary}
-use Rattle.gql_lex.specs.Lexemes.{Part, character, escape, unicode, AreParts, parts_then, BlockPart, letter, quotes, AreBlockParts, block_then}
-use Rattle.gql_lex.specs.Lines.{ends_line, lines, onto_first}
-use Rattle.gql_lex.specs.Strings.{code_of_hex, is_four_hex, is_hex, is_simple_escape, is_surrogate}
-use Rattle.gql_lex.specs.Values.{block_value, common_indent, indent, is_blank_line, join_lines, least, least_indent, raw_text, simple_escape, text_value, unindent, without_blank_end, without_blank_start}
+use Rattle.plan_ir.proofs.gql_lex_laws.Escapes.{code_below, four_hex}
+use Rattle.plan_ir.proofs.gql_lex_laws.Extents.{or_below, same_below}
+use Rattle.plan_ir.proofs.gql_lex_laws.Texts.{hex_below, simple_below}
+use Rattle.plan_ir.proofs.gql_lex_laws.Margins.{indent_boundary}
+use Rattle.plan_ir.specs.gql_lex.Lexemes.{Part, character, escape, unicode, AreParts, parts_then, BlockPart, letter, quotes, AreBlockParts, block_then}
+use Rattle.plan_ir.specs.gql_lex.Lines.{ends_line, lines, onto_first}
+use Rattle.plan_ir.specs.gql_lex.Strings.{code_of_hex, is_four_hex, is_hex, is_simple_escape, is_surrogate}
+use Rattle.plan_ir.specs.gql_lex.Values.{block_value, common_indent, indent, is_blank_line, join_lines, least, least_indent, raw_text, simple_escape, text_value, unindent, without_blank_end, without_blank_start}
 
 -- ---- ASCII bytes
 

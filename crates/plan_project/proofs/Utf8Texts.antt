@@ -14,20 +14,20 @@ use Rattle.std.specs.declared.cmp.Ordering.{Ordering}
 use Rattle.std.specs.declared.cmp.Ordering.TheVariants.{Less, Equal, Greater}
 use Rattle.json.proofs.Printed.Strings.{escape_byte_plain}
 use Rattle.json.specs.Print.{escape, escape_byte, escape_letter, quoted}
-use Rattle.gql_ast.specs.Ty as ty
-use Rattle.gql_ast.specs.Ty.{Ty}
-use Rattle.gql_ast.specs.TypeView.{ty_of}
-use Rattle.gql_ast.specs.Value.{Val, Vals, Members, variable, int, text, truth, null, enum, list, object, no_vals, val, no_members, member}
-use Rattle.gql_ast.specs.ValueView.{value_of}
-use Rattle.gql_ast.specs.declared.directive.Directive.{Directive}
-use Rattle.gql_ast.specs.declared.document.Kind.{Kind}
-use Rattle.gql_ast.specs.declared.document.Kind.TheVariants.{Query, Mutation, Subscription}
-use Rattle.gql_ast.specs.declared.value.ValueTree.{ValueTree}
-use Rattle.gql_ast.specs.declared.variable.VariableDef.{VariableDef}
-use Rattle.gql_lex.proofs.Extents.{or_below, same_below}
-use Rattle.gql_plain.specs.Names.{is_name_byte, is_name_start, is_within}
-use Rattle.gql_syntax.specs.Formed.{FormedType}
-use Rattle.gql_syntax.specs.Words.{IsInt, IsName, kind_word, null_word, truth_word}
+use Rattle.plan_ir.specs.gql_ast.Ty as ty
+use Rattle.plan_ir.specs.gql_ast.Ty.{Ty}
+use Rattle.plan_ir.specs.gql_ast.TypeView.{ty_of}
+use Rattle.plan_ir.specs.gql_ast.Value.{Val, Vals, Members, variable, int, text, truth, null, enum, list, object, no_vals, val, no_members, member}
+use Rattle.plan_ir.specs.gql_ast.ValueView.{value_of}
+use Rattle.plan_ir.specs.gql_ast.declared.directive.Directive.{Directive}
+use Rattle.plan_ir.specs.gql_ast.declared.document.Kind.{Kind}
+use Rattle.plan_ir.specs.gql_ast.declared.document.Kind.TheVariants.{Query, Mutation, Subscription}
+use Rattle.plan_ir.specs.gql_ast.declared.value.ValueTree.{ValueTree}
+use Rattle.plan_ir.specs.gql_ast.declared.variable.VariableDef.{VariableDef}
+use Rattle.plan_ir.proofs.gql_lex_laws.Extents.{or_below, same_below}
+use Rattle.plan_ir.specs.gql_plain.Names.{is_name_byte, is_name_start, is_within}
+use Rattle.plan_ir.specs.gql_syntax.Formed.{FormedType}
+use Rattle.plan_ir.specs.gql_syntax.Words.{IsInt, IsName, kind_word, null_word, truth_word}
 use Rattle.plan_ir.specs.Nodes.{Nodes, end, field, inline}
 use Rattle.plan_ir.specs.OperationText.{arguments_text, by_name, condition_text, default_text, directives_text, enclose, enclose_some, join_texts, member_texts, name_text, node_texts, operation_text, pairs_text, type_text, used_variables, value_text, value_texts, variable_text, variables_text, with_member}
 use Rattle.plan_ir.specs.Substitution.{Arguments}
@@ -35,8 +35,8 @@ use Rattle.plan_ir.specs.declared.expanded.Expanded.{Expanded}
 use Rattle.plan_project.proofs.SoundNodes.{SoundNodes}
 use Rattle.plan_project.proofs.SoundTrees.{SoundArguments, SoundDefault, SoundDirectives, SoundMembers, SoundValue, SoundValues, SoundVariable}
 use Rattle.plan_project.proofs.Utf8Strings.{cut_at, no_text, one_ascii, put_ascii}
-use Rattle.plan_text.proofs.OperationRead.{all-filter}
-use Rattle.schema_tables.specs.Types.{Text}
+use Rattle.plan_read.proofs.plan_text_laws.OperationRead.{all-filter}
+use Rattle.plan_ir.specs.schema_tables.Types.{Text}
 
 -- ---- names and numbers
 

@@ -1,26 +1,26 @@
 -- What the operations and the fragments of documents become, and the rules on that: E1 and E2, and then V23 and V24 (this project's own).
 -- They are stated of documents that meet V1 to V22.
 use Rattle.std.specs.Prelude.{◌≡◌, ℕ, false, cond, List, [], ◌∷◌, map, Option, None, Some, option_map}
-use Rattle.doc_merge.specs.Faults.{field_differences, fault_or, values_unfit}
-use Rattle.doc_merge.specs.Places.{least}
-use Rattle.doc_merge.specs.declared.fault.PlaceFault.{PlaceFault}
-use Rattle.gql_ast.specs.declared.document.Document.{Document}
-use Rattle.gql_ast.specs.declared.document.Kind.{Kind}
-use Rattle.gql_ast.specs.declared.place.FilePlace.{FilePlace}
-use Rattle.gql_ast.specs.declared.place.Placed.{Placed}
-use Rattle.gql_graph.specs.Rules.{each}
-use Rattle.plan_expand.specs.Answers.{definitions_in, whole_in, whole_is}
+use Rattle.plan_read.specs.doc_merge.Faults.{field_differences, fault_or, values_unfit}
+use Rattle.plan_read.specs.doc_merge.Places.{least}
+use Rattle.plan_read.specs.doc_merge.declared.fault.PlaceFault.{PlaceFault}
+use Rattle.plan_ir.specs.gql_ast.declared.document.Document.{Document}
+use Rattle.plan_ir.specs.gql_ast.declared.document.Kind.{Kind}
+use Rattle.plan_ir.specs.gql_ast.declared.place.FilePlace.{FilePlace}
+use Rattle.plan_ir.specs.gql_ast.declared.place.Placed.{Placed}
+use Rattle.plan_ir.specs.gql_graph.Rules.{each}
+use Rattle.plan_read.specs.plan_expand.Answers.{definitions_in, whole_in, whole_is}
 use Rattle.plan_ir.specs.Expansion.{Whole}
 use Rattle.plan_ir.specs.OperationText.{operation_text}
 use Rattle.plan_ir.specs.Sizes.{has_too_many_nodes, is_too_deep}
 use Rattle.plan_ir.specs.declared.form.Form.TheVariants as F
-use Rattle.plan_text.specs.Lines.{line_of}
-use Rattle.plan_text.specs.declared.artifact.Artifact.TheVariants as A
-use Rattle.schema_rules.specs.declared.fault.Rule.TheVariants as R
-use Rattle.schema_tables.specs.Types.{Text, Defs}
-use Rattle.schema_trees.specs.Located.{Located}
-use Rattle.schema_types.specs.DocumentRules.{Rules}
-use Rattle.schema_types.specs.Sites.{DefinitionAt, operation, fragment}
+use Rattle.plan_read.specs.plan_text.Lines.{line_of}
+use Rattle.plan_read.specs.plan_text.declared.artifact.Artifact.TheVariants as A
+use Rattle.plan_ir.specs.schema_rules.declared.fault.Rule.TheVariants as R
+use Rattle.plan_ir.specs.schema_tables.Types.{Text, Defs}
+use Rattle.plan_ir.specs.schema_trees.Located.{Located}
+use Rattle.plan_ir.specs.schema_types.DocumentRules.{Rules}
+use Rattle.plan_ir.specs.schema_types.Sites.{DefinitionAt, operation, fragment}
 
 -- ---- what definitions become
 

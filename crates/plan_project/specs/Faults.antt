@@ -1,8 +1,8 @@
 -- The fault of a rule at the place of a node.
 use Rattle.std.specs.Prelude.{◌≡◌, ℕ, zero, suc, List, [], ◌∷◌, Option, Some, None}
-use Rattle.gql_ast.specs.declared.place.FilePlace.{FilePlace}
+use Rattle.plan_ir.specs.gql_ast.declared.place.FilePlace.{FilePlace}
 use Rattle.plan_project.specs.declared.fault.ProjectFault.{ProjectFault}
-use Rattle.schema_rules.specs.declared.fault.Rule.{Rule}
+use Rattle.plan_ir.specs.schema_rules.declared.fault.Rule.{Rule}
 
 -- the place of a node by its number, where there is a node of that number
 abbrev pub place_at : List FilePlace → ℕ → Option FilePlace

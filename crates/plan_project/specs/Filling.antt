@@ -1,20 +1,20 @@
 -- How the tables of operations and fragments are filled from the trees of the documents, of each name with the first.
 use Rattle.std.specs.Prelude.{◌≡◌, true, cond, List, [], ◌∷◌, ◌++◌, map, Option, Some, None, is_some, bytes_eq}
-use Rattle.gql_ast.specs.declared.document.Definition.{Definition}
-use Rattle.gql_ast.specs.declared.document.Definition.TheVariants as D
-use Rattle.gql_ast.specs.declared.document.Document.{Document}
-use Rattle.gql_ast.specs.declared.document.Fragment.{Fragment}
-use Rattle.gql_ast.specs.declared.document.Operation.{Operation}
-use Rattle.gql_ast.specs.declared.place.Placed.{Placed}
+use Rattle.plan_ir.specs.gql_ast.declared.document.Definition.{Definition}
+use Rattle.plan_ir.specs.gql_ast.declared.document.Definition.TheVariants as D
+use Rattle.plan_ir.specs.gql_ast.declared.document.Document.{Document}
+use Rattle.plan_ir.specs.gql_ast.declared.document.Fragment.{Fragment}
+use Rattle.plan_ir.specs.gql_ast.declared.document.Operation.{Operation}
+use Rattle.plan_ir.specs.gql_ast.declared.place.Placed.{Placed}
 use Rattle.plan_ir.specs.declared.form.Form.TheVariants as F
 use Rattle.plan_project.specs.Lookups.{Agree, IsOperation, fragment_in, operation_in}
 use Rattle.plan_project.specs.declared.operations.Compiled.{Compiled}
 use Rattle.plan_project.specs.declared.operations.CompiledFragment.{CompiledFragment}
 use Rattle.plan_read.specs.Plans.{reader_in}
-use Rattle.relay_dirs.specs.Locals.{locals_of_tree}
-use Rattle.relay_dirs.specs.View.{directives_of_all, local_view}
-use Rattle.schema_tables.specs.Types.{Text, Defs, is_composite, possible}
-use Rattle.schema_types.specs.Sites.{OperationAt}
+use Rattle.plan_ir.specs.relay_dirs.Locals.{locals_of_tree}
+use Rattle.plan_ir.specs.relay_dirs.View.{directives_of_all, local_view}
+use Rattle.plan_ir.specs.schema_tables.Types.{Text, Defs, is_composite, possible}
+use Rattle.plan_ir.specs.schema_types.Sites.{OperationAt}
 
 -- ---- what is found first
 

@@ -1,3 +1,6 @@
+pub use Rattle.text_places.specs.gql_sdl
+pub use Rattle.plan_order.specs as plan_order
+pub use Rattle.plan_read.specs as plan_read
 pub mod Faults
 pub mod Expansions
 pub mod Projects

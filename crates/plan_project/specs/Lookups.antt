@@ -1,9 +1,9 @@
 -- What a project is looked up for: its operations and its fragments, by their names, with their plans.
 use Rattle.std.specs.Prelude.{◌≡◌, true, List, [], ◌∷◌, map, Option, Some, None}
-use Rattle.gql_ast.specs.declared.document.Document.{Document}
-use Rattle.gql_ast.specs.declared.place.Placed.{Placed}
-use Rattle.gql_plain.specs.Order.{has_text}
-use Rattle.plan_expand.specs.Answers.{definitions_in, project}
+use Rattle.plan_ir.specs.gql_ast.declared.document.Document.{Document}
+use Rattle.plan_ir.specs.gql_ast.declared.place.Placed.{Placed}
+use Rattle.plan_ir.specs.gql_plain.Order.{has_text}
+use Rattle.plan_read.specs.plan_expand.Answers.{definitions_in, project}
 use Rattle.plan_ir.specs.Expansion.{name_or, operation_named, variable_trees}
 use Rattle.plan_ir.specs.NormalMeaning.{is_formed, plan_says}
 use Rattle.plan_ir.specs.NormalReach.{plan_reaches}
@@ -11,18 +11,18 @@ use Rattle.plan_ir.specs.ReaderMeaning.{plan_reads}
 use Rattle.plan_project.specs.declared.operations.Compiled.{Compiled}
 use Rattle.plan_project.specs.declared.operations.CompiledFragment.{CompiledFragment}
 use Rattle.plan_read.specs.Laws.{AreLocals}
-use Rattle.relay_dirs.specs.Locals.{locals_of}
-use Rattle.relay_dirs.specs.View.{directives_of_all, local_view}
-use Rattle.relay_model.specs.Reaches.{operation_reaches}
-use Rattle.relay_model.specs.Readings.{fragment_reads, no_place, operation_reads, with_marked}
-use Rattle.relay_model.specs.Responses.{operation_says}
-use Rattle.schema_tables.specs.Types as schema
-use Rattle.schema_tables.specs.Types.{Text, Defs}
-use Rattle.schema_types.specs.Environments.{Values, environment}
-use Rattle.schema_types.specs.NameRules.{fragment_named, fragments, operations}
-use Rattle.schema_types.specs.Sites.{FragmentAt, OperationAt}
+use Rattle.plan_ir.specs.relay_dirs.Locals.{locals_of}
+use Rattle.plan_ir.specs.relay_dirs.View.{directives_of_all, local_view}
+use Rattle.plan_read.specs.relay_model.Reaches.{operation_reaches}
+use Rattle.plan_read.specs.relay_model.Readings.{fragment_reads, no_place, operation_reads, with_marked}
+use Rattle.plan_read.specs.relay_model.Responses.{operation_says}
+use Rattle.plan_ir.specs.schema_tables.Types as schema
+use Rattle.plan_ir.specs.schema_tables.Types.{Text, Defs}
+use Rattle.plan_ir.specs.schema_types.Environments.{Values, environment}
+use Rattle.plan_ir.specs.schema_types.NameRules.{fragment_named, fragments, operations}
+use Rattle.plan_ir.specs.schema_types.Sites.{FragmentAt, OperationAt}
 use Rattle.serde_json.specs.Data as J
-use Rattle.store_model.specs.Walks.{Slots, type_of_record}
+use Rattle.plan_ir.specs.store_model.Walks.{Slots, type_of_record}
 
 -- both are there and this holds of them, or neither is there
 abbrev pub Agree : {X Y : Type 0} → (X → Y → Type 0) → Option X → Option Y → Type 0

@@ -1,15 +1,15 @@
 -- What is noted of operations and fragments, one after another: of each of the rules E1, E2, V23 and V24 the least place. Of one definition
 -- the first of these rules that it breaks is noted.
 use Rattle.std.specs.Prelude.{◌≡◌, ℕ, cond, List, [], ◌∷◌, Option, Some, None}
-use Rattle.doc_merge.specs.Faults.{first_fault, fault_of}
-use Rattle.doc_merge.specs.Places as places
-use Rattle.doc_merge.specs.declared.fault.PlaceFault.{PlaceFault}
-use Rattle.gql_ast.specs.declared.document.Document.{Document}
-use Rattle.gql_ast.specs.declared.place.FilePlace.{FilePlace}
-use Rattle.gql_ast.specs.declared.place.Placed.{Placed}
-use Rattle.gql_graph.specs.Leasts.{least_from}
-use Rattle.gql_graph.specs.Rules.{each, first_broken}
-use Rattle.plan_expand.specs.Answers.{definitions_in, whole_is}
+use Rattle.plan_read.specs.doc_merge.Faults.{first_fault, fault_of}
+use Rattle.plan_read.specs.doc_merge.Places as places
+use Rattle.plan_read.specs.doc_merge.declared.fault.PlaceFault.{PlaceFault}
+use Rattle.plan_ir.specs.gql_ast.declared.document.Document.{Document}
+use Rattle.plan_ir.specs.gql_ast.declared.place.FilePlace.{FilePlace}
+use Rattle.plan_ir.specs.gql_ast.declared.place.Placed.{Placed}
+use Rattle.plan_ir.specs.gql_graph.Leasts.{least_from}
+use Rattle.plan_ir.specs.gql_graph.Rules.{each, first_broken}
+use Rattle.plan_read.specs.plan_expand.Answers.{definitions_in, whole_is}
 use Rattle.plan_ir.specs.Expansion.{Whole}
 use Rattle.plan_ir.specs.Sizes.{has_too_many_nodes, is_too_deep}
 use Rattle.plan_project.specs.Expansions.{merge_fault, name_node, size_rules, whole_at}
@@ -17,10 +17,10 @@ use Rattle.plan_project.specs.Projects.{node_rules}
 use Rattle.plan_project.specs.declared.fault.DocumentsFault.{DocumentsFault}
 use Rattle.plan_project.specs.declared.fault.DocumentsFault.TheVariants as D
 use Rattle.plan_project.specs.declared.least_faults.LeastFaults.{LeastFaults}
-use Rattle.schema_rules.specs.declared.fault.Rule.{Rule}
-use Rattle.schema_rules.specs.declared.fault.Rule.TheVariants as R
-use Rattle.schema_tables.specs.Types.{Defs}
-use Rattle.schema_types.specs.Sites.{DefinitionAt}
+use Rattle.plan_ir.specs.schema_rules.declared.fault.Rule.{Rule}
+use Rattle.plan_ir.specs.schema_rules.declared.fault.Rule.TheVariants as R
+use Rattle.plan_ir.specs.schema_tables.Types.{Defs}
+use Rattle.plan_ir.specs.schema_types.Sites.{DefinitionAt}
 
 -- ---- of what a definition becomes, and the nodes of its name
 

@@ -1,6 +1,6 @@
 -- What stands ready to plan a project's operations and fragments.
 use Rattle.std.specs.Prelude.{◌≡◌}
-use Rattle.plan_expand.specs.Preparing as expanding
+use Rattle.plan_read.specs.plan_expand.Preparing as expanding
 use Rattle.plan_project.specs.Projects.{IsAcceptedProject}
 use Rattle.plan_project.specs.declared.planner.Planner.{Planner}
 use Rattle.plan_read.specs.Preparing as reading

@@ -2,28 +2,28 @@
 -- rule of what operations and fragments become.
 -- Files are the schema and then the documents, numbered from 0.
 use Rattle.std.specs.Prelude.{◌≡◌, ◌⊎◌, ℕ, suc, List, [], ◌∷◌, ◌++◌, Some, None}
-use Rattle.gql_ast.specs.declared.document.Document.{Document}
-use Rattle.gql_ast.specs.declared.fault.ParseFault.TheVariants.{Syntax}
-use Rattle.gql_ast.specs.declared.fault.SyntaxFault.{SyntaxFault}
-use Rattle.gql_ast.specs.declared.place.Placed.{Placed}
-use Rattle.gql_ast.specs.declared.schema.SchemaTree.{SchemaTree}
-use Rattle.gql_parse.specs.Documents.{documents}
-use Rattle.gql_parse.specs.Trees.{IsDocument}
-use Rattle.gql_sdl.specs.Schemas.{schemas}
-use Rattle.gql_sdl.specs.Trees.{IsSchema}
-use Rattle.gql_syntax.specs.Texts.{IsParseFault}
-use Rattle.doc_merge.specs.declared.fault.PlaceFault.{PlaceFault}
-use Rattle.gql_graph.specs.Rules.{first_broken}
+use Rattle.plan_ir.specs.gql_ast.declared.document.Document.{Document}
+use Rattle.plan_ir.specs.gql_ast.declared.fault.ParseFault.TheVariants.{Syntax}
+use Rattle.plan_ir.specs.gql_ast.declared.fault.SyntaxFault.{SyntaxFault}
+use Rattle.plan_ir.specs.gql_ast.declared.place.Placed.{Placed}
+use Rattle.plan_ir.specs.gql_ast.declared.schema.SchemaTree.{SchemaTree}
+use Rattle.text_places.specs.gql_parse.Documents.{documents}
+use Rattle.text_places.specs.gql_parse.Trees.{IsDocument}
+use Rattle.text_places.specs.gql_sdl.Schemas.{schemas}
+use Rattle.text_places.specs.gql_sdl.Trees.{IsSchema}
+use Rattle.plan_ir.specs.gql_syntax.Texts.{IsParseFault}
+use Rattle.plan_read.specs.doc_merge.declared.fault.PlaceFault.{PlaceFault}
+use Rattle.plan_ir.specs.gql_graph.Rules.{first_broken}
 use Rattle.plan_project.specs.Expansions.{merge_fault, size_rules}
 use Rattle.plan_project.specs.Faults.{fault_at, IsFound}
 use Rattle.plan_project.specs.declared.fault.ProjectFault.{ProjectFault}
-use Rattle.relay_dirs.specs.RelayRules.{relay_rules}
-use Rattle.schema_rules.specs.Checked.{IsSound, first_fault}
-use Rattle.schema_types.specs.DocumentRules.{Rules, name_rules, field_rules, argument_rules, trees_of, places_of, Meet}
-use Rattle.schema_types.specs.Sites.{DefinitionAt, all_definitions}
-use Rattle.schema_tables.specs.Types.{Text, Defs}
-use Rattle.schema_rules.specs.declared.fault.Rule.{Rule}
-use Rattle.schema_rules.specs.declared.fault.Rule.TheVariants as R
+use Rattle.plan_ir.specs.relay_dirs.RelayRules.{relay_rules}
+use Rattle.plan_ir.specs.schema_rules.Checked.{IsSound, first_fault}
+use Rattle.plan_ir.specs.schema_types.DocumentRules.{Rules, name_rules, field_rules, argument_rules, trees_of, places_of, Meet}
+use Rattle.plan_ir.specs.schema_types.Sites.{DefinitionAt, all_definitions}
+use Rattle.plan_ir.specs.schema_tables.Types.{Text, Defs}
+use Rattle.plan_ir.specs.schema_rules.declared.fault.Rule.{Rule}
+use Rattle.plan_ir.specs.schema_rules.declared.fault.Rule.TheVariants as R
 
 -- the bytes of documents are these trees; the first has the number `n`
 abbrev pub AreDocuments : (n : ℕ) → List Text → List (Placed Document) → Type 0

@@ -1,16 +1,16 @@
 -- The texts of the operations of an accepted project.
 use Rattle.std.specs.Prelude.{◌≡◌, ℕ, List, Some}
-use Rattle.gql_ast.specs.declared.document.Document.{Document}
-use Rattle.gql_ast.specs.declared.place.Placed.{Placed}
-use Rattle.gql_parse.specs.Trees.{IsDocument}
-use Rattle.plan_expand.specs.Answers.{whole_in}
+use Rattle.plan_ir.specs.gql_ast.declared.document.Document.{Document}
+use Rattle.plan_ir.specs.gql_ast.declared.place.Placed.{Placed}
+use Rattle.text_places.specs.gql_parse.Trees.{IsDocument}
+use Rattle.plan_read.specs.plan_expand.Answers.{whole_in}
 use Rattle.plan_ir.specs.Expansion.{Whole}
 use Rattle.plan_ir.specs.OperationText.{operation_text}
 use Rattle.plan_ir.specs.declared.form.Form.TheVariants as F
 use Rattle.plan_project.specs.Projects.{IsAccepted}
-use Rattle.plan_text.specs.Documents.{document_of}
-use Rattle.plan_text.specs.Printed.{printed_operation}
-use Rattle.schema_tables.specs.Types.{Text, Defs}
+use Rattle.plan_read.specs.plan_text.Documents.{document_of}
+use Rattle.plan_read.specs.plan_text.Printed.{printed_operation}
+use Rattle.plan_ir.specs.schema_tables.Types.{Text, Defs}
 
 -- the text of what the operation of a name becomes is one document and no other, whatever number the file has: that of the
 -- printed operation alone, which has this name and the same kind

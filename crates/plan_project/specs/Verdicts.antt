@@ -1,14 +1,14 @@
 -- What is found of the files of a project: they are accepted, or have one fault, and nothing else beside that.
 use Rattle.std.specs.Prelude.{◌≡◌, ◌≤◌, ℕ, List, [], ◌∷◌, map}
-use Rattle.gql_ast.specs.declared.document.Document.{Document}
-use Rattle.gql_ast.specs.declared.fault.ParseFault.{ParseFault}
-use Rattle.gql_ast.specs.declared.fault.ParseFault.TheVariants.{Syntax, NoMemory as NoRoom}
-use Rattle.gql_ast.specs.declared.place.Placed.{Placed}
+use Rattle.plan_ir.specs.gql_ast.declared.document.Document.{Document}
+use Rattle.plan_ir.specs.gql_ast.declared.fault.ParseFault.{ParseFault}
+use Rattle.plan_ir.specs.gql_ast.declared.fault.ParseFault.TheVariants.{Syntax, NoMemory as NoRoom}
+use Rattle.plan_ir.specs.gql_ast.declared.place.Placed.{Placed}
 use Rattle.plan_project.specs.Projects.{AreDocuments, IsAccepted, IsSyntaxOf, IsDocumentsFault, IsFirstFault}
 use Rattle.plan_project.specs.declared.compiling.CompileFault.{CompileFault}
 use Rattle.plan_project.specs.declared.compiling.CompileFault.TheVariants.{Refused, NoMemory}
 use Rattle.plan_project.specs.declared.fault.ProjectFault.{ProjectFault}
-use Rattle.schema_tables.specs.Types.{Text, Defs}
+use Rattle.plan_ir.specs.schema_tables.Types.{Text, Defs}
 
 -- the texts are this project and no other, and have no fault
 pub record IsTheProject (schema : Text) (texts : List Text) (defs : Defs) (ps : List (Placed Document)) : Type 0 where

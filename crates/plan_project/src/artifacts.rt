@@ -5,7 +5,7 @@ ghost use Rattle.plan_project.specs.Expansions.{line_lists, list_of, text_named}
 
 use crate::project::Project;
 use crate::ready::ReadyProject;
-use gql_plain::{Name, NoMemory, Words};
+use plan_ir::{Name, NoMemory, Words};
 use std::alloc::Global;
 
 /// What stands ready to write the artifacts of a project.

@@ -1,22 +1,20 @@
 //! The rules on documents, in their order.
 ghost use Rattle.std.specs.Prelude.{◌≡◌, None, OnOk, IfErr};
-ghost use Rattle.doc_sites.specs.Definitions.{AreIn};
-ghost use Rattle.gql_graph.specs.Rules.{first_broken};
+ghost use Rattle.plan_ir.specs.doc_sites.Definitions.{AreIn};
+ghost use Rattle.plan_ir.specs.gql_graph.Rules.{first_broken};
 ghost use Rattle.plan_project.specs.Expansions.{merge_fault, size_rules};
 ghost use Rattle.plan_project.specs.Noting.{IsFaultOfDocuments};
 ghost use Rattle.plan_project.specs.Projects.{document_rules};
-ghost use Rattle.schema_types.specs.DocumentRules.{Meet, AreFaulty};
+ghost use Rattle.plan_ir.specs.schema_types.DocumentRules.{Meet, AreFaulty};
 
 use crate::expansions::check_expansions;
 use crate::fault::DocumentsFault;
 use doc_args::check_args_of;
 use doc_fields::check_fields_of;
 use doc_names::check_names_of;
-use doc_sites::{DefinitionAt, definitions_at};
-use gql_ast::Documents;
-use gql_plain::NoMemory;
-use relay_dirs::check_relay_of;
-use schema_types::{RuleFault, Schema};
+use plan_ir::{
+    DefinitionAt, Documents, NoMemory, RuleFault, Schema, check_relay_of, definitions_at,
+};
 use std::alloc::Global;
 
 /// Whether documents meet the rules V1 to V16 (GraphQL, October 2021, section 5), V17 to V22 on the

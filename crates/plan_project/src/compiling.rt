@@ -8,10 +8,9 @@ use crate::file::ProjectFile;
 use crate::parsing::{fault_of, parse_documents};
 use crate::places::{documents_fault, fault_at, schema_fault};
 use crate::project::Project;
-use gql_plain::NoMemory;
-use gql_sdl::parse_schema;
-use schema_types::{RuleFault, Schema};
+use plan_ir::{NoMemory, RuleFault, Schema};
 use std::alloc::Global;
+use text_places::parse_schema;
 
 /// Why there is no project.
 #[derive(Clone, Copy, Debug, Drop)]

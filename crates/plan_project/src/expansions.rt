@@ -2,25 +2,20 @@
 //! and E2, and then V23 and V24 (this project's own; the merging of fields by GraphQL, October 2021,
 //! section 5.3.2).
 ghost use Rattle.std.specs.Prelude.{◌≡◌, ◌∷◌, [], None, IfErr, IfOk, OnOk};
-ghost use Rattle.doc_merge.specs.Faults.{first_fault};
-ghost use Rattle.doc_sites.specs.Definitions.{AreIn};
-ghost use Rattle.doc_sites.specs.SitesView.{definition_of};
-ghost use Rattle.gql_graph.specs.Rules.{first_broken};
-ghost use Rattle.plan_expand.specs.Answers.{whole_in};
-ghost use Rattle.plan_expand.specs.Preparing.{IsReady};
+ghost use Rattle.plan_read.specs.doc_merge.Faults.{first_fault};
+ghost use Rattle.plan_ir.specs.doc_sites.Definitions.{AreIn};
+ghost use Rattle.plan_ir.specs.doc_sites.SitesView.{definition_of};
+ghost use Rattle.plan_ir.specs.gql_graph.Rules.{first_broken};
+ghost use Rattle.plan_read.specs.plan_expand.Answers.{whole_in};
+ghost use Rattle.plan_read.specs.plan_expand.Preparing.{IsReady};
 ghost use Rattle.plan_project.specs.Expansions.{merge_fault, size_rules};
 ghost use Rattle.plan_project.specs.Noting.{HasNoted, HasNotedAll, HasNotedAt, HasNotedFault, IsFaultOfExpansions};
 
 use crate::fault::DocumentsFault;
 use crate::least_faults::LeastFaults;
-use doc_merge::{MergeFault, check_merge};
-use doc_sites::DefinitionAt;
-use gql_ast::Documents;
-use gql_plain::{Name, NoMemory};
-use plan_expand::{ExpandFault, Expander, Form};
-use plan_ir::Expanded;
-use schema_trees::located::NameAt;
-use schema_types::Schema;
+use plan_ir::located::NameAt;
+use plan_ir::{DefinitionAt, Documents, Expanded, Name, NoMemory, Schema};
+use plan_read::{ExpandFault, Expander, Form, MergeFault, check_merge};
 use std::alloc::Global;
 
 /// Whether the operations and the fragments of documents that meet V1 to V22 meet the rules on what

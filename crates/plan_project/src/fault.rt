@@ -1,6 +1,6 @@
 //! What is wrong with a project.
-use doc_merge::PlaceFault;
-use schema_types::{NodeFault, Rule};
+use plan_ir::{NodeFault, Rule};
+use plan_read::PlaceFault;
 
 /// A rule that a project does not meet, and the line and the column, both from 1, of the file where
 /// it does not.

@@ -1,7 +1,7 @@
 //! The files of a project.
 ghost use Rattle.std.specs.Prelude.{◌≡◌, ◌<◌, ◌^◌, ◌-◌, length, vec_len};
 
-use gql_plain::Words;
+use plan_ir::Words;
 use std::marker::Model;
 
 /// A file of a project: its name, and its bytes, which are fewer than 2^32 - 1. Contracts see it as

@@ -4,11 +4,10 @@ ghost use Rattle.plan_project.specs.Noting as noting;
 ghost use Rattle.plan_project.specs.Noting.{HasNotedFault};
 
 use crate::fault::DocumentsFault;
-use doc_merge::PlaceFault;
-use doc_merge::least::Least as LeastPlace;
-use gql_ast::FilePlace;
-use gql_graph::least::Least;
-use schema_types::{NodeFault, Rule};
+use plan_ir::least::Least;
+use plan_ir::{FilePlace, NodeFault, Rule};
+use plan_read::PlaceFault;
+use plan_read::least::Least as LeastPlace;
 
 /// The least places at which expanded operations and fragments do not meet rules: the nodes of the
 /// names of those that have too many nodes (E1) or nest too deep (E2), and the places of values that

@@ -20,7 +20,11 @@ mod ready;
 
 pub use artifacts::Artifacts;
 pub use compiling::{CompileFault, compile};
+pub use doc_args::check_args;
+pub use doc_fields::check_fields;
+pub use doc_names::check_names;
 pub use fault::ProjectFault;
 pub use file::ProjectFile;
 pub use operations::{Compiled, CompiledFragment};
 pub use project::Project;
+pub use text_places::{parse_document, parse_schema};

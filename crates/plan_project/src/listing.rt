@@ -1,7 +1,7 @@
 //! The operations and the fragments of a project, by their names.
 ghost use Rattle.std.specs.Prelude.{◌≡◌, Some, None, cond, bytes_eq, IfOk, OnOk};
 ghost use Rattle.std.specs.BTreeMap.{get_by_text};
-ghost use Rattle.gql_graph.specs.Texts.{Text};
+ghost use Rattle.plan_ir.specs.gql_graph.Texts.{Text};
 ghost use Rattle.plan_project.specs.Filling.{AreFragments, AreOperations, IsFragmentOf, IsOperationOf, Takes, first_of, fragment_under, operation_under, or_else};
 ghost use Rattle.plan_project.specs.Lookups.{HasFragments, HasOperations};
 ghost use Rattle.plan_project.specs.Planning.{CanPlan};
@@ -9,9 +9,7 @@ ghost use Rattle.plan_project.specs.Projects.{IsAcceptedProject};
 
 use crate::operations::{Compiled, CompiledFragment, compile_fragment, compile_operation};
 use crate::planner::Planner;
-use gql_ast::{Definition, Documents};
-use gql_plain::NoMemory;
-use schema_types::Schema;
+use plan_ir::{Definition, Documents, NoMemory, Schema};
 use std::alloc::Global;
 use std::collections::BTreeMap;
 

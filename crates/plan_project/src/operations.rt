@@ -1,23 +1,21 @@
 //! What is kept of the operations and the fragments of an accepted project, with their plans.
 ghost use Rattle.std.specs.Prelude.{◌≡◌, [], ◌∷◌, Some, cond, is_some, map, option_map, true, IfOk};
-ghost use Rattle.plan_expand.specs.Answers.{whole_in};
+ghost use Rattle.plan_read.specs.plan_expand.Answers.{whole_in};
 ghost use Rattle.plan_ir.specs.Expansion.{Whole};
 ghost use Rattle.plan_ir.specs.declared.form.Form.TheVariants as form;
 ghost use Rattle.plan_project.specs.Filling.{IsFragmentOf, IsNamedOperation};
 ghost use Rattle.plan_project.specs.Lookups.{fragment_in, operation_in};
 ghost use Rattle.plan_project.specs.Planning.{CanPlan};
-ghost use Rattle.schema_tables.specs.Types as types;
+ghost use Rattle.plan_ir.specs.schema_tables.Types as types;
 
 use crate::planner::Planner;
 use crate::ready::expanded_operation;
-use gql_ast::{Fragment, Kind, VariableDefs};
-use gql_plain::{Ids, Name, NoMemory};
-use plan_build::normal::one_type;
-use plan_build::normal_plan;
-use plan_ir::{Expanded, Form, NormalPlan};
+use plan_ir::{
+    Expanded, Form, Fragment, Ids, Kind, Name, NoMemory, NormalPlan, Schema, VariableDefs, locals,
+};
 use plan_order::KeptReader;
-use relay_dirs::locals;
-use schema_types::Schema;
+use plan_read::normal::one_type;
+use plan_read::normal_plan;
 use std::alloc::Global;
 use std::rc::Rc;
 

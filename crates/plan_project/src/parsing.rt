@@ -6,10 +6,9 @@ ghost use Rattle.plan_project.specs.Verdicts.{AreOnlyDocuments, AreNoDocuments, 
 use crate::compiling::CompileFault;
 use crate::fault::ProjectFault;
 use crate::file::ProjectFile;
-use gql_ast::{Documents, ParseFault, SyntaxFault};
-use gql_parse::parse_document;
-use schema_types::Rule;
+use plan_ir::{Documents, ParseFault, Rule, SyntaxFault};
 use std::alloc::Global;
+use text_places::parse_document;
 
 /// The trees of documents, which are numbered from 1.
 ///

@@ -1,11 +1,10 @@
 //! The places of the nodes at which rules are broken.
 ghost use Rattle.std.specs.Prelude.{◌≡◌, ◌<◌, length};
 ghost use Rattle.plan_project.specs.Faults.{fault_at, IsAt};
-ghost use Rattle.schema_types.specs.DocumentRules.{places_of};
+ghost use Rattle.plan_ir.specs.schema_types.DocumentRules.{places_of};
 
 use crate::fault::ProjectFault;
-use gql_ast::{Documents, FilePlace, FilePlaces};
-use schema_types::{NodeFault, Rule};
+use plan_ir::{Documents, FilePlace, FilePlaces, NodeFault, Rule};
 
 /// The fault of a rule at a place.
 pub(crate) fn fault_at(place: &FilePlace, rule: Rule) -> ProjectFault

@@ -4,14 +4,9 @@ ghost use Rattle.plan_project.specs.Planning.{CanPlan};
 ghost use Rattle.plan_project.specs.Projects.{IsAcceptedProject};
 ghost use Rattle.plan_read.specs.Plans.{reader_in};
 
-use doc_sites::definitions_at;
-use gql_ast::Documents;
-use gql_plain::{Name, NoMemory};
-use plan_expand::Expander;
-use plan_ir::Form;
+use plan_ir::{Documents, Form, Name, NoMemory, Schema, definitions_at};
 use plan_order::KeptReader;
-use plan_read::Readers;
-use schema_types::Schema;
+use plan_read::{Expander, Readers};
 use std::alloc::Global;
 use std::rc::Rc;
 

@@ -5,9 +5,7 @@ ghost use Rattle.plan_project.specs.Projects.{IsAcceptedProject};
 
 use crate::listing::tables_of;
 use crate::operations::{Compiled, CompiledFragment};
-use gql_ast::Documents;
-use gql_plain::NoMemory;
-use schema_types::Schema;
+use plan_ir::{Documents, NoMemory, Schema};
 use std::alloc::Global;
 use std::collections::BTreeMap;
 use std::marker::Model;
@@ -26,14 +24,14 @@ impl Model for Project {
     ghost use Rattle.std.specs.Prelude.{List};
     ghost use Rattle.std.specs.BTreeMap.{get_by_text};
     ghost use Rattle.std.specs.Coded.{coded×, coded_list};
-    ghost use Rattle.gql_ast.specs.contracts.document.Document as document_row;
-    ghost use Rattle.gql_ast.specs.contracts.place.Placed as placed_row;
-    ghost use Rattle.gql_ast.specs.contracts.schema.SchemaDef as definition_row;
-    ghost use Rattle.gql_ast.specs.declared.document.Document.{Document};
-    ghost use Rattle.gql_ast.specs.declared.place.Placed.{Placed};
+    ghost use Rattle.plan_ir.specs.gql_ast.contracts.document.Document as document_row;
+    ghost use Rattle.plan_ir.specs.gql_ast.contracts.place.Placed as placed_row;
+    ghost use Rattle.plan_ir.specs.gql_ast.contracts.schema.SchemaDef as definition_row;
+    ghost use Rattle.plan_ir.specs.gql_ast.declared.document.Document.{Document};
+    ghost use Rattle.plan_ir.specs.gql_ast.declared.place.Placed.{Placed};
     ghost use Rattle.plan_project.specs.Lookups.{HasFragments, HasOperations};
     ghost use Rattle.plan_project.specs.Projects.{IsAcceptedProject};
-    ghost use Rattle.schema_tables.specs.Types.{Defs};
+    ghost use Rattle.plan_ir.specs.schema_tables.Types.{Defs};
 
     ghost Value = { Defs × List (Placed Document) };
 

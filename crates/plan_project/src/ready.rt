@@ -1,21 +1,17 @@
 //! The artifacts of an accepted project that stands ready to be expanded: lines and texts.
 ghost use Rattle.std.specs.Prelude.{◌≡◌, [], false, get_or, length, option_map, IfOk};
-ghost use Rattle.doc_sites.specs.SitesView.{definition_of};
-ghost use Rattle.plan_expand.specs.Answers.{whole_in, whole_is};
-ghost use Rattle.plan_expand.specs.Preparing.{IsReady};
+ghost use Rattle.plan_ir.specs.doc_sites.SitesView.{definition_of};
+ghost use Rattle.plan_read.specs.plan_expand.Answers.{whole_in, whole_is};
+ghost use Rattle.plan_read.specs.plan_expand.Preparing.{IsReady};
 ghost use Rattle.plan_ir.specs.Expansion.{Whole};
 ghost use Rattle.plan_ir.specs.Sizes.{has_too_many_nodes, is_too_deep};
 ghost use Rattle.plan_ir.specs.declared.form.Form.TheVariants as form;
 ghost use Rattle.plan_project.specs.Expansions.{IsWithinLimits, fragment_lines, line_lists, lines_at, list_of, operation_lines, text_named};
 
 use crate::project::Project;
-use doc_sites::{DefinitionAt, FragmentAt, definitions_at};
-use gql_ast::Kind;
-use gql_plain::{Name, NoMemory, Words};
-use plan_expand::{ExpandFault, Expander, Form};
-use plan_ir::Expanded;
-use plan_text::{Artifact, artifact_line, operation_text};
-use schema_trees::located::NameAt;
+use plan_ir::located::NameAt;
+use plan_ir::{DefinitionAt, Expanded, FragmentAt, Kind, Name, NoMemory, Words, definitions_at};
+use plan_read::{Artifact, ExpandFault, Expander, Form, artifact_line, operation_text};
 use std::alloc::Global;
 use std::marker::Model;
 
@@ -30,16 +26,16 @@ pub(crate) struct ReadyProject<'p> {
 impl<'p> Model for ReadyProject<'p> {
     ghost use Rattle.std.specs.Prelude.{◌≡◌, List, None};
     ghost use Rattle.std.specs.Coded.{coded×, coded_list};
-    ghost use Rattle.doc_sites.specs.Definitions.{AreIn};
-    ghost use Rattle.gql_ast.specs.contracts.document.Document as document_row;
-    ghost use Rattle.gql_ast.specs.contracts.place.Placed as placed_row;
-    ghost use Rattle.gql_ast.specs.contracts.schema.SchemaDef as definition_row;
-    ghost use Rattle.gql_ast.specs.declared.document.Document.{Document};
-    ghost use Rattle.gql_ast.specs.declared.place.Placed.{Placed};
-    ghost use Rattle.gql_graph.specs.Rules.{first_broken};
-    ghost use Rattle.plan_expand.specs.Preparing.{IsReady};
+    ghost use Rattle.plan_ir.specs.doc_sites.Definitions.{AreIn};
+    ghost use Rattle.plan_ir.specs.gql_ast.contracts.document.Document as document_row;
+    ghost use Rattle.plan_ir.specs.gql_ast.contracts.place.Placed as placed_row;
+    ghost use Rattle.plan_ir.specs.gql_ast.contracts.schema.SchemaDef as definition_row;
+    ghost use Rattle.plan_ir.specs.gql_ast.declared.document.Document.{Document};
+    ghost use Rattle.plan_ir.specs.gql_ast.declared.place.Placed.{Placed};
+    ghost use Rattle.plan_ir.specs.gql_graph.Rules.{first_broken};
+    ghost use Rattle.plan_read.specs.plan_expand.Preparing.{IsReady};
     ghost use Rattle.plan_project.specs.Expansions.{size_rules};
-    ghost use Rattle.schema_tables.specs.Types.{Defs};
+    ghost use Rattle.plan_ir.specs.schema_tables.Types.{Defs};
 
     ghost Value = { Defs × List (Placed Document) };
 

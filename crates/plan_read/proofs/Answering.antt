@@ -1,7 +1,7 @@
 -- What the code answers for a name is the plan of the project.
 use Rattle.std.proofs.Common.{◌≡◌, Bool, true, true≢false, List, [], ◌∷◌, Option, Some, None, option_map, IfSome, ap, sym, ◌∙◌}
 use Rattle.std.specs.Prelude.{length, is_some}
-use Rattle.gql_ast.specs.Sels.{Sels}
+use Rattle.plan_ir.specs.gql_ast.Sels.{Sels}
 use Rattle.plan_expand.specs.Answers.{definitions_in, project}
 use Rattle.plan_ir.specs.Expansion.{Project, name_or, operation_named}
 use Rattle.plan_ir.specs.Reader.{Reader}
@@ -17,9 +17,9 @@ use Rattle.plan_read.specs.Steps.{fragment_reader, operation_reader, reader_step
 use Rattle.plan_read.specs.declared.reader.Readers.{Readers}
 use Rattle.plan_read.proofs.Entered.{reading_is}
 use Rattle.plan_read.proofs.Tables.{some_mapped}
-use Rattle.schema_tables.specs.Types.{Text, is_composite, possible, root}
-use Rattle.schema_types.specs.NameRules.{fragment_named, fragments, operations}
-use Rattle.schema_types.specs.Sites.{FragmentAt, OperationAt}
+use Rattle.plan_ir.specs.schema_tables.Types.{Text, is_composite, possible, root}
+use Rattle.plan_ir.specs.schema_types.NameRules.{fragment_named, fragments, operations}
+use Rattle.plan_ir.specs.schema_types.Sites.{FragmentAt, OperationAt}
 
 module _ (r : Readers) (ready : IsReady r) where
   steps_are : (scope : Scope) (ts : List Text) (s : Sels)

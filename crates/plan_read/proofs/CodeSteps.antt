@@ -2,13 +2,13 @@
 use Rattle.std.proofs.Common.{◌≡◌, ℕ, zero, suc, ◌+◌, ◌-◌, ◌<◌, ◌≤◌, Bool, true, false, true≢false, IsTrue, cond, ◌&&◌, List, [], ◌∷◌, ◌++◌, drop, length, get_or, map, Option, Some, None, bytes_eq, refl, ap, sym, ◌∙◌, arith}
 use Rattle.std.proofs.lemmas.List.{drop_all, drop_more}
 use Rattle.std.specs.Prelude.{◌↔◌, codes}
-use Rattle.gql_ast.specs.SelectionView.{sel_before, sel_of, sels_of}
-use Rattle.gql_ast.specs.Sels as sels
-use Rattle.gql_ast.specs.Sels.{Sels}
-use Rattle.gql_ast.specs.Value.{Val}
-use Rattle.gql_ast.specs.declared.directive.Directive.{Directive}
-use Rattle.gql_ast.specs.declared.selection.Selection.{Selection}
-use Rattle.gql_ast.specs.declared.selection.Selection.TheVariants as S
+use Rattle.plan_ir.specs.gql_ast.SelectionView.{sel_before, sel_of, sels_of}
+use Rattle.plan_ir.specs.gql_ast.Sels as sels
+use Rattle.plan_ir.specs.gql_ast.Sels.{Sels}
+use Rattle.plan_ir.specs.gql_ast.Value.{Val}
+use Rattle.plan_ir.specs.gql_ast.declared.directive.Directive.{Directive}
+use Rattle.plan_ir.specs.gql_ast.declared.selection.Selection.{Selection}
+use Rattle.plan_ir.specs.gql_ast.declared.selection.Selection.TheVariants as S
 use Rattle.plan_build.specs.Classes.{Class, Target, all_lead_to, classes_of, one_target, same_target, sorted_class, target_on, with_types}
 use Rattle.plan_build.specs.ClassView.{class_view}
 use Rattle.plan_build.specs.Conditions.{conditions_of}
@@ -21,9 +21,9 @@ use Rattle.plan_ir.specs.Substitution.{Arguments, Scope, substitute_in}
 use Rattle.plan_ir.specs.declared.guard.Condition.{Condition}
 use Rattle.plan_read.specs.Reading.{Find, Ready, entered_ready, entering, reading, ready_scope, spread_ready}
 use Rattle.plan_read.specs.Steps.{behind, class_steps, field_steps, guarded_classes, inline_steps, on_steps, pointer_arguments, pointer_step, steps_with, target_step}
-use Rattle.relay_dirs.specs.Connections.{connection_among}
-use Rattle.relay_model.specs.Collection.{is_open}
-use Rattle.schema_tables.specs.Types.{Text, Defs, is_composite, possible}
+use Rattle.plan_ir.specs.relay_dirs.Connections.{connection_among}
+use Rattle.plan_build.specs.relay_model.Collection.{is_open}
+use Rattle.plan_ir.specs.schema_tables.Types.{Text, Defs, is_composite, possible}
 
 -- ---- guards
 

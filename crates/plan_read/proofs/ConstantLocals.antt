@@ -1,26 +1,26 @@
 -- Where documents meet the rules, the default of each local variable of each fragment is a constant.
 use Rattle.std.proofs.Common.{◌≡◌, ℕ, Bool, true, false, true≢false, cond, List, [], ◌∷◌, ◌++◌, Option, Some, None, sym}
 use Rattle.std.specs.List.{AllByRecursion}
-use Rattle.gql_ast.specs.Value.{Val}
-use Rattle.gql_ast.specs.declared.document.Document.{Document}
-use Rattle.gql_ast.specs.declared.place.FilePlace.{FilePlace}
-use Rattle.gql_ast.specs.declared.place.Placed.{Placed}
-use Rattle.gql_graph.specs.Rules.{each}
+use Rattle.plan_ir.specs.gql_ast.Value.{Val}
+use Rattle.plan_ir.specs.gql_ast.declared.document.Document.{Document}
+use Rattle.plan_ir.specs.gql_ast.declared.place.FilePlace.{FilePlace}
+use Rattle.plan_ir.specs.gql_ast.declared.place.Placed.{Placed}
+use Rattle.plan_ir.specs.gql_graph.Rules.{each}
 use Rattle.plan_build.proofs.CovarianceLists.{all_hold, all_joined, all_parts, first_true, none_each, none_first, none_then, right, then_true}
 use Rattle.plan_build.proofs.SuitedNodes.{fragment_holds}
 use Rattle.plan_build.specs.Laws.{MeetsRules, definitions, rules}
 use Rattle.plan_ir.specs.Expansion.{project_of}
 use Rattle.plan_read.proofs.KnownDocuments.{AreConstant, HaveConstants, IsConstant}
-use Rattle.relay_dirs.specs.Locals.{Local, as_list, defines_locals, local_at, local_of, locals_at, locals_of}
-use Rattle.relay_dirs.specs.RelayRules.{default_fits, directives_of_fragment, is_good_local, local_wrong, locals_wrong, locals_wrong_in, relay_rules}
-use Rattle.schema_rules.specs.declared.fault.Rule.{Rule}
-use Rattle.schema_tables.specs.Fits.{literal_fits}
-use Rattle.schema_tables.specs.Types.{Defs}
-use Rattle.schema_types.specs.ArgumentRules.{is_input_type}
-use Rattle.schema_types.specs.DocumentRules.{argument_rules, field_rules, name_rules}
-use Rattle.schema_types.specs.NameRules.{fragments}
-use Rattle.schema_types.specs.Sites.{ArgumentAt, DefinitionAt, DirectiveAt, FragmentAt, fragment, operation}
-use Rattle.schema_values.specs.Fittings.{is_constant}
+use Rattle.plan_ir.specs.relay_dirs.Locals.{Local, as_list, defines_locals, local_at, local_of, locals_at, locals_of}
+use Rattle.plan_ir.specs.relay_dirs.RelayRules.{default_fits, directives_of_fragment, is_good_local, local_wrong, locals_wrong, locals_wrong_in, relay_rules}
+use Rattle.plan_ir.specs.schema_rules.declared.fault.Rule.{Rule}
+use Rattle.plan_ir.specs.schema_tables.Fits.{literal_fits}
+use Rattle.plan_ir.specs.schema_tables.Types.{Defs}
+use Rattle.plan_ir.specs.schema_types.ArgumentRules.{is_input_type}
+use Rattle.plan_ir.specs.schema_types.DocumentRules.{argument_rules, field_rules, name_rules}
+use Rattle.plan_ir.specs.schema_types.NameRules.{fragments}
+use Rattle.plan_ir.specs.schema_types.Sites.{ArgumentAt, DefinitionAt, DirectiveAt, FragmentAt, fragment, operation}
+use Rattle.plan_ir.specs.schema_values.Fittings.{is_constant}
 
 module _ (defs : Defs) where
   default_constant : (l : Local) → default_fits defs l.of l.default ≡ true → IsConstant l.default

@@ -1,13 +1,13 @@
 -- How deep selection sets stand in one another, where those of fragments that spreads enter stand in the spreads.
 use Rattle.std.proofs.Common.{◌≡◌, ℕ, zero, suc, ◌+◌, ◌-◌, ◌<◌, ◌≤◌, List, [], ◌∷◌, length, get_or, Option, Some, None, ap, sym, ◌∙◌, arith}
 use Rattle.std.specs.Prelude.{max}
-use Rattle.gql_ast.specs.SelectionView.{sel_before, sel_of, sels_of}
-use Rattle.gql_ast.specs.Sels as sels
-use Rattle.gql_ast.specs.Sels.{Sels}
-use Rattle.gql_ast.specs.declared.selection.Selection.{Selection}
-use Rattle.gql_ast.specs.declared.selection.Selection.TheVariants as S
+use Rattle.plan_ir.specs.gql_ast.SelectionView.{sel_before, sel_of, sels_of}
+use Rattle.plan_ir.specs.gql_ast.Sels as sels
+use Rattle.plan_ir.specs.gql_ast.Sels.{Sels}
+use Rattle.plan_ir.specs.gql_ast.declared.selection.Selection.{Selection}
+use Rattle.plan_ir.specs.gql_ast.declared.selection.Selection.TheVariants as S
 use Rattle.plan_read.specs.Reading.{Find, Ready}
-use Rattle.schema_tables.specs.Types.{Text}
+use Rattle.plan_ir.specs.schema_tables.Types.{Text}
 
 -- `enter` gives the depth of what a spread enters
 abbrev pub depth_with : (enter : Text → ℕ) → Sels → ℕ

@@ -1,16 +1,16 @@
 -- The steps that the code makes, with the fragments by their names, are those of the project.
 use Rattle.std.proofs.Common.{◌≡◌, ℕ, zero, suc, Bool, true, false, cond, List, [], ◌∷◌, Option, Some, None, option_map, bytes_eq, refl, ap, sym, ◌∙◌}
-use Rattle.gql_ast.specs.Sels.{Sels}
-use Rattle.gql_ast.specs.declared.directive.Directive.{Directive}
-use Rattle.gql_graph.proofs.TextSteps.{same_text}
+use Rattle.plan_ir.specs.gql_ast.Sels.{Sels}
+use Rattle.plan_ir.specs.gql_ast.declared.directive.Directive.{Directive}
+use Rattle.plan_ir.proofs.gql_graph_laws.TextSteps.{same_text}
 use Rattle.plan_build.specs.Conditions.{conditions_of}
 use Rattle.plan_ir.specs.Expansion.{Project, printed_conditions}
 use Rattle.plan_ir.specs.Substitution.{Scope, scope_at_spread}
 use Rattle.plan_read.specs.Reading.{Find, HasFragments, Ready, entered_ready, reading, ready_fragment, ready_scope, spread_ready}
 use Rattle.plan_read.specs.Steps.{inline_steps, reader_steps, spread_steps, steps_with}
-use Rattle.schema_tables.specs.Types.{Text}
-use Rattle.schema_types.specs.NameRules.{fragment_named}
-use Rattle.schema_types.specs.Sites.{FragmentAt}
+use Rattle.plan_ir.specs.schema_tables.Types.{Text}
+use Rattle.plan_ir.specs.schema_types.NameRules.{fragment_named}
+use Rattle.plan_ir.specs.schema_types.Sites.{FragmentAt}
 
 -- ---- the fragment of a name has that name
 

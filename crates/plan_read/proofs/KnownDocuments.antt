@@ -1,13 +1,13 @@
 -- Selections of documents give by the masked form, one by one, what they give with what is known of them.
 use Rattle.std.proofs.Common.{◌≡◌, ℕ, zero, suc, ◌+◌, true, true≢false, cond, List, [], ◌∷◌, Option, Some, None, option_map, refl, ap, sym, ◌∙◌, subst}
 use Rattle.std.specs.List.{AllByRecursion, AllZip}
-use Rattle.gql_ast.specs.Sels as sels
-use Rattle.gql_ast.specs.Sels.{Sels}
-use Rattle.gql_ast.specs.Value as v
-use Rattle.gql_ast.specs.Value.{Val, Vals, Members}
-use Rattle.gql_ast.specs.declared.directive.Directive.{Directive}
-use Rattle.gql_graph.specs.Rules.{each}
-use Rattle.gql_plain.specs.Tree as t
+use Rattle.plan_ir.specs.gql_ast.Sels as sels
+use Rattle.plan_ir.specs.gql_ast.Sels.{Sels}
+use Rattle.plan_ir.specs.gql_ast.Value as v
+use Rattle.plan_ir.specs.gql_ast.Value.{Val, Vals, Members}
+use Rattle.plan_ir.specs.gql_ast.declared.directive.Directive.{Directive}
+use Rattle.plan_ir.specs.gql_graph.Rules.{each}
+use Rattle.plan_ir.specs.gql_plain.Tree as t
 use Rattle.plan_build.proofs.CovarianceLists.{first_true, then_true}
 use Rattle.plan_build.proofs.Substituted.{arguments-substituted, left-substituted}
 use Rattle.plan_build.specs.Suited.{type_inside}
@@ -17,23 +17,23 @@ use Rattle.plan_ir.specs.Substitution.{Arguments, Scope, arguments_in, scope_at_
 use Rattle.plan_read.proofs.KnownParts.{Entered, Known, gather, gather_in, gather_with, known_at, known_field, known_inside, known_pointer, known_spread, not_entered, types_inside}
 use Rattle.plan_read.proofs.Zips.{zip_kept, zip_none, zip_where}
 use Rattle.plan_read.specs.Steps.{pointer_arguments}
-use Rattle.plan_text.proofs.Collects.{not_printed}
-use Rattle.plan_text.proofs.Evaluating.{Means, means_inside, value-substituted, value_of_name-substituted}
-use Rattle.plan_text.specs.Collecting.{applies, environment_inside, is_left_out, local_value, with_locals}
-use Rattle.relay_dirs.specs.Connections.{connection_among, value_of_name}
-use Rattle.relay_dirs.specs.Locals.{Local, locals_of}
-use Rattle.relay_model.specs.Collection.{Part, ask_of, collect, collect_in, collect_with, connection_asked, enter_where, form_on, is_inline, is_open, scope_inside, spread_items}
-use Rattle.relay_model.specs.Readings.{masked_setting}
-use Rattle.schema_tables.specs.Types.{Text}
-use Rattle.schema_trees.specs.Located.{directives_nodes}
-use Rattle.schema_types.specs.Environments.{Values, evaluation, items_evaluated, pairs_evaluated, with_new_pair, with_pair}
-use Rattle.schema_types.specs.NameRules.{fragment_named}
-use Rattle.schema_types.specs.Sites.{FragmentAt, arguments_nodes, condition_or, head_nodes, optional_name_nodes, selections_nodes}
-use Rattle.schema_values.proofs.ConstantValues.{constant_value}
-use Rattle.schema_values.specs.Fittings.{is_constant}
-use Rattle.store_model.proofs.ItemReads.{GivesItems}
-use Rattle.store_model.proofs.SameItems.{AlikeItem, zip_append, zip_cond, zip_either}
-use Rattle.store_model.specs.Items.{Item, asked, pointed}
+use Rattle.plan_build.proofs.plan_text_laws.Collects.{not_printed}
+use Rattle.plan_build.proofs.plan_text_laws.Evaluating.{Means, means_inside, value-substituted, value_of_name-substituted}
+use Rattle.plan_build.specs.plan_text.Collecting.{applies, environment_inside, is_left_out, local_value, with_locals}
+use Rattle.plan_ir.specs.relay_dirs.Connections.{connection_among, value_of_name}
+use Rattle.plan_ir.specs.relay_dirs.Locals.{Local, locals_of}
+use Rattle.plan_build.specs.relay_model.Collection.{Part, ask_of, collect, collect_in, collect_with, connection_asked, enter_where, form_on, is_inline, is_open, scope_inside, spread_items}
+use Rattle.plan_build.specs.relay_model.Readings.{masked_setting}
+use Rattle.plan_ir.specs.schema_tables.Types.{Text}
+use Rattle.plan_ir.specs.schema_trees.Located.{directives_nodes}
+use Rattle.plan_ir.specs.schema_types.Environments.{Values, evaluation, items_evaluated, pairs_evaluated, with_new_pair, with_pair}
+use Rattle.plan_ir.specs.schema_types.NameRules.{fragment_named}
+use Rattle.plan_ir.specs.schema_types.Sites.{FragmentAt, arguments_nodes, condition_or, head_nodes, optional_name_nodes, selections_nodes}
+use Rattle.plan_ir.proofs.schema_values_laws.ConstantValues.{constant_value}
+use Rattle.plan_ir.specs.schema_values.Fittings.{is_constant}
+use Rattle.plan_ir.proofs.store_model_laws.ItemReads.{GivesItems}
+use Rattle.plan_ir.proofs.store_model_laws.SameItems.{AlikeItem, zip_append, zip_cond, zip_either}
+use Rattle.plan_ir.specs.store_model.Items.{Item, asked, pointed}
 
 -- ---- the values that a pointer gives
 

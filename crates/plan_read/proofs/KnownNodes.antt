@@ -3,17 +3,17 @@
 use Rattle.std.proofs.Common.{◌≡◌, ℕ, zero, suc, ◌+◌, Bool, true, false, cond, List, [], ◌∷◌, ◌++◌, map, Option, Some, None, refl, ap, sym, ◌∙◌, subst, append_assoc, inl, inr}
 use Rattle.std.specs.List.{AllByRecursion}
 use Rattle.std.specs.Prelude.{is_some}
-use Rattle.doc_merge.specs.Gathering.{fields_before, fields_of, object_or_none, on_or}
-use Rattle.doc_merge.specs.Merging as merging
-use Rattle.doc_merge.specs.Merging.{Field, Fields, no_fields}
-use Rattle.doc_merge.specs.Paths.{Path, here, under, paths}
-use Rattle.doc_merge.specs.Shapes.{shape_of}
-use Rattle.gql_ast.specs.Sels as sels
-use Rattle.gql_ast.specs.Sels.{Sels}
-use Rattle.gql_ast.specs.Ty.{Ty}
-use Rattle.gql_ast.specs.declared.directive.Directive.{Directive}
-use Rattle.gql_ast.specs.declared.place.FilePlace.{FilePlace}
-use Rattle.gql_plain.specs.Order.{has_text}
+use Rattle.plan_build.specs.doc_merge.Gathering.{fields_before, fields_of, object_or_none, on_or}
+use Rattle.plan_build.specs.doc_merge.Merging as merging
+use Rattle.plan_build.specs.doc_merge.Merging.{Field, Fields, no_fields}
+use Rattle.plan_build.specs.doc_merge.Paths.{Path, here, under, paths}
+use Rattle.plan_build.specs.doc_merge.Shapes.{shape_of}
+use Rattle.plan_ir.specs.gql_ast.Sels as sels
+use Rattle.plan_ir.specs.gql_ast.Sels.{Sels}
+use Rattle.plan_ir.specs.gql_ast.Ty.{Ty}
+use Rattle.plan_ir.specs.gql_ast.declared.directive.Directive.{Directive}
+use Rattle.plan_ir.specs.gql_ast.declared.place.FilePlace.{FilePlace}
+use Rattle.plan_ir.specs.gql_plain.Order.{has_text}
 use Rattle.plan_build.proofs.ClassLaws.{Differ}
 use Rattle.plan_build.proofs.Grouped.{each_so, seen}
 use Rattle.plan_build.proofs.Meaning.{differ_form}
@@ -30,20 +30,20 @@ use Rattle.plan_ir.specs.Substitution.{Arguments, Scope, scope_at_spread, substi
 use Rattle.plan_read.proofs.KnownParts.{Entered, Known, as_nodes, gather, gather_in, gather_with, known_at, known_below, known_field, known_inside, known_pointer, known_spread, not_entered, types_inside}
 use Rattle.plan_read.proofs.KnownSteps.{nodes_inside, suited_before}
 use Rattle.plan_read.proofs.ReaderItems.{differ_inside, has_inside}
-use Rattle.plan_text.proofs.Collects.{nodes_append-end}
-use Rattle.plan_text.proofs.Evaluating.{Means, means_inside}
-use Rattle.plan_text.specs.Collecting.{applies, environment_inside, is_left_out}
-use Rattle.relay_dirs.specs.Connections.{connection_among}
-use Rattle.relay_model.specs.Collection.{is_open}
-use Rattle.schema_rules.specs.Rules.{is_object}
-use Rattle.schema_tables.specs.Types.{Text, Defs, base_of, possible}
-use Rattle.schema_trees.specs.Located.{directives_nodes}
-use Rattle.schema_types.specs.Environments.{Values}
-use Rattle.schema_types.specs.NameRules.{fragment_named}
-use Rattle.schema_types.specs.Sites.{FragmentAt, arguments_nodes, below, condition_or, field_type, head_nodes, optional_name_nodes, selections_nodes}
-use Rattle.store_model.specs.Alike.{Among}
-use Rattle.store_model.specs.Items.{Asked, Item, asked, pointed}
-use Rattle.store_model.specs.Reaches.{types_of}
+use Rattle.plan_build.proofs.plan_text_laws.Collects.{nodes_append-end}
+use Rattle.plan_build.proofs.plan_text_laws.Evaluating.{Means, means_inside}
+use Rattle.plan_build.specs.plan_text.Collecting.{applies, environment_inside, is_left_out}
+use Rattle.plan_ir.specs.relay_dirs.Connections.{connection_among}
+use Rattle.plan_build.specs.relay_model.Collection.{is_open}
+use Rattle.plan_ir.specs.schema_rules.Rules.{is_object}
+use Rattle.plan_ir.specs.schema_tables.Types.{Text, Defs, base_of, possible}
+use Rattle.plan_ir.specs.schema_trees.Located.{directives_nodes}
+use Rattle.plan_ir.specs.schema_types.Environments.{Values}
+use Rattle.plan_ir.specs.schema_types.NameRules.{fragment_named}
+use Rattle.plan_ir.specs.schema_types.Sites.{FragmentAt, arguments_nodes, below, condition_or, field_type, head_nodes, optional_name_nodes, selections_nodes}
+use Rattle.plan_ir.specs.store_model.Alike.{Among}
+use Rattle.plan_ir.specs.store_model.Items.{Asked, Item, asked, pointed}
+use Rattle.plan_ir.specs.store_model.Reaches.{types_of}
 
 -- ---- nodes behind one another
 

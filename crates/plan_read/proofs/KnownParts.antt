@@ -1,9 +1,9 @@
 -- Selections that are read, with what is known of them: the types that their plan is for, and the nodes that they become where every spread is
 -- entered. And what they give on an object type by the masked form.
 use Rattle.std.specs.Prelude.{ℕ, zero, suc, ◌+◌, cond, List, [], ◌∷◌, ◌++◌, Option, Some, None, is_some}
-use Rattle.gql_ast.specs.Sels as sels
-use Rattle.gql_ast.specs.Sels.{Sels}
-use Rattle.gql_ast.specs.declared.directive.Directive.{Directive}
+use Rattle.plan_ir.specs.gql_ast.Sels as sels
+use Rattle.plan_ir.specs.gql_ast.Sels.{Sels}
+use Rattle.plan_ir.specs.gql_ast.declared.directive.Directive.{Directive}
 use Rattle.plan_build.proofs.Parts as nodes
 use Rattle.plan_build.specs.NodesMeaning.{ask_of_node}
 use Rattle.plan_build.specs.Steps.{are_within}
@@ -14,17 +14,17 @@ use Rattle.plan_ir.specs.Nodes.{Nodes, end, nodes_append}
 use Rattle.plan_ir.specs.ReaderMeaning.{ReaderPart, scope_in}
 use Rattle.plan_ir.specs.Substitution.{Arguments, Scope, scope_at_spread, substitute_in}
 use Rattle.plan_read.specs.Steps.{pointer_arguments, reader_steps}
-use Rattle.plan_text.specs.Collecting.{applies, environment_inside, is_left_out}
-use Rattle.relay_dirs.specs.Connections.{connection_among}
-use Rattle.relay_dirs.specs.Locals.{locals_of}
-use Rattle.relay_model.specs.Collection.{Part, form_on, is_inline, is_open}
-use Rattle.schema_tables.specs.Types.{Text, Defs, base_of, possible}
-use Rattle.schema_trees.specs.Located.{directives_nodes}
-use Rattle.schema_types.specs.Environments.{Values}
-use Rattle.schema_types.specs.NameRules.{fragment_named}
-use Rattle.schema_types.specs.Sites.{FragmentAt, arguments_nodes, below, condition_or, field_type, head_nodes, optional_name_nodes, selections_nodes}
-use Rattle.store_model.specs.Items.{Collect, Item, asked, pointed}
-use Rattle.store_model.specs.Reaches.{types_of}
+use Rattle.plan_build.specs.plan_text.Collecting.{applies, environment_inside, is_left_out}
+use Rattle.plan_ir.specs.relay_dirs.Connections.{connection_among}
+use Rattle.plan_ir.specs.relay_dirs.Locals.{locals_of}
+use Rattle.plan_build.specs.relay_model.Collection.{Part, form_on, is_inline, is_open}
+use Rattle.plan_ir.specs.schema_tables.Types.{Text, Defs, base_of, possible}
+use Rattle.plan_ir.specs.schema_trees.Located.{directives_nodes}
+use Rattle.plan_ir.specs.schema_types.Environments.{Values}
+use Rattle.plan_ir.specs.schema_types.NameRules.{fragment_named}
+use Rattle.plan_ir.specs.schema_types.Sites.{FragmentAt, arguments_nodes, below, condition_or, field_type, head_nodes, optional_name_nodes, selections_nodes}
+use Rattle.plan_ir.specs.store_model.Items.{Collect, Item, asked, pointed}
+use Rattle.plan_ir.specs.store_model.Reaches.{types_of}
 
 -- selections, and what stands in the place of their local variables; the types of the records that they are read at; the static type around
 -- them and the one that is counted on; and what their expansion needs, with the nodes that are added behind it

@@ -2,12 +2,12 @@
 use Rattle.std.proofs.Common.{◌≡◌, ℕ, zero, suc, ◌+◌, Bool, true, false, true≢false, cond, List, [], ◌∷◌, ◌++◌, Option, Some, None, bytes_eq, refl, ap, sym, ◌∙◌}
 use Rattle.std.specs.List.{AllZip}
 use Rattle.std.specs.Prelude.{codes, option_map}
-use Rattle.gql_ast.specs.Sels as sels
-use Rattle.gql_ast.specs.Sels.{Sels}
-use Rattle.gql_ast.specs.Ty.{Ty}
-use Rattle.gql_ast.specs.declared.directive.Directive.{Directive}
-use Rattle.gql_graph.proofs.TextSteps.{same_text}
-use Rattle.gql_plain.specs.Order.{has_text}
+use Rattle.plan_ir.specs.gql_ast.Sels as sels
+use Rattle.plan_ir.specs.gql_ast.Sels.{Sels}
+use Rattle.plan_ir.specs.gql_ast.Ty.{Ty}
+use Rattle.plan_ir.specs.gql_ast.declared.directive.Directive.{Directive}
+use Rattle.plan_ir.proofs.gql_graph_laws.TextSteps.{same_text}
+use Rattle.plan_ir.specs.gql_plain.Order.{has_text}
 use Rattle.plan_build.proofs.ClassLaws.{Differ, OneLike, form_of, found, one_class}
 use Rattle.plan_build.proofs.StepLaws.{AreSound, inside_type}
 use Rattle.plan_build.proofs.Substituted.{left-substituted}
@@ -25,21 +25,21 @@ use Rattle.plan_read.proofs.KnownParts.{Entered, Known, as_plan, gather, gather_
 use Rattle.plan_read.proofs.ReaderItems.{below_form, below_types, class_items, conditional_items, differ_inside, has_inside, inline_items, item_of_form, items_append, target_items}
 use Rattle.plan_read.proofs.Zips.{zip_as, zip_if, zip_kept, zip_none}
 use Rattle.plan_read.specs.Steps.{behind, class_steps, entered_steps, field_steps, inline_steps, pointer_arguments, pointer_step, reader_steps, spread_steps, steps_with, target_step}
-use Rattle.plan_text.proofs.Collects.{not_printed}
-use Rattle.plan_text.proofs.Evaluating.{Means, means_inside}
-use Rattle.plan_text.specs.Collecting.{applies, environment_inside, is_left_out}
-use Rattle.relay_dirs.specs.Connections.{connection_among}
-use Rattle.relay_dirs.specs.Locals.{locals_of}
-use Rattle.relay_model.specs.Collection.{connection_asked, form_on, is_inline, is_open}
-use Rattle.schema_tables.specs.Types.{Text, Defs, possible}
-use Rattle.schema_trees.specs.Located.{directives_nodes}
-use Rattle.schema_types.specs.Environments.{Values, arguments_in_environment}
-use Rattle.schema_types.specs.NameRules.{fragment_named}
-use Rattle.schema_types.specs.Sites.{FragmentAt, arguments_nodes, condition_or, head_nodes, optional_name_nodes, selections_nodes}
-use Rattle.store_model.proofs.SameItems.{AlikeItem, zip_append, zip_either}
-use Rattle.store_model.specs.Items as items
-use Rattle.store_model.specs.Items.{Form, Item}
-use Rattle.store_model.specs.Reaches.{types_of}
+use Rattle.plan_build.proofs.plan_text_laws.Collects.{not_printed}
+use Rattle.plan_build.proofs.plan_text_laws.Evaluating.{Means, means_inside}
+use Rattle.plan_build.specs.plan_text.Collecting.{applies, environment_inside, is_left_out}
+use Rattle.plan_ir.specs.relay_dirs.Connections.{connection_among}
+use Rattle.plan_ir.specs.relay_dirs.Locals.{locals_of}
+use Rattle.plan_build.specs.relay_model.Collection.{connection_asked, form_on, is_inline, is_open}
+use Rattle.plan_ir.specs.schema_tables.Types.{Text, Defs, possible}
+use Rattle.plan_ir.specs.schema_trees.Located.{directives_nodes}
+use Rattle.plan_ir.specs.schema_types.Environments.{Values, arguments_in_environment}
+use Rattle.plan_ir.specs.schema_types.NameRules.{fragment_named}
+use Rattle.plan_ir.specs.schema_types.Sites.{FragmentAt, arguments_nodes, condition_or, head_nodes, optional_name_nodes, selections_nodes}
+use Rattle.plan_ir.proofs.store_model_laws.SameItems.{AlikeItem, zip_append, zip_either}
+use Rattle.plan_ir.specs.store_model.Items as items
+use Rattle.plan_ir.specs.store_model.Items.{Form, Item}
+use Rattle.plan_ir.specs.store_model.Reaches.{types_of}
 
 -- ---- a field
 

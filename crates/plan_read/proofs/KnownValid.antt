@@ -1,8 +1,8 @@
 -- What is known of selections at types stays known of what stands below their fields, and in their pointers.
 use Rattle.std.proofs.Common.{◌≡◌, Bool, true, false, cond, List, [], ◌∷◌, ◌++◌, map, bytes_eq, refl, ap, sym, ◌∙◌, subst, inl, inr}
 use Rattle.std.specs.List.{AllByRecursion}
-use Rattle.doc_merge.specs.Paths.{Path, paths}
-use Rattle.gql_plain.specs.Order.{has_text}
+use Rattle.plan_build.specs.doc_merge.Paths.{Path, paths}
+use Rattle.plan_ir.specs.gql_plain.Order.{has_text}
 use Rattle.plan_build.proofs.ClassLaws.{Differ}
 use Rattle.plan_build.proofs.Grouped.{each_map, each_so}
 use Rattle.plan_build.proofs.Meaning.{Fit, holds_below, merge_below, only_one}
@@ -12,15 +12,15 @@ use Rattle.plan_build.proofs.StepLaws.{AreSound}
 use Rattle.plan_ir.specs.Expansion.{Project}
 use Rattle.plan_read.proofs.KnownNodes.{Covers, Stands, items_covered, seen_nodes}
 use Rattle.plan_read.proofs.KnownParts.{Known, as_nodes, gather}
-use Rattle.plan_text.proofs.Evaluating.{Means}
-use Rattle.schema_tables.specs.Types.{Text}
-use Rattle.schema_types.specs.Environments.{Values}
-use Rattle.store_model.proofs.SameItems.{Holds}
-use Rattle.store_model.proofs.Valid.{Fits, onto_fits}
-use Rattle.store_model.specs.Alike.{Among}
-use Rattle.store_model.specs.Items as items
-use Rattle.store_model.specs.Items.{Asked, Form, Group, Item, Pointer, asked, asked_of, asks, collect_all, grouped_onto, members, pointed, pointers, without}
-use Rattle.store_model.specs.Reaches.{types_of}
+use Rattle.plan_build.proofs.plan_text_laws.Evaluating.{Means}
+use Rattle.plan_ir.specs.schema_tables.Types.{Text}
+use Rattle.plan_ir.specs.schema_types.Environments.{Values}
+use Rattle.plan_ir.proofs.store_model_laws.SameItems.{Holds}
+use Rattle.plan_ir.proofs.store_model_laws.Valid.{Fits, onto_fits}
+use Rattle.plan_ir.specs.store_model.Alike.{Among}
+use Rattle.plan_ir.specs.store_model.Items as items
+use Rattle.plan_ir.specs.store_model.Items.{Asked, Form, Group, Item, Pointer, asked, asked_of, asks, collect_all, grouped_onto, members, pointed, pointers, without}
+use Rattle.plan_ir.specs.store_model.Reaches.{types_of}
 
 -- ---- lists
 

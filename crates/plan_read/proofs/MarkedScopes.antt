@@ -2,17 +2,17 @@
 -- which these shadow the operation's own.
 use Rattle.std.proofs.Common.{◌≡◌, Bool, true, false, true≢false, cond, [], ◌∷◌, ◌++◌, codes, Option, Some, None, bytes_eq, refl, ap, sym, ◌∙◌}
 use Rattle.std.specs.Prelude.{is_some}
-use Rattle.gql_ast.specs.Value.{Val}
-use Rattle.gql_plain.specs.Order.{member_at}
-use Rattle.gql_plain.specs.Tree.{Tree}
+use Rattle.plan_ir.specs.gql_ast.Value.{Val}
+use Rattle.plan_ir.specs.gql_plain.Order.{member_at}
+use Rattle.plan_ir.specs.gql_plain.Tree.{Tree}
 use Rattle.plan_ir.specs.Substitution.{default_named, mark_local, scope_of_own}
 use Rattle.plan_read.specs.Laws.{AreLocals}
-use Rattle.plan_text.proofs.Evaluating.{Means, found-with_pair}
-use Rattle.relay_dirs.specs.Locals.{locals_of}
-use Rattle.relay_model.specs.Readings.{shadowed_by, with_marked}
-use Rattle.schema_tables.specs.Types.{Text}
-use Rattle.schema_types.specs.Environments.{Values, evaluation, or_null}
-use Rattle.schema_types.specs.Sites.{FragmentAt}
+use Rattle.plan_build.proofs.plan_text_laws.Evaluating.{Means, found-with_pair}
+use Rattle.plan_ir.specs.relay_dirs.Locals.{locals_of}
+use Rattle.plan_build.specs.relay_model.Readings.{shadowed_by, with_marked}
+use Rattle.plan_ir.specs.schema_tables.Types.{Text}
+use Rattle.plan_ir.specs.schema_types.Environments.{Values, evaluation, or_null}
+use Rattle.plan_ir.specs.schema_types.Sites.{FragmentAt}
 
 abbrev or_else : Option Tree → Option Tree → Option Tree
 or_else (Some x) o = Some x

@@ -1,8 +1,8 @@
 -- The steps that come of selections stand at no more records one below another than there are sets in one another.
 use Rattle.std.proofs.Common.{ℕ, zero, suc, ◌+◌, ◌≤◌, Bool, true, false, cond, List, [], ◌∷◌, Option, Some, None, max, arith, codes, bytes_eq}
-use Rattle.gql_ast.specs.Sels as sels
-use Rattle.gql_ast.specs.Sels.{Sels}
-use Rattle.gql_ast.specs.declared.directive.Directive.{Directive}
+use Rattle.plan_ir.specs.gql_ast.Sels as sels
+use Rattle.plan_ir.specs.gql_ast.Sels.{Sels}
+use Rattle.plan_ir.specs.gql_ast.declared.directive.Directive.{Directive}
 use Rattle.plan_build.specs.Classes.{Class, Target, classes_of}
 use Rattle.plan_build.specs.Conditions.{conditions_of}
 use Rattle.plan_build.specs.Steps.{FieldNode, are_within, is_one}
@@ -13,13 +13,13 @@ use Rattle.plan_ir.specs.ReaderMeaning.{records_below}
 use Rattle.plan_ir.specs.Substitution.{Arguments, Scope, scope_at_spread, substitute_in}
 use Rattle.plan_ir.specs.declared.guard.Condition.{Condition}
 use Rattle.plan_read.specs.Steps.{behind, class_steps, entered_steps, field_steps, guarded_classes, inline_steps, leaf_step, object_step, on_steps, pointer_arguments, pointer_step, reader_steps, spread_steps, steps_with, target_step}
-use Rattle.relay_dirs.specs.Connections.{connection_among}
-use Rattle.relay_dirs.specs.Locals.{locals_of}
-use Rattle.relay_model.specs.Collection.{is_inline, is_open}
-use Rattle.relay_model.specs.Readings.{depth_inside, depth_of, depth_with}
-use Rattle.schema_tables.specs.Types.{Text, Defs, is_composite, possible}
-use Rattle.schema_types.specs.NameRules.{fragment_named}
-use Rattle.schema_types.specs.Sites.{FragmentAt}
+use Rattle.plan_ir.specs.relay_dirs.Connections.{connection_among}
+use Rattle.plan_ir.specs.relay_dirs.Locals.{locals_of}
+use Rattle.plan_build.specs.relay_model.Collection.{is_inline, is_open}
+use Rattle.plan_build.specs.relay_model.Readings.{depth_inside, depth_of, depth_with}
+use Rattle.plan_ir.specs.schema_tables.Types.{Text, Defs, is_composite, possible}
+use Rattle.plan_ir.specs.schema_types.NameRules.{fragment_named}
+use Rattle.plan_ir.specs.schema_types.Sites.{FragmentAt}
 
 -- ---- numbers
 

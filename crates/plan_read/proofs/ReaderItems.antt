@@ -3,10 +3,10 @@ use Rattle.std.proofs.Common.{◌≡◌, Bool, true, false, true≢false, cond, 
 use Rattle.std.proofs.lemmas.List.{append-nil}
 use Rattle.std.specs.List.{list_all}
 use Rattle.std.specs.Prelude.{option_map}
-use Rattle.gql_ast.specs.Value.{Val}
-use Rattle.gql_ast.specs.declared.directive.Directive.{Directive}
-use Rattle.gql_graph.specs.Rules.{each}
-use Rattle.gql_plain.specs.Order.{has_text}
+use Rattle.plan_ir.specs.gql_ast.Value.{Val}
+use Rattle.plan_ir.specs.gql_ast.declared.directive.Directive.{Directive}
+use Rattle.plan_ir.specs.gql_graph.Rules.{each}
+use Rattle.plan_ir.specs.gql_plain.Order.{has_text}
 use Rattle.plan_build.proofs.ClassLaws.{Differ, form_of, found, objects}
 use Rattle.plan_build.proofs.ConditionLaws.{conditions_pass}
 use Rattle.plan_build.proofs.OrderLaws.{differ_possible}
@@ -20,13 +20,13 @@ use Rattle.plan_ir.specs.ReaderMeaning.{ReaderPart, collect_reading, field_item,
 use Rattle.plan_ir.specs.declared.guard.Condition.{Condition}
 use Rattle.plan_read.proofs.KnownParts.{types_inside}
 use Rattle.plan_read.specs.Steps.{behind, class_steps, guarded_classes, inline_steps, on_steps, target_step}
-use Rattle.plan_text.specs.Collecting.{applies, is_left_out}
-use Rattle.relay_model.specs.Collection.{below_type, connection_asked}
-use Rattle.schema_tables.specs.Types.{Text, Defs, is_composite, possible}
-use Rattle.schema_types.specs.Environments.{Values, arguments_in_environment}
-use Rattle.store_model.specs.Items as items
-use Rattle.store_model.specs.Items.{Form, Item, pointed}
-use Rattle.store_model.specs.Reaches.{types_of}
+use Rattle.plan_build.specs.plan_text.Collecting.{applies, is_left_out}
+use Rattle.plan_build.specs.relay_model.Collection.{below_type, connection_asked}
+use Rattle.plan_ir.specs.schema_tables.Types.{Text, Defs, is_composite, possible}
+use Rattle.plan_ir.specs.schema_types.Environments.{Values, arguments_in_environment}
+use Rattle.plan_ir.specs.store_model.Items as items
+use Rattle.plan_ir.specs.store_model.Items.{Form, Item, pointed}
+use Rattle.plan_ir.specs.store_model.Reaches.{types_of}
 
 -- ---- steps behind one another
 

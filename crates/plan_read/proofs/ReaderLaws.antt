@@ -1,8 +1,8 @@
 -- Plans that read mean masked reading along the documents.
 use Rattle.std.proofs.Common.{◌≡◌, ℕ, ◌+◌, ◌≤◌, List, [], ◌∷◌, map, Some, refl, ap, sym, ◌∙◌, subst, arith}
 use Rattle.std.specs.List.{AllByRecursion, AllZip}
-use Rattle.doc_merge.specs.Faults.{field_differences}
-use Rattle.gql_plain.specs.Order.{has_text}
+use Rattle.plan_build.specs.doc_merge.Faults.{field_differences}
+use Rattle.plan_ir.specs.gql_plain.Order.{has_text}
 use Rattle.plan_build.proofs.Meaning.{merge_root, only_one, root_has}
 use Rattle.plan_build.proofs.OrderLaws.{differ_one, differ_possible}
 use Rattle.plan_build.proofs.PartLaws.{Merge}
@@ -28,20 +28,20 @@ use Rattle.plan_read.proofs.MarkedScopes.{marked_means}
 use Rattle.plan_read.proofs.PlanDepth.{plan_deep}
 use Rattle.plan_read.proofs.SuitedFragments.{fragments_are_suited}
 use Rattle.plan_read.specs.Laws.{AreLocals, ReadersMeanFragments, ReadersMeanOperations}
-use Rattle.plan_text.proofs.Collects.{nodes_append-end}
-use Rattle.plan_text.proofs.Evaluating.{Means}
-use Rattle.relay_model.specs.Collection.{collect, part_of}
-use Rattle.relay_model.specs.Readings.{depth_of, fragment_part, masked_setting, part_reads, with_marked}
-use Rattle.schema_rules.specs.Checked.{IsSound}
-use Rattle.schema_tables.specs.Types.{Text, possible, root}
-use Rattle.schema_types.specs.Environments.{Values}
-use Rattle.schema_types.specs.Sites.{FragmentAt, OperationAt}
-use Rattle.store_model.proofs.AlikeReads.{read_alike}
-use Rattle.store_model.proofs.ItemReads.{read_items}
-use Rattle.store_model.proofs.SameItems.{AlikeItem, items_keep, zip_append}
-use Rattle.store_model.specs.Alike.{Keeps, Related}
-use Rattle.store_model.specs.Items.{collect_all}
-use Rattle.store_model.specs.Walks.{Slots, type_of_record}
+use Rattle.plan_build.proofs.plan_text_laws.Collects.{nodes_append-end}
+use Rattle.plan_build.proofs.plan_text_laws.Evaluating.{Means}
+use Rattle.plan_build.specs.relay_model.Collection.{collect, part_of}
+use Rattle.plan_build.specs.relay_model.Readings.{depth_of, fragment_part, masked_setting, part_reads, with_marked}
+use Rattle.plan_ir.specs.schema_rules.Checked.{IsSound}
+use Rattle.plan_ir.specs.schema_tables.Types.{Text, possible, root}
+use Rattle.plan_ir.specs.schema_types.Environments.{Values}
+use Rattle.plan_ir.specs.schema_types.Sites.{FragmentAt, OperationAt}
+use Rattle.plan_ir.proofs.store_model_laws.AlikeReads.{read_alike}
+use Rattle.plan_ir.proofs.store_model_laws.ItemReads.{read_items}
+use Rattle.plan_ir.proofs.store_model_laws.SameItems.{AlikeItem, items_keep, zip_append}
+use Rattle.plan_ir.specs.store_model.Alike.{Keeps, Related}
+use Rattle.plan_ir.specs.store_model.Items.{collect_all}
+use Rattle.plan_ir.specs.store_model.Walks.{Slots, type_of_record}
 
 module _ (p : Project) (own : Values) (sound : AreSound p.defs) where
   -- ---- selections that are read, and their plan

@@ -1,8 +1,8 @@
 -- The expansion of a fragment by itself, of documents that meet the rules, is suited, also where the fragment's type is abstract.
 use Rattle.std.proofs.Common.{◌≡◌, ℕ, List, Some}
-use Rattle.gql_ast.specs.declared.document.Document.{Document}
-use Rattle.gql_ast.specs.declared.place.FilePlace.{FilePlace}
-use Rattle.gql_ast.specs.declared.place.Placed.{Placed}
+use Rattle.plan_ir.specs.gql_ast.declared.document.Document.{Document}
+use Rattle.plan_ir.specs.gql_ast.declared.place.FilePlace.{FilePlace}
+use Rattle.plan_ir.specs.gql_ast.declared.place.Placed.{Placed}
 use Rattle.plan_build.proofs.CovarianceRules.{sound_meets}
 use Rattle.plan_build.proofs.SuitedNodes.{expanded, fragment_holds}
 use Rattle.plan_build.proofs.SuitedOperations.{fragments_of_documents}
@@ -11,10 +11,10 @@ use Rattle.plan_build.specs.Laws.{MeetsRules, definitions}
 use Rattle.plan_build.specs.Suited.{Suited}
 use Rattle.plan_ir.specs.Expansion.{Project, project_of, selections_from, spreads_in, whole_fragment}
 use Rattle.plan_ir.specs.Substitution.{scope_of_own}
-use Rattle.schema_rules.specs.Checked.{IsSound}
-use Rattle.schema_tables.specs.Types.{Text, Defs}
-use Rattle.schema_types.specs.NameRules.{fragment_named, fragments}
-use Rattle.schema_types.specs.Sites.{FragmentAt}
+use Rattle.plan_ir.specs.schema_rules.Checked.{IsSound}
+use Rattle.plan_ir.specs.schema_tables.Types.{Text, Defs}
+use Rattle.plan_ir.specs.schema_types.NameRules.{fragment_named, fragments}
+use Rattle.plan_ir.specs.schema_types.Sites.{FragmentAt}
 
 pub fragments_are_suited : (defs : Defs) (ps : List (Placed Document)) (place : ℕ → FilePlace) (name : Text) (f : FragmentAt) → IsSound defs → MeetsRules defs ps
     → fragment_named (fragments (definitions defs ps)) name ≡ Some f

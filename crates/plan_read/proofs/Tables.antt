@@ -2,17 +2,17 @@
 use Rattle.std.proofs.Common.{◌≡◌, ℕ, ◌+◌, ◌<◌, ◌≤◌, Bool, true, false, true≢false, cond, List, [], ◌∷◌, map, drop, length, get_or, Option, Some, None, option_map, is_some, bytes_eq, refl, ap, sym, ◌∙◌}
 use Rattle.std.proofs.lemmas.List.{drop_all, drop_more}
 use Rattle.std.specs.Option.{option_or}
-use Rattle.doc_sites.specs.SitesView.{definition_of}
-use Rattle.doc_sites.specs.declared.site.DefinitionAt as Definition
-use Rattle.gql_graph.proofs.TextSteps.{same_text}
+use Rattle.plan_ir.specs.doc_sites.SitesView.{definition_of}
+use Rattle.plan_ir.specs.doc_sites.declared.site.DefinitionAt as Definition
+use Rattle.plan_ir.proofs.gql_graph_laws.TextSteps.{same_text}
 use Rattle.plan_ir.specs.Expansion.{is_named, operation_named}
 use Rattle.plan_read.specs.OperationsView.{operation_in, operation_under, ready_operation}
 use Rattle.plan_read.specs.Reading.{ready_fragment}
 use Rattle.plan_read.specs.ReadyView.{ready_in}
-use Rattle.schema_tables.specs.Types.{Text}
-use Rattle.schema_trees.specs.Located.{Located}
-use Rattle.schema_types.specs.NameRules.{fragment_named, fragments, operations}
-use Rattle.schema_types.specs.Sites.{OperationAt, DefinitionAt, operation, fragment}
+use Rattle.plan_ir.specs.schema_tables.Types.{Text}
+use Rattle.plan_ir.specs.schema_trees.Located.{Located}
+use Rattle.plan_ir.specs.schema_types.NameRules.{fragment_named, fragments, operations}
+use Rattle.plan_ir.specs.schema_types.Sites.{OperationAt, DefinitionAt, operation, fragment}
 
 -- ---- what is put under a name
 

@@ -1,6 +1,6 @@
 -- How deep what a walk of the code looks at is.
 use Rattle.std.proofs.Common.{ℕ}
-use Rattle.gql_ast.specs.Sels.{Sels}
+use Rattle.plan_ir.specs.gql_ast.Sels.{Sels}
 use Rattle.plan_read.specs.ReadyView.{find_in}
 use Rattle.plan_read.specs.declared.fragments.ReadyFragment.{ReadyFragment}
 use Rattle.plan_read.specs.declared.steps.Inside.{Inside}

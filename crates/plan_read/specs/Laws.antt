@@ -1,23 +1,23 @@
 -- What the plans of operations and fragments that are read mean: masked reading along the documents.
 use Rattle.std.specs.Prelude.{◌≡◌, ℕ, List, [], ◌∷◌, Some, is_some}
-use Rattle.doc_merge.specs.Faults.{field_differences}
-use Rattle.gql_ast.specs.declared.document.Document.{Document}
-use Rattle.gql_ast.specs.declared.place.FilePlace.{FilePlace}
-use Rattle.gql_ast.specs.declared.place.Placed.{Placed}
-use Rattle.gql_plain.specs.Order.{member_at}
+use Rattle.plan_build.specs.doc_merge.Faults.{field_differences}
+use Rattle.plan_ir.specs.gql_ast.declared.document.Document.{Document}
+use Rattle.plan_ir.specs.gql_ast.declared.place.FilePlace.{FilePlace}
+use Rattle.plan_ir.specs.gql_ast.declared.place.Placed.{Placed}
+use Rattle.plan_ir.specs.gql_plain.Order.{member_at}
 use Rattle.plan_build.specs.Laws.{MeetsRules, definitions}
 use Rattle.plan_read.specs.Steps.{fragment_reader, operation_reader}
 use Rattle.plan_ir.specs.Expansion.{name_or, operation_named, project_of, whole_fragment, whole_operation}
 use Rattle.plan_ir.specs.ReaderMeaning.{plan_reads}
 use Rattle.plan_ir.specs.Substitution.{default_named}
-use Rattle.relay_dirs.specs.Locals.{locals_of}
-use Rattle.relay_model.specs.Readings.{fragment_reads, operation_reads, with_marked}
-use Rattle.schema_rules.specs.Checked.{IsSound}
-use Rattle.schema_tables.specs.Types.{Text, Defs, possible, root}
-use Rattle.schema_types.specs.Environments.{Values}
-use Rattle.schema_types.specs.NameRules.{fragment_named, fragments, operations}
-use Rattle.schema_types.specs.Sites.{FragmentAt, OperationAt}
-use Rattle.store_model.specs.Walks.{Slots, type_of_record}
+use Rattle.plan_ir.specs.relay_dirs.Locals.{locals_of}
+use Rattle.plan_build.specs.relay_model.Readings.{fragment_reads, operation_reads, with_marked}
+use Rattle.plan_ir.specs.schema_rules.Checked.{IsSound}
+use Rattle.plan_ir.specs.schema_tables.Types.{Text, Defs, possible, root}
+use Rattle.plan_ir.specs.schema_types.Environments.{Values}
+use Rattle.plan_ir.specs.schema_types.NameRules.{fragment_named, fragments, operations}
+use Rattle.plan_ir.specs.schema_types.Sites.{FragmentAt, OperationAt}
+use Rattle.plan_ir.specs.store_model.Walks.{Slots, type_of_record}
 
 -- values of all local variables of a fragment, and of no other
 abbrev pub AreLocals : FragmentAt → Values → Type 0

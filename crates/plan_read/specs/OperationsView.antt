@@ -3,14 +3,14 @@ use Rattle.std.specs.BTreeMap.{get_by}
 use Rattle.std.specs.Cmp.Lexicographic.{slice_cmp}
 use Rattle.std.specs.Ordering.{nat_cmp}
 use Rattle.std.specs.Prelude.{◌≡◌, cond, List, Option, Some, None, option_map, bytes_eq}
-use Rattle.gql_ast.specs.Sels.{Sels}
-use Rattle.gql_ast.specs.declared.document.Kind.{Kind}
+use Rattle.plan_ir.specs.gql_ast.Sels.{Sels}
+use Rattle.plan_ir.specs.gql_ast.declared.document.Kind.{Kind}
 use Rattle.plan_ir.specs.Expansion.{operation_named}
 use Rattle.plan_read.specs.declared.operations.Operations.{Operations}
 use Rattle.plan_read.specs.declared.operations.ReadyOperation as kept
-use Rattle.schema_tables.specs.Types.{Text}
-use Rattle.schema_trees.specs.Located.{Located}
-use Rattle.schema_types.specs.Sites.{OperationAt, DefinitionAt, operation, fragment}
+use Rattle.plan_ir.specs.schema_tables.Types.{Text}
+use Rattle.plan_ir.specs.schema_trees.Located.{Located}
+use Rattle.plan_ir.specs.schema_types.Sites.{OperationAt, DefinitionAt, operation, fragment}
 
 -- an operation, ready to be planned
 pub record ReadyOperation : Type 0 where

@@ -1,13 +1,13 @@
 -- What is asked of the name of a plan.
 use Rattle.std.specs.Prelude.{◌≡◌, true, List, IfSome}
-use Rattle.gql_ast.specs.declared.document.Document.{Document}
-use Rattle.gql_ast.specs.declared.place.Placed.{Placed}
+use Rattle.plan_ir.specs.gql_ast.declared.document.Document.{Document}
+use Rattle.plan_ir.specs.gql_ast.declared.place.Placed.{Placed}
 use Rattle.plan_expand.specs.Answers.{definitions_in}
 use Rattle.plan_ir.specs.declared.form.Form.{Form}
 use Rattle.plan_ir.specs.declared.form.Form.TheVariants as F
-use Rattle.schema_tables.specs.Types.{Text, Defs, is_composite}
-use Rattle.schema_types.specs.NameRules.{fragment_named, fragments}
-use Rattle.schema_types.specs.Sites.{FragmentAt}
+use Rattle.plan_ir.specs.schema_tables.Types.{Text, Defs, is_composite}
+use Rattle.plan_ir.specs.schema_types.NameRules.{fragment_named, fragments}
+use Rattle.plan_ir.specs.schema_types.Sites.{FragmentAt}
 
 abbrev pub IsComposite : Defs → FragmentAt → Type 0
 IsComposite defs f = is_composite defs f.on.name ≡ true

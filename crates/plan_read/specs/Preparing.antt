@@ -1,6 +1,6 @@
 -- What stands ready to plan reads, and the steps that are made of it.
 use Rattle.std.specs.Prelude.{◌≡◌, List, [], ◌∷◌, length}
-use Rattle.gql_ast.specs.Sels.{Sels}
+use Rattle.plan_ir.specs.gql_ast.Sels.{Sels}
 use Rattle.plan_expand.specs.Answers.{definitions_in}
 use Rattle.plan_ir.specs.Expansion.{name_or}
 use Rattle.plan_ir.specs.Reader.{Reader}
@@ -9,8 +9,8 @@ use Rattle.plan_read.specs.OperationsView.{HasOperations, ReadyOperation, find_o
 use Rattle.plan_read.specs.Reading.{HasFragments, Ready, reading}
 use Rattle.plan_read.specs.ReadyView.{find_in}
 use Rattle.plan_read.specs.declared.reader.Readers.{Readers}
-use Rattle.schema_tables.specs.Types.{Text, possible, root}
-use Rattle.schema_types.specs.NameRules.{fragments, operations}
+use Rattle.plan_ir.specs.schema_tables.Types.{Text, possible, root}
+use Rattle.plan_ir.specs.schema_types.NameRules.{fragments, operations}
 
 -- what stands ready is that of the schema and the documents
 pub record IsReady (r : Readers) : Type 0 where

@@ -1,19 +1,19 @@
 -- Which steps come of selections as the code goes: with the fragments by their names.
 use Rattle.std.specs.Prelude.{◌≡◌, ℕ, zero, suc, Bool, cond, List, codes, Option, Some, None, option_map, bytes_eq}
 use Rattle.std.specs.List.{list_any}
-use Rattle.gql_ast.specs.Sels.{Sels}
-use Rattle.gql_ast.specs.Value.{Val}
-use Rattle.gql_ast.specs.declared.directive.Directive.{Directive}
+use Rattle.plan_ir.specs.gql_ast.Sels.{Sels}
+use Rattle.plan_ir.specs.gql_ast.Value.{Val}
+use Rattle.plan_ir.specs.gql_ast.declared.directive.Directive.{Directive}
 use Rattle.plan_build.specs.Conditions.{conditions_of}
 use Rattle.plan_ir.specs.Expansion.{printed_conditions}
 use Rattle.plan_ir.specs.Reader.{Reader, done}
 use Rattle.plan_ir.specs.Substitution.{Scope, arguments_at_spread, default_named, value_of_local}
 use Rattle.plan_read.specs.Steps.{inline_steps, pointer_arguments, pointer_step, steps_with}
-use Rattle.relay_dirs.specs.Locals.{Local, locals_of}
-use Rattle.relay_model.specs.Collection.{is_open}
-use Rattle.schema_tables.specs.Types.{Text, Defs}
-use Rattle.schema_types.specs.NameRules.{fragment_named}
-use Rattle.schema_types.specs.Sites.{DirectiveAt, FragmentAt}
+use Rattle.plan_ir.specs.relay_dirs.Locals.{Local, locals_of}
+use Rattle.plan_build.specs.relay_model.Collection.{is_open}
+use Rattle.plan_ir.specs.schema_tables.Types.{Text, Defs}
+use Rattle.plan_ir.specs.schema_types.NameRules.{fragment_named}
+use Rattle.plan_ir.specs.schema_types.Sites.{DirectiveAt, FragmentAt}
 
 -- a fragment, ready to be spread
 pub record Ready : Type 0 where

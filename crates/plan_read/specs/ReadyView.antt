@@ -7,9 +7,9 @@ use Rattle.plan_expand.specs.LocalsView.{find_default}
 use Rattle.plan_read.specs.Reading.{Find, Ready, ready_fragment}
 use Rattle.plan_read.specs.declared.fragments.Fragments.{Fragments}
 use Rattle.plan_read.specs.declared.fragments.ReadyFragment.{ReadyFragment}
-use Rattle.relay_dirs.specs.View.{local_view}
-use Rattle.schema_tables.specs.Types.{Text}
-use Rattle.schema_types.specs.Sites.{DefinitionAt, operation, fragment}
+use Rattle.plan_ir.specs.relay_dirs.View.{local_view}
+use Rattle.plan_ir.specs.schema_tables.Types.{Text}
+use Rattle.plan_ir.specs.schema_types.Sites.{DefinitionAt, operation, fragment}
 
 abbrev pub ready_of : ReadyFragment → Ready
 ready_of f = record {

@@ -1,9 +1,9 @@
 -- Which steps come of selections that are read by the masked form, where the records are of these types: a spread that is not masked is
 -- entered, each other one is a pointer, and local variables give way to their values.
 use Rattle.std.specs.Prelude.{ℕ, zero, suc, Bool, true, false, cond, List, [], ◌∷◌, codes, Option, Some, None, bytes_eq}
-use Rattle.gql_ast.specs.Sels as sels
-use Rattle.gql_ast.specs.Sels.{Sels}
-use Rattle.gql_ast.specs.declared.directive.Directive.{Directive}
+use Rattle.plan_ir.specs.gql_ast.Sels as sels
+use Rattle.plan_ir.specs.gql_ast.Sels.{Sels}
+use Rattle.plan_ir.specs.gql_ast.declared.directive.Directive.{Directive}
 use Rattle.plan_build.specs.Classes.{Class, Target, classes_of}
 use Rattle.plan_build.specs.Conditions.{conditions_of}
 use Rattle.plan_build.specs.Steps.{FieldNode, are_within, identified, is_one}
@@ -12,12 +12,12 @@ use Rattle.plan_ir.specs.Expansion.{Project, name_or, printed_conditions, respon
 use Rattle.plan_ir.specs.Reader.{Reader, done, typename, leaf, object, guarded, pointer, pointer_inline, reader_append}
 use Rattle.plan_ir.specs.Substitution.{Arguments, Scope, arguments_at_spread, operation_scope, scope_at_spread, scope_of_own, substitute_in, value_or}
 use Rattle.plan_ir.specs.declared.guard.Condition.{Condition}
-use Rattle.relay_dirs.specs.Connections.{connection_among, value_of_name}
-use Rattle.relay_dirs.specs.Locals.{Local, locals_of}
-use Rattle.relay_model.specs.Collection.{is_inline, is_open}
-use Rattle.schema_tables.specs.Types.{Text, Defs, is_composite, possible, root}
-use Rattle.schema_types.specs.NameRules.{fragment_named}
-use Rattle.schema_types.specs.Sites.{FragmentAt, OperationAt}
+use Rattle.plan_ir.specs.relay_dirs.Connections.{connection_among, value_of_name}
+use Rattle.plan_ir.specs.relay_dirs.Locals.{Local, locals_of}
+use Rattle.plan_build.specs.relay_model.Collection.{is_inline, is_open}
+use Rattle.plan_ir.specs.schema_tables.Types.{Text, Defs, is_composite, possible, root}
+use Rattle.plan_ir.specs.schema_types.NameRules.{fragment_named}
+use Rattle.plan_ir.specs.schema_types.Sites.{FragmentAt, OperationAt}
 
 -- ---- guards
 

@@ -1,7 +1,7 @@
 -- The steps that come of what a walk of the code looks at.
 use Rattle.std.specs.Prelude.{ℕ, List}
-use Rattle.gql_ast.specs.Sels.{Sels}
-use Rattle.gql_ast.specs.declared.directive.Directive.{Directive}
+use Rattle.plan_ir.specs.gql_ast.Sels.{Sels}
+use Rattle.plan_ir.specs.gql_ast.declared.directive.Directive.{Directive}
 use Rattle.plan_expand.specs.ScopeView.{scope_of}
 use Rattle.plan_ir.specs.Reader.{Reader}
 use Rattle.plan_read.specs.Reading.{entered_ready, reading, ready_scope}
@@ -11,7 +11,7 @@ use Rattle.plan_read.specs.declared.fragments.ReadyFragment.{ReadyFragment}
 use Rattle.plan_read.specs.declared.steps.Inside.{Inside}
 use Rattle.plan_read.specs.declared.steps.Inside.TheVariants as I
 use Rattle.plan_read.specs.declared.steps.Walk.{Walk}
-use Rattle.schema_tables.specs.Types.{Text}
+use Rattle.plan_ir.specs.schema_tables.Types.{Text}
 
 abbrev pub steps_in : Walk → (types : List Text) → Sels → Reader
 steps_in w ts s = reading w.spreads w.schema.now (find_in w.fragments.now) (scope_of w.scope.now) ts s

@@ -4,11 +4,7 @@ ghost use Rattle.plan_read.specs.Plans.{reader_in};
 ghost use Rattle.plan_read.specs.Premises.{IsOnComposite};
 
 use crate::reader::Readers;
-use doc_sites::definitions_at;
-use gql_ast::Documents;
-use gql_plain::{Name, NoMemory};
-use plan_ir::{Form, ReaderPlan};
-use schema_types::Schema;
+use plan_ir::{Documents, Form, Name, NoMemory, ReaderPlan, Schema, definitions_at};
 use std::alloc::Global;
 
 /// The plan by which the operation or the fragment of that name is read (this project's own).

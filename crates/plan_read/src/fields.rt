@@ -9,18 +9,17 @@ ghost use Rattle.plan_ir.specs.Reader.{reader_append, typename, done, guarded};
 ghost use Rattle.plan_ir.specs.ReaderView.{step_of};
 ghost use Rattle.plan_read.specs.FieldView.{field_view};
 ghost use Rattle.plan_read.specs.Steps as spec;
-ghost use Rattle.schema_tables.specs.Types as types;
+ghost use Rattle.plan_ir.specs.schema_tables.Types as types;
 
-use gql_ast::{Arguments, Directives, Selections};
-use gql_plain::{Ids, Name, NoMemory};
 use plan_build::classes::{Target, is_abstract};
 use plan_build::conditions::conditions_of;
 use plan_build::kept::Kept;
 use plan_expand::directives::print_directives;
 use plan_expand::scope::{Scope, substitute_in};
-use plan_ir::{Conditions, Guard, ReaderPlan, ReaderStep, ReaderSteps};
-use relay_dirs::connection_among;
-use schema_types::Schema;
+use plan_ir::{
+    Arguments, Conditions, Directives, Guard, Ids, Name, NoMemory, ReaderPlan, ReaderStep,
+    ReaderSteps, Schema, Selections, connection_among,
+};
 use std::alloc::Global;
 
 /// A field as it is written.

@@ -15,4 +15,18 @@ mod types;
 mod variables;
 
 pub use definition::reader_plan;
+pub use plan_build::{
+    Artifact, MergeFault, PlaceFault, artifact_line, check_merge, normal_plan, operation_text,
+};
+pub use plan_expand::{ExpandFault, Expander, Form};
 pub use reader::Readers;
+
+/// Passed on from the crates below.
+pub mod least {
+    pub use plan_build::least::Least;
+}
+
+/// Passed on from the crates below.
+pub mod normal {
+    pub use plan_build::normal::one_type;
+}

@@ -1,14 +1,12 @@
 //! The operations of a project, ready to be planned.
 ghost use Rattle.std.specs.Prelude.{◌≡◌, None, map, option_map, IfOk, OnOk};
 ghost use Rattle.std.specs.Option.{option_or};
-ghost use Rattle.gql_graph.specs.Texts.{Text};
-ghost use Rattle.doc_sites.specs.SitesView.{definition_of};
+ghost use Rattle.plan_ir.specs.gql_graph.Texts.{Text};
+ghost use Rattle.plan_ir.specs.doc_sites.SitesView.{definition_of};
 ghost use Rattle.plan_read.specs.OperationsView.{HasOperations, find_operation, operation_in, operation_view, ready_named};
-ghost use Rattle.schema_types.specs.NameRules as rules;
+ghost use Rattle.plan_ir.specs.schema_types.NameRules as rules;
 
-use doc_sites::DefinitionAt;
-use gql_ast::{Kind, Selections};
-use gql_plain::NoMemory;
+use plan_ir::{DefinitionAt, Kind, NoMemory, Selections};
 use std::alloc::Global;
 use std::collections::BTreeMap;
 

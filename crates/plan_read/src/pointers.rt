@@ -1,14 +1,13 @@
 //! The arguments of pointers: what spreads give the local variables of fragments.
 ghost use Rattle.std.specs.Prelude.{◌≡◌, ◌++◌, [], ◌∷◌, map, option_map, IfOk, OnOk};
-ghost use Rattle.gql_ast.specs.ValueView.{value_of};
+ghost use Rattle.plan_ir.specs.gql_ast.ValueView.{value_of};
 ghost use Rattle.plan_expand.specs.ScopeView.{find_gift, scope_of};
 ghost use Rattle.plan_ir.specs.Substitution.{value_or};
 ghost use Rattle.plan_read.specs.Steps as spec;
-ghost use Rattle.relay_dirs.specs.View.{local_view};
+ghost use Rattle.plan_ir.specs.relay_dirs.View.{local_view};
 
-use gql_ast::{Argument, Arguments, Directives, VariableDef, VariableDefs};
-use gql_plain::NoMemory;
 use plan_expand::scope::{Gifts, Scope, gifts_at};
+use plan_ir::{Argument, Arguments, Directives, NoMemory, VariableDef, VariableDefs};
 use std::alloc::Global;
 
 /// Puts the value that a local variable has: the one that is given, else its default, else null.

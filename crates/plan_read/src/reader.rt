@@ -1,6 +1,6 @@
 //! The operations and fragments of a project, ready to be planned.
 ghost use Rattle.std.specs.Prelude.{◌≡◌, [], ◌∷◌, true, Some, is_some, IfOk};
-ghost use Rattle.doc_sites.specs.Definitions.{AreIn};
+ghost use Rattle.plan_ir.specs.doc_sites.Definitions.{AreIn};
 ghost use Rattle.plan_build.specs.AroundView.{IsOfComposite, types_of};
 ghost use Rattle.plan_expand.specs.ScopeView.{scope_of};
 ghost use Rattle.plan_ir.specs.Expansion.{name_or};
@@ -11,20 +11,19 @@ ghost use Rattle.plan_read.specs.Plans.{reader_in};
 ghost use Rattle.plan_read.specs.Premises.{IsOnComposite};
 ghost use Rattle.plan_read.specs.Preparing.{IsReady, fragment_steps, operation_steps, steps_made};
 ghost use Rattle.plan_read.specs.ReadyView.{ready_of};
-ghost use Rattle.schema_tables.specs.Types as types;
+ghost use Rattle.plan_ir.specs.schema_tables.Types as types;
 
 use crate::fragments::{Fragments, ReadyFragment};
 use crate::operations::{Operations, ReadyOperation};
 use crate::steps::{Walk, put_set};
 use crate::types::root_type;
-use doc_sites::{DefinitionAt, count_fragments};
-use gql_ast::{Documents, Selections};
-use gql_plain::{Name, NoMemory};
 use plan_build::around::Around;
 use plan_build::kept::Kept;
 use plan_expand::scope::Scope;
-use plan_ir::{Form, ReaderPlan, ReaderSteps};
-use schema_types::Schema;
+use plan_ir::{
+    DefinitionAt, Documents, Form, Name, NoMemory, ReaderPlan, ReaderSteps, Schema, Selections,
+    count_fragments,
+};
 use std::alloc::Global;
 
 /// What stands ready to plan the reads of the operations and fragments of a project. It is made once

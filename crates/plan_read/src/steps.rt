@@ -1,7 +1,7 @@
 //! The steps that come of selections, where the records are of known types.
 ghost use Rattle.std.specs.Prelude.{◌≡◌, [], ◌∷◌, None, Some, map, option_copied, IfOk, OnOk};
-ghost use Rattle.gql_ast.specs.SelectionView.{sel_of};
-ghost use Rattle.gql_ast.specs.Sels as sels;
+ghost use Rattle.plan_ir.specs.gql_ast.SelectionView.{sel_of};
+ghost use Rattle.plan_ir.specs.gql_ast.Sels as sels;
 ghost use Rattle.plan_build.specs.AroundView.{IsOfComposite, types_of};
 ghost use Rattle.plan_build.specs.ClassView.{class_view, target_view};
 ghost use Rattle.plan_build.specs.Conditions as tests;
@@ -20,14 +20,14 @@ use crate::fields::{Field, behind, conditions_in, put_leaf, put_object, put_type
 use crate::fragments::{Fragments, ReadyFragment};
 use crate::masks::is_open;
 use crate::pointers::pointer_arguments;
-use gql_ast::{Directives, Selection, Selections};
-use gql_plain::{Name, NoMemory};
 use plan_build::around::Around;
 use plan_build::classes::{Class, Target};
 use plan_build::kept::Kept;
 use plan_expand::scope::{Scope, scope_at_spread};
-use plan_ir::{Conditions, ReaderPlan, ReaderStep, ReaderSteps};
-use schema_types::Schema;
+use plan_ir::{
+    Conditions, Directives, Name, NoMemory, ReaderPlan, ReaderStep, ReaderSteps, Schema, Selection,
+    Selections,
+};
 use std::alloc::Global;
 
 /// What a walk over selections looks at.

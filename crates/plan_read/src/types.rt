@@ -1,12 +1,10 @@
 //! The object type that the record of an operation has.
 ghost use Rattle.std.specs.Prelude.{◌≡◌, [], ◌∷◌, option_copied, IfOk};
 ghost use Rattle.plan_ir.specs.Expansion.{name_or};
-ghost use Rattle.schema_tables.specs.Types as types;
+ghost use Rattle.plan_ir.specs.schema_tables.Types as types;
 
-use gql_ast::Kind;
-use gql_plain::{Ids, Name, NoMemory, Words};
 use plan_build::normal::one_type;
-use schema_types::Schema;
+use plan_ir::{Ids, Kind, Name, NoMemory, Schema, Words};
 use std::alloc::Global;
 
 /// The name of a root type; none is the empty name.

@@ -1,16 +1,13 @@
 //! The local variables of fragments in written order: the arguments of `@argumentDefinitions`, after
 //! Relay.
 ghost use Rattle.std.specs.Prelude.{◌≡◌, ◌++◌, map, IfOk, OnOk};
-ghost use Rattle.gql_ast.specs.ValueView.{value_of};
-ghost use Rattle.gql_graph.specs.Rules.{each};
-ghost use Rattle.doc_sites.specs.SitesView.{argument_of, directive_of};
-ghost use Rattle.relay_dirs.specs.Locals as spec;
-ghost use Rattle.relay_dirs.specs.View.{local_view};
+ghost use Rattle.plan_ir.specs.gql_ast.ValueView.{value_of};
+ghost use Rattle.plan_ir.specs.gql_graph.Rules.{each};
+ghost use Rattle.plan_ir.specs.doc_sites.SitesView.{argument_of, directive_of};
+ghost use Rattle.plan_ir.specs.relay_dirs.Locals as spec;
+ghost use Rattle.plan_ir.specs.relay_dirs.View.{local_view};
 
-use doc_sites::{ArgumentAt, DirectiveAt};
-use gql_ast::{ValueTree, VariableDefs};
-use gql_plain::NoMemory;
-use relay_dirs::local_of;
+use plan_ir::{ArgumentAt, DirectiveAt, NoMemory, ValueTree, VariableDefs, local_of};
 use std::alloc::Global;
 
 /// Puts the local variable that an argument defines, where it defines one.

@@ -6,9 +6,8 @@
 //! key of its connection, and the plan below it. A guard has its types, `-` and `+` for `@skip` and
 //! `@include`, and its steps.
 use crate::texts::{SCHEMA, documents, expansion_alone, schema};
-use gql_plain::Ids;
 use plan_build::normal_plan;
-use plan_ir::{Guard, NormalPlan, NormalStep};
+use plan_ir::{Guard, Ids, NormalPlan, NormalStep};
 use std::alloc::Global;
 use std::process::Abort;
 use std::test::Fail;

@@ -4,11 +4,11 @@
 //! selections.
 ghost use Rattle.std.specs.Prelude.{◌<◌, length};
 
-use gql_ast::{Definition, FilePlace, Kind, Operation, Selection, Selections, TypeTree};
-use gql_parse::parse_document;
-use gql_plain::{Name, Words};
-use plan_ir::{Expanded, Node, Nodes};
-use plan_text::{Artifact, artifact_line, operation_text};
+use plan_build::{Artifact, artifact_line, operation_text, parse_document};
+use plan_ir::{
+    Definition, Expanded, FilePlace, Kind, Name, Node, Nodes, Operation, Selection, Selections,
+    TypeTree, Words,
+};
 use std::alloc::Global;
 use std::test::Fail;
 

@@ -2,8 +2,7 @@
 //!
 //! A node is written as its column, and a connection as its key and its filters behind it.
 use crate::texts::{SCHEMA, documents, expansion_alone, schema};
-use gql_plain::Conn;
-use plan_ir::{Node, Nodes};
+use plan_ir::{Conn, Node, Nodes};
 use std::alloc::Global;
 use std::process::Abort;
 use std::test::Fail;

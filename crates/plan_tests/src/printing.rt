@@ -1,6 +1,5 @@
 //! Expanded operations and fragments as texts.
-use gql_ast::{Arguments, Directives, ValueTree, ValueTrees};
-use plan_ir::{Expanded, Node, Nodes};
+use plan_ir::{Arguments, Directives, Expanded, Node, Nodes, ValueTree, ValueTrees};
 use std::alloc::Global;
 use std::test::Fail;
 

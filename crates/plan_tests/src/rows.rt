@@ -4,7 +4,7 @@
 //! between them.
 use crate::printing::text_of;
 use crate::texts::{SCHEMA, expansion, schema};
-use schema_types::Schema;
+use plan_ir::Schema;
 use std::alloc::Global;
 use std::process::Abort;
 use std::test::Fail;

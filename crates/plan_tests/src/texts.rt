@@ -1,14 +1,10 @@
 //! Texts of schemas and documents, and what their definitions are expanded to.
 ghost use Rattle.std.specs.Prelude.{◌<◌, length};
 
-use doc_sites::definitions_at;
-use gql_ast::Documents;
-use gql_parse::parse_document;
-use gql_plain::{Name, Words};
 use gql_sdl::parse_schema;
+use plan_build::parse_document;
 use plan_expand::{ExpandFault, Expander, Form, expand};
-use plan_ir::Expanded;
-use schema_types::Schema;
+use plan_ir::{Documents, Expanded, Name, Schema, Words, definitions_at};
 use std::alloc::Global;
 use std::process::Abort;
 use std::test::Fail;

@@ -1,13 +1,13 @@
 -- The fields that are added have no arguments and no directives, and are the same whatever place they get.
 use Rattle.std.proofs.Common.{◌≡◌, Bool, true, false, cond, not, ◌&&◌, List, [], ◌∷◌, codes, Some, refl, sym, ap, subst, ◌∙◌}
-use Rattle.gql_ast.specs.Sels as sels
-use Rattle.gql_ast.specs.Sels.{Sels, sels_append}
-use Rattle.gql_ast.specs.Ty.{Ty}
-use Rattle.gql_ast.specs.declared.place.FilePlace.{FilePlace}
+use Rattle.plan_ir.specs.gql_ast.Sels as sels
+use Rattle.plan_ir.specs.gql_ast.Sels.{Sels, sels_append}
+use Rattle.plan_ir.specs.gql_ast.Ty.{Ty}
+use Rattle.plan_ir.specs.gql_ast.declared.place.FilePlace.{FilePlace}
 use Rattle.plan_ir.specs.Additions.{additions, bare_field, connection_additions, edges_field, has_bare, id_additions, id_field, ids_on, is_abstract, leaf_on, node_field, or_typename, page_info_field, record_additions, type_on, typename_additions, typename_field}
 use Rattle.plan_ir.specs.Nodes.{Nodes, end, field, inline, nodes_append}
 use Rattle.plan_text.specs.Printed.{alias_of, printed_arguments, printed_directives, printed_selections}
-use Rattle.schema_tables.specs.Types.{Text, Defs, base_of, has_id, possible}
+use Rattle.plan_ir.specs.schema_tables.Types.{Text, Defs, base_of, has_id, possible}
 
 -- no arguments, no directives, no spreads
 abbrev pub IsBare : Sels → Type 0

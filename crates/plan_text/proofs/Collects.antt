@@ -3,24 +3,24 @@ use Rattle.std.proofs.Common.{◌≡◌, ℕ, zero, suc, ◌+◌, Bool, true, fa
 use Rattle.std.specs.Prelude.{is_some}
 use Rattle.std.proofs.lemmas.Slice.Eq.{bytes_eq-Decides}
 use Rattle.std.specs.List.{AllZip, filter}
-use Rattle.gql_ast.specs.Sels as sels
-use Rattle.gql_ast.specs.Sels.{Sels, sels_append}
-use Rattle.gql_ast.specs.declared.directive.Directive.{Directive}
+use Rattle.plan_ir.specs.gql_ast.Sels as sels
+use Rattle.plan_ir.specs.gql_ast.Sels.{Sels, sels_append}
+use Rattle.plan_ir.specs.gql_ast.declared.directive.Directive.{Directive}
 use Rattle.plan_ir.specs.Additions.{additions, type_or}
 use Rattle.plan_ir.specs.Expansion as expansions
 use Rattle.plan_ir.specs.Expansion.{directives_such, enter_with, expansion, expansion_with, is_condition, is_printed, operation_from, printed_conditions, response_key, selections_from, spreads_in}
-use Rattle.relay_dirs.specs.Connections.{connection_among}
+use Rattle.plan_ir.specs.relay_dirs.Connections.{connection_among}
 use Rattle.plan_ir.specs.Nodes.{Nodes, end, field, inline, nodes_append}
 use Rattle.plan_ir.specs.Substitution.{Scope, operation_scope, scope_at_spread, substitute_in}
 use Rattle.plan_text.proofs.AddedFields.{Added, IsBare, all_added, nothing_added, printed-append}
 use Rattle.plan_text.proofs.Evaluating.{Means, arguments-printed, means_inside}
 use Rattle.plan_text.specs.Collecting.{Around, CollectTheSame, Field, Group, Part, SameField, SameGroup, TextCollectsTheSame, applies, collect, collect_inside, collect_part, collect_parts, collect_with, environment_inside, field_of, fragment_selections, group_onto, groups_at, is_left_out, leaves_out, members, parts, with_additions, with_field}
 use Rattle.plan_text.specs.Printed.{alias_of, printed_arguments, printed_directive, printed_directives, printed_selections}
-use Rattle.schema_tables.specs.Types.{Text, Defs, base_of, root}
-use Rattle.schema_trees.specs.Located.{directives_nodes}
-use Rattle.schema_types.specs.Environments.{Values, arguments_in_environment, is_true, value_in}
-use Rattle.schema_types.specs.NameRules.{fragment_named}
-use Rattle.schema_types.specs.Sites.{FragmentAt, arguments_nodes, below, condition_or, field_type, head_nodes, optional_name_nodes, selections_nodes}
+use Rattle.plan_ir.specs.schema_tables.Types.{Text, Defs, base_of, root}
+use Rattle.plan_ir.specs.schema_trees.Located.{directives_nodes}
+use Rattle.plan_ir.specs.schema_types.Environments.{Values, arguments_in_environment, is_true, value_in}
+use Rattle.plan_ir.specs.schema_types.NameRules.{fragment_named}
+use Rattle.plan_ir.specs.schema_types.Sites.{FragmentAt, arguments_nodes, below, condition_or, field_type, head_nodes, optional_name_nodes, selections_nodes}
 
 -- ---- what is left out
 

@@ -7,21 +7,21 @@ use Rattle.std.proofs.lemmas.Slice.Eq.{bytes_eq-Decides}
 use Rattle.std.specs.Cmp.{IsStrictWeakOrder}
 use Rattle.std.specs.Cmp.Lexicographic.{slice_cmp, nat_list_cmp_total}
 use Rattle.std.specs.Ordering.{is_lt, match_ordering, ordering_reverse}
-use Rattle.gql_ast.specs.Value.{Val, Vals, Members, variable, int, text, truth, null, enum, list, object, no_vals, val, no_members, member, members_of}
-use Rattle.gql_plain.specs.Order.{member_at}
-use Rattle.gql_plain.specs.Tree as t
-use Rattle.gql_plain.specs.Tree.{Tree}
-use Rattle.relay_dirs.specs.Connections.{value_of_name}
-use Rattle.relay_dirs.specs.Locals.{Local, locals_of}
+use Rattle.plan_ir.specs.gql_ast.Value.{Val, Vals, Members, variable, int, text, truth, null, enum, list, object, no_vals, val, no_members, member, members_of}
+use Rattle.plan_ir.specs.gql_plain.Order.{member_at}
+use Rattle.plan_ir.specs.gql_plain.Tree as t
+use Rattle.plan_ir.specs.gql_plain.Tree.{Tree}
+use Rattle.plan_ir.specs.relay_dirs.Connections.{value_of_name}
+use Rattle.plan_ir.specs.relay_dirs.Locals.{Local, locals_of}
 use Rattle.plan_ir.specs.OperationText.{by_name, with_member}
 use Rattle.plan_ir.specs.Substitution.{Arguments, Scope, arguments_in, default_named, scope_at_spread, substitute, substitute_in, substitute_items, substitute_members, value_of_local, value_or}
 use Rattle.plan_text.specs.Collecting.{environment_inside, local_value, with_locals}
 use Rattle.plan_text.specs.Printed.{printed_arguments, printed_members, printed_pair, printed_value, printed_values}
-use Rattle.gql_ast.specs.declared.directive.Directive.{Directive}
-use Rattle.gql_graph.specs.Rules.{each}
-use Rattle.schema_tables.specs.Types.{Text}
-use Rattle.schema_types.specs.Environments.{Values, arguments_in_environment, evaluation, items_evaluated, or_null, pairs_evaluated, value_in, with_new_pair, with_pair}
-use Rattle.schema_types.specs.Sites.{FragmentAt}
+use Rattle.plan_ir.specs.gql_ast.declared.directive.Directive.{Directive}
+use Rattle.plan_ir.specs.gql_graph.Rules.{each}
+use Rattle.plan_ir.specs.schema_tables.Types.{Text}
+use Rattle.plan_ir.specs.schema_types.Environments.{Values, arguments_in_environment, evaluation, items_evaluated, or_null, pairs_evaluated, value_in, with_new_pair, with_pair}
+use Rattle.plan_ir.specs.schema_types.Sites.{FragmentAt}
 
 -- ---- names in order
 

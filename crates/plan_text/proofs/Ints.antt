@@ -8,13 +8,13 @@ use Rattle.std.specs.Fmt.{decimal, signed_decimal}
 use Rattle.std.specs.List.{prefix_len, AllByRecursion}
 use Rattle.std.specs.Str.Parse.{digits_value, AllDigits}
 use Rattle.plan_text.proofs.ReadBack.{found_read, take_front}
-use Rattle.gql_lex.specs.declared.tokens.TokenKind.TheVariants.{Int}
-use Rattle.gql_lex.specs.Characters.{is_digit, is_float_mark, is_ignored, is_punctuator}
-use Rattle.gql_plain.specs.Names.{is_name_byte, is_name_start}
-use Rattle.gql_lex.specs.Heads.{head, number, int_before, string_head}
-use Rattle.gql_lex.specs.Numbers.{sign_len, digits_len, int_value, is_in_i64}
-use Rattle.gql_lex.specs.Toks.{Tok, tokens_of, tok_of}
-use Rattle.gql_lex.specs.Toks as tok
+use Rattle.plan_ir.specs.gql_lex.declared.tokens.TokenKind.TheVariants.{Int}
+use Rattle.plan_ir.specs.gql_lex.Characters.{is_digit, is_float_mark, is_ignored, is_punctuator}
+use Rattle.plan_ir.specs.gql_plain.Names.{is_name_byte, is_name_start}
+use Rattle.plan_ir.specs.gql_lex.Heads.{head, number, int_before, string_head}
+use Rattle.plan_ir.specs.gql_lex.Numbers.{sign_len, digits_len, int_value, is_in_i64}
+use Rattle.plan_ir.specs.gql_lex.Toks.{Tok, tokens_of, tok_of}
+use Rattle.plan_ir.specs.gql_lex.Toks as tok
 
 -- what may follow a number: no byte of a name, and no full stop
 pub record Ends (rest : List ℕ) : Type 0 where

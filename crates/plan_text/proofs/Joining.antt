@@ -1,7 +1,7 @@
 -- Texts with a character between each two, written one after the other.
 use Rattle.std.proofs.Common.{◌≡◌, ℕ, Bool, true, false, cond, List, [], ◌∷◌, ◌++◌, refl, sym, ap, ◌∙◌, append_assoc, append-nil}
 use Rattle.plan_ir.specs.OperationText.{enclose, join_texts}
-use Rattle.schema_tables.specs.Types.{Text}
+use Rattle.plan_ir.specs.schema_tables.Types.{Text}
 
 -- what is left to write, behind other texts or at the beginning
 abbrev pub join_from : (begun : Bool) → (between : ℕ) → List Text → Text

@@ -1,14 +1,14 @@
 -- Sets and lists of variables as lists of texts.
 use Rattle.std.proofs.Common.{◌≡◌, true, false, List, [], ◌∷◌, ◌++◌, length, map, eqb, Bor, refl, ap, ◌∙◌, arith, append_assoc}
 use Rattle.std.proofs.lemmas.Bool.{ne_eqb}
-use Rattle.gql_ast.specs.declared.variable.VariableDef.{VariableDef}
+use Rattle.plan_ir.specs.gql_ast.declared.variable.VariableDef.{VariableDef}
 use Rattle.plan_ir.specs.Nodes.{Nodes, end, field, inline}
 use Rattle.plan_ir.specs.NodesView.{nodes_of}
 use Rattle.plan_ir.specs.OperationText.{enclose, enclose_some, node_texts, variable_text, variables_text}
 use Rattle.plan_ir.specs.declared.node.Node.{Node}
 use Rattle.plan_ir.specs.declared.node.Node.TheVariants as N
 use Rattle.plan_text.specs.NodeTexts.{node_text}
-use Rattle.schema_tables.specs.Types.{Text}
+use Rattle.plan_ir.specs.schema_tables.Types.{Text}
 
 pub node_texts-nodes_of : (xs : List Node) → node_texts (nodes_of xs) ≡ map node_text xs
 node_texts-nodes_of [] = refl

@@ -3,13 +3,13 @@ use Rattle.std.proofs.Common.{◌≡◌, ℕ, zero, suc, ◌≤◌, ◌<◌, Lis
 use Rattle.std.proofs.lemmas.List.{length-map}
 use Rattle.std.specs.Cmp.Lexicographic.{slice_cmp}
 use Rattle.std.specs.Ordering.{match_ordering}
-use Rattle.gql_ast.specs.Value.{Val, members_depth, members_of, val_depth}
-use Rattle.gql_ast.specs.ValueView.{value_of}
+use Rattle.plan_ir.specs.gql_ast.Value.{Val, members_depth, members_of, val_depth}
+use Rattle.plan_ir.specs.gql_ast.ValueView.{value_of}
 use Rattle.plan_ir.specs.OperationText.{arguments_text, by_name, enclose, enclose_some, member_texts, pairs_text, value_text, with_member}
 use Rattle.plan_ir.specs.Substitution.{Arguments}
 use Rattle.plan_text.specs.Pairs.{named_texts, pair_of, pair_text}
 use Rattle.plan_text.specs.declared.order.Pair.{Pair}
-use Rattle.schema_tables.specs.Types.{Text}
+use Rattle.plan_ir.specs.schema_tables.Types.{Text}
 
 -- ---- what stands beside the names does not matter
 

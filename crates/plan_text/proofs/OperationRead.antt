@@ -2,22 +2,22 @@
 use Rattle.std.proofs.Common.{ℕ, ◌+◌, Bool, true, false, cond, List, [], ◌∷◌, ◌++◌, map, Option, Some, None, option_map, unwrap_or, bytes_eq, refl, sym, ap, ◌∙◌, append-nil}
 use Rattle.std.specs.List.{AllByRecursion, filter}
 use Rattle.std.specs.Option.{IfSome}
-use Rattle.gql_ast.specs.Ty as ty
-use Rattle.gql_ast.specs.Ty.{Ty}
-use Rattle.gql_ast.specs.TypeView.{ty_of}
-use Rattle.gql_ast.specs.ValueView.{value_of}
-use Rattle.gql_ast.specs.declared.directive.Directive.{Directive}
-use Rattle.gql_ast.specs.declared.document.Kind.{Kind}
-use Rattle.gql_ast.specs.declared.document.Kind.TheVariants.{Query, Mutation, Subscription}
-use Rattle.gql_ast.specs.declared.value.ValueTree.{ValueTree}
-use Rattle.gql_ast.specs.declared.variable.VariableDef.{VariableDef}
-use Rattle.gql_lex.specs.Toks as tok
-use Rattle.gql_lex.specs.Toks.{Tok, tokens_of}
+use Rattle.plan_ir.specs.gql_ast.Ty as ty
+use Rattle.plan_ir.specs.gql_ast.Ty.{Ty}
+use Rattle.plan_ir.specs.gql_ast.TypeView.{ty_of}
+use Rattle.plan_ir.specs.gql_ast.ValueView.{value_of}
+use Rattle.plan_ir.specs.gql_ast.declared.directive.Directive.{Directive}
+use Rattle.plan_ir.specs.gql_ast.declared.document.Kind.{Kind}
+use Rattle.plan_ir.specs.gql_ast.declared.document.Kind.TheVariants.{Query, Mutation, Subscription}
+use Rattle.plan_ir.specs.gql_ast.declared.value.ValueTree.{ValueTree}
+use Rattle.plan_ir.specs.gql_ast.declared.variable.VariableDef.{VariableDef}
+use Rattle.plan_ir.specs.gql_lex.Toks as tok
+use Rattle.plan_ir.specs.gql_lex.Toks.{Tok, tokens_of}
 use Rattle.gql_parse.specs.Documents.{FormedVariable, spell_braces, spell_name, spell_on, spell_operation, spell_selections, spell_variables, spell_variables_part}
-use Rattle.gql_syntax.proofs.BuiltTrees.{value_of-value_tree}
-use Rattle.gql_syntax.specs.Formed.{FormedDefault, FormedDirectives, FormedType}
-use Rattle.gql_syntax.specs.Spelling.{spell_arguments, spell_default, spell_directives, spell_type, spell_value}
-use Rattle.gql_syntax.specs.Words.{IsName, kind_word, on_word}
+use Rattle.plan_ir.proofs.gql_syntax_laws.BuiltTrees.{value_of-value_tree}
+use Rattle.plan_ir.specs.gql_syntax.Formed.{FormedDefault, FormedDirectives, FormedType}
+use Rattle.plan_ir.specs.gql_syntax.Spelling.{spell_arguments, spell_default, spell_directives, spell_type, spell_value}
+use Rattle.plan_ir.specs.gql_syntax.Words.{IsName, kind_word, on_word}
 use Rattle.plan_ir.specs.Nodes.{Nodes, end, field, inline}
 use Rattle.plan_ir.specs.OperationText.{arguments_text, condition_text, default_text, directives_text, enclose, enclose_some, join_texts, name_text, node_texts, type_text, used_variables, value_text, variable_text, variables_text}
 use Rattle.plan_text.proofs.ReadBack.{comma_read, space_read, spread_read}
@@ -25,7 +25,7 @@ use Rattle.plan_text.proofs.Spelling.{Opens, Reads, at_sign_stands, bang_stands,
 use Rattle.plan_text.proofs.ValuesRead.{arguments_open, arguments_read, mark, value_reads}
 use Rattle.plan_text.specs.Documents.{FormedNodes, SomeNode, SpellsPrinted}
 use Rattle.plan_text.specs.Printed.{alias_of, printed_operation, printed_arguments, printed_default, printed_directives, printed_selections, printed_value, printed_variable}
-use Rattle.schema_tables.specs.Types.{Text}
+use Rattle.plan_ir.specs.schema_tables.Types.{Text}
 
 -- ---- directives
 

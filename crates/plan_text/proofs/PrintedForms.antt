@@ -2,16 +2,16 @@
 use Rattle.std.proofs.Common.{Bool, true, false, cond, List, [], ◌∷◌, map, Option, Some, None, bytes_eq, refl, sym, subst}
 use Rattle.std.specs.List.{AllByRecursion}
 use Rattle.std.specs.Option.{IfSome}
-use Rattle.gql_ast.specs.Value.{Val, Vals, Members, variable, int, text, truth, null, enum, list, object, no_vals, val, no_members, member, members_of}
-use Rattle.gql_ast.specs.ValueView.{value_of}
-use Rattle.gql_ast.specs.declared.directive.Directive.{Directive}
-use Rattle.gql_ast.specs.declared.document.Definition.TheVariants as D
-use Rattle.gql_ast.specs.declared.value.ValueTree.{ValueTree}
-use Rattle.gql_ast.specs.declared.variable.VariableDef.{VariableDef}
+use Rattle.plan_ir.specs.gql_ast.Value.{Val, Vals, Members, variable, int, text, truth, null, enum, list, object, no_vals, val, no_members, member, members_of}
+use Rattle.plan_ir.specs.gql_ast.ValueView.{value_of}
+use Rattle.plan_ir.specs.gql_ast.declared.directive.Directive.{Directive}
+use Rattle.plan_ir.specs.gql_ast.declared.document.Definition.TheVariants as D
+use Rattle.plan_ir.specs.gql_ast.declared.value.ValueTree.{ValueTree}
+use Rattle.plan_ir.specs.gql_ast.declared.variable.VariableDef.{VariableDef}
 use Rattle.gql_parse.specs.Documents.{FormedDefinition, FormedSelections, FormedVariable, SomeSelection}
-use Rattle.gql_syntax.proofs.BuiltTrees.{value_of-value_tree}
-use Rattle.gql_syntax.specs.Formed.{FormedArguments, FormedDefault, FormedDirectives, FormedMembers, FormedValue, FormedValues}
-use Rattle.gql_syntax.specs.Words.{IsName}
+use Rattle.plan_ir.proofs.gql_syntax_laws.BuiltTrees.{value_of-value_tree}
+use Rattle.plan_ir.specs.gql_syntax.Formed.{FormedArguments, FormedDefault, FormedDirectives, FormedMembers, FormedValue, FormedValues}
+use Rattle.plan_ir.specs.gql_syntax.Words.{IsName}
 use Rattle.plan_ir.specs.Nodes.{Nodes, end, field, inline}
 use Rattle.plan_ir.specs.OperationText.{by_name, used_variables}
 use Rattle.plan_ir.specs.Substitution.{Arguments}
@@ -21,7 +21,7 @@ use Rattle.plan_text.proofs.ValuesRead.{all-by_name}
 use Rattle.plan_text.specs.Documents as document
 use Rattle.plan_text.specs.Documents.{FormedExpanded, FormedNodes, IsOneDocument, SomeNode}
 use Rattle.plan_text.specs.Printed.{printed_operation, printed_arguments, printed_default, printed_directives, printed_members, printed_pair, printed_selections, printed_value, printed_values, printed_variable}
-use Rattle.schema_tables.specs.Types.{Text}
+use Rattle.plan_ir.specs.schema_tables.Types.{Text}
 
 -- ---- values
 

@@ -6,13 +6,13 @@ use Rattle.std.proofs.lemmas.List.{length-append}
 use Rattle.json.specs.Print.{escape_byte, escape, quoted}
 use Rattle.json.proofs.Printed.Strings.{escape_byte_plain}
 use Rattle.plan_text.proofs.ReadBack.{found_read}
-use Rattle.gql_lex.specs.declared.tokens.TokenKind.TheVariants.{Text}
-use Rattle.gql_lex.specs.Characters.{is_two_quotes, may_stand}
-use Rattle.gql_lex.specs.Heads.{head, string, string_head}
-use Rattle.gql_lex.specs.Strings.{text_end, further, escape_len}
-use Rattle.gql_lex.specs.Values.{text_value}
-use Rattle.gql_lex.specs.Toks.{Tok, tokens_of, tok_of}
-use Rattle.gql_lex.specs.Toks as tok
+use Rattle.plan_ir.specs.gql_lex.declared.tokens.TokenKind.TheVariants.{Text}
+use Rattle.plan_ir.specs.gql_lex.Characters.{is_two_quotes, may_stand}
+use Rattle.plan_ir.specs.gql_lex.Heads.{head, string, string_head}
+use Rattle.plan_ir.specs.gql_lex.Strings.{text_end, further, escape_len}
+use Rattle.plan_ir.specs.gql_lex.Values.{text_value}
+use Rattle.plan_ir.specs.gql_lex.Toks.{Tok, tokens_of, tok_of}
+use Rattle.plan_ir.specs.gql_lex.Toks as tok
 use Rattle.std.specs.Char.{encode_utf8}
 
 -- more bytes, one by one

@@ -2,15 +2,15 @@
 use Rattle.std.proofs.Common.{◌≡◌, ℕ, zero, suc, ◌+◌, true, false, cond, List, [], ◌∷◌, ◌++◌, length, take, Option, option_map, Ok, refl, ap, ◌∙◌, arith, eqb}
 use Rattle.std.proofs.lemmas.Bool.Decides.{nat_tests}
 use Rattle.std.specs.List.{prefix_len, AllByRecursion}
-use Rattle.gql_lex.specs.declared.tokens.TokenKind.{TokenKind}
-use Rattle.gql_lex.specs.declared.tokens.TokenKind.TheVariants.{Punct, Name, Int, Text, Block}
-use Rattle.gql_lex.specs.Characters.{is_punctuator, is_ignored}
-use Rattle.gql_plain.specs.Names.{is_name_start, is_name_byte}
-use Rattle.gql_lex.proofs.Fronts.{comment_by, head_by, number_by, string_by}
-use Rattle.gql_lex.specs.Heads.{head, string_head}
-use Rattle.gql_lex.specs.Sources.{read_head, read}
-use Rattle.gql_lex.specs.Toks.{Tok, toks_of, tok_of, tok_of_piece, tokens_of, punctuator_of}
-use Rattle.gql_lex.specs.Toks as tok
+use Rattle.plan_ir.specs.gql_lex.declared.tokens.TokenKind.{TokenKind}
+use Rattle.plan_ir.specs.gql_lex.declared.tokens.TokenKind.TheVariants.{Punct, Name, Int, Text, Block}
+use Rattle.plan_ir.specs.gql_lex.Characters.{is_punctuator, is_ignored}
+use Rattle.plan_ir.specs.gql_plain.Names.{is_name_start, is_name_byte}
+use Rattle.plan_ir.proofs.gql_lex_laws.Fronts.{comment_by, head_by, number_by, string_by}
+use Rattle.plan_ir.specs.gql_lex.Heads.{head, string_head}
+use Rattle.plan_ir.specs.gql_lex.Sources.{read_head, read}
+use Rattle.plan_ir.specs.gql_lex.Toks.{Tok, toks_of, tok_of, tok_of_piece, tokens_of, punctuator_of}
+use Rattle.plan_ir.specs.gql_lex.Toks as tok
 
 -- the tokens of a text, whatever its offset
 abbrev pub toks_at : ℕ → List ℕ → Option (List Tok)

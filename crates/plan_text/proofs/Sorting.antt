@@ -11,8 +11,8 @@ use Rattle.std.specs.List.Sorted.{IsStableBy, IsSortedBy, ties}
 use Rattle.std.specs.Ordering.{is_lt, match_ordering, ordering_reverse}
 use Rattle.plan_ir.specs.OperationText.{by_name, with_member}
 use Rattle.plan_text.proofs.Using.{filter_same}
-use Rattle.schema_tables.proofs.Counting.{eq_swap}
-use Rattle.schema_tables.specs.Types.{Text}
+use Rattle.plan_ir.proofs.schema_tables_laws.Counting.{eq_swap}
+use Rattle.plan_ir.specs.schema_tables.Types.{Text}
 
 abbrev order : Text → Text → Ordering
 order = slice_cmp nat_cmp

@@ -2,18 +2,18 @@
 use Rattle.std.proofs.Common.{◌≡◌, ℕ, ◌+◌, Bool, true, false, cond, not, ◌&&◌, ◌||◌, ◌==◌, List, [], ◌∷◌, ◌++◌, get_or, Option, Some, None, option_map, refl, ap, ◌∙◌, arith, eqb, append_assoc}
 use Rattle.std.proofs.lemmas.Bool.Decides.{nat_tests}
 use Rattle.std.specs.List.{AllByRecursion, list_all, prefix_len}
-use Rattle.gql_lex.specs.Characters.{is_digit, is_float_mark}
-use Rattle.gql_lex.specs.Heads.{head}
-use Rattle.gql_lex.specs.Sources.{read}
-use Rattle.gql_lex.specs.Toks as tok
-use Rattle.gql_lex.specs.Toks.{Tok, tokens_of}
-use Rattle.gql_lex.specs.declared.tokens.TokenKind.TheVariants.{Punct}
-use Rattle.gql_plain.specs.Names.{is_name_byte, is_name_start}
-use Rattle.gql_syntax.specs.Words.{IsName}
+use Rattle.plan_ir.specs.gql_lex.Characters.{is_digit, is_float_mark}
+use Rattle.plan_ir.specs.gql_lex.Heads.{head}
+use Rattle.plan_ir.specs.gql_lex.Sources.{read}
+use Rattle.plan_ir.specs.gql_lex.Toks as tok
+use Rattle.plan_ir.specs.gql_lex.Toks.{Tok, tokens_of}
+use Rattle.plan_ir.specs.gql_lex.declared.tokens.TokenKind.TheVariants.{Punct}
+use Rattle.plan_ir.specs.gql_plain.Names.{is_name_byte, is_name_start}
+use Rattle.plan_ir.specs.gql_syntax.Words.{IsName}
 use Rattle.plan_ir.specs.OperationText.{join_texts}
 use Rattle.plan_text.proofs.Ints.{Ends}
 use Rattle.plan_text.proofs.ReadBack.{found_read, name_read}
-use Rattle.schema_tables.specs.Types.{Text}
+use Rattle.plan_ir.specs.schema_tables.Types.{Text}
 
 -- a byte that may follow every token: of no name or number, no full stop, no quote
 abbrev pub is_free : ℕ → Bool

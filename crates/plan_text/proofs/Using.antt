@@ -5,13 +5,13 @@ use Rattle.std.proofs.lemmas.Map.Text.{is_eq-slice_cmp}
 use Rattle.std.specs.Cmp.Lexicographic.{slice_cmp}
 use Rattle.std.specs.List.{filter}
 use Rattle.plan_ir.specs.NodesView.{nodes_of}
-use Rattle.gql_ast.specs.Value.{members_of}
+use Rattle.plan_ir.specs.gql_ast.Value.{members_of}
 use Rattle.plan_ir.specs.OperationText.{arguments_use, members_use, nodes_use, value_uses}
 use Rattle.plan_ir.specs.Substitution.{Arguments}
 use Rattle.plan_ir.specs.declared.node.Node.{Node}
 use Rattle.plan_ir.specs.declared.node.Node.TheVariants as N
 use Rattle.plan_text.specs.NodeTexts.{node_uses}
-use Rattle.schema_tables.specs.Types.{Text}
+use Rattle.plan_ir.specs.schema_tables.Types.{Text}
 
 pub or_assoc : (a b c : Bool) → (a || b || c) ≡ (a || (b || c))
 or_assoc true b c = refl

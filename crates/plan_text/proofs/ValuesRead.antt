@@ -3,14 +3,14 @@ use Rattle.std.proofs.Common.{◌≡◌, ℕ, suc, ◌+◌, Bool, true, false, L
 use Rattle.std.specs.Cmp.Lexicographic.{slice_cmp}
 use Rattle.std.specs.List.{AllByRecursion}
 use Rattle.std.specs.Ordering.{match_ordering}
-use Rattle.gql_ast.specs.Value.{Val, Vals, Members, variable, int, text, truth, null, enum, list, object, no_vals, val, no_members, member, members_of}
-use Rattle.gql_lex.specs.Toks as tok
-use Rattle.gql_lex.specs.Toks.{Tok, tokens_of}
-use Rattle.gql_syntax.proofs.BuiltTrees.{pairs_of-members_of}
-use Rattle.gql_syntax.specs.Built.{pairs_of}
-use Rattle.gql_syntax.specs.Formed.{FormedArguments, FormedMembers, FormedValue, FormedValues}
-use Rattle.gql_syntax.specs.Spelling.{Mark, spell_arguments, spell_members, spell_value, spell_values}
-use Rattle.gql_syntax.specs.Words.{IsInt, IsName, null_word, truth_word}
+use Rattle.plan_ir.specs.gql_ast.Value.{Val, Vals, Members, variable, int, text, truth, null, enum, list, object, no_vals, val, no_members, member, members_of}
+use Rattle.plan_ir.specs.gql_lex.Toks as tok
+use Rattle.plan_ir.specs.gql_lex.Toks.{Tok, tokens_of}
+use Rattle.plan_ir.proofs.gql_syntax_laws.BuiltTrees.{pairs_of-members_of}
+use Rattle.plan_ir.specs.gql_syntax.Built.{pairs_of}
+use Rattle.plan_ir.specs.gql_syntax.Formed.{FormedArguments, FormedMembers, FormedValue, FormedValues}
+use Rattle.plan_ir.specs.gql_syntax.Spelling.{Mark, spell_arguments, spell_members, spell_value, spell_values}
+use Rattle.plan_ir.specs.gql_syntax.Words.{IsInt, IsName, null_word, truth_word}
 use Rattle.plan_ir.specs.OperationText.{arguments_text, by_name, enclose, join_texts, member_texts, pairs_text, value_text, value_texts, with_member}
 use Rattle.plan_ir.specs.Substitution.{Arguments}
 use Rattle.plan_text.proofs.Ints.{IsInRange64, int_read}
@@ -20,7 +20,7 @@ use Rattle.plan_text.proofs.ReadBack.{comma_read}
 use Rattle.plan_text.proofs.Spelling.{IsFree, Opens, Reads, behind_reads, close_brace_stands, close_bracket_stands, close_paren_stands, colon_stands, dollar_stands, enclosed_reads, ends_of, free_quote, joined_reads, name_reads, nothing_reads, open_brace_stands, open_bracket_stands, open_paren_stands, then_reads}
 use Rattle.plan_text.specs.Pairs.{named_texts}
 use Rattle.plan_text.specs.Printed.{printed_arguments, printed_members, printed_pair, printed_value, printed_values}
-use Rattle.schema_tables.specs.Types.{Text}
+use Rattle.plan_ir.specs.schema_tables.Types.{Text}
 
 abbrev pub mark : Mark Tok
 mark = λ t l n. t

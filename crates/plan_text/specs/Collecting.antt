@@ -2,25 +2,25 @@
 -- selections collect the same.
 use Rattle.std.specs.Prelude.{◌≡◌, ℕ, zero, suc, Bool, true, false, not, ◌&&◌, ◌||◌, cond, List, [], ◌∷◌, ◌++◌, map, codes, Option, Some, None, is_some, bytes_eq}
 use Rattle.std.specs.List.{AllZip, list_any}
-use Rattle.gql_plain.specs.Order.{has_text}
-use Rattle.gql_plain.specs.Tree as t
-use Rattle.gql_plain.specs.Tree.{Tree}
-use Rattle.gql_graph.specs.Rules.{each}
-use Rattle.gql_ast.specs.Sels as sels
-use Rattle.gql_ast.specs.Sels.{Sels, sels_append}
-use Rattle.gql_ast.specs.Value.{Val}
-use Rattle.gql_ast.specs.declared.directive.Directive.{Directive}
-use Rattle.gql_ast.specs.declared.place.FilePlace.{FilePlace}
+use Rattle.plan_ir.specs.gql_plain.Order.{has_text}
+use Rattle.plan_ir.specs.gql_plain.Tree as t
+use Rattle.plan_ir.specs.gql_plain.Tree.{Tree}
+use Rattle.plan_ir.specs.gql_graph.Rules.{each}
+use Rattle.plan_ir.specs.gql_ast.Sels as sels
+use Rattle.plan_ir.specs.gql_ast.Sels.{Sels, sels_append}
+use Rattle.plan_ir.specs.gql_ast.Value.{Val}
+use Rattle.plan_ir.specs.gql_ast.declared.directive.Directive.{Directive}
+use Rattle.plan_ir.specs.gql_ast.declared.place.FilePlace.{FilePlace}
 use Rattle.plan_ir.specs.Additions.{additions, type_or}
 use Rattle.plan_ir.specs.Expansion.{Project, response_key, spreads_in, whole_operation}
-use Rattle.relay_dirs.specs.Connections.{connection_among, value_of_name}
-use Rattle.relay_dirs.specs.Locals.{Local, locals_of}
+use Rattle.plan_ir.specs.relay_dirs.Connections.{connection_among, value_of_name}
+use Rattle.plan_ir.specs.relay_dirs.Locals.{Local, locals_of}
 use Rattle.plan_ir.specs.Substitution.{Arguments, arguments_in}
 use Rattle.plan_text.specs.Printed.{printed_operation, printed_selections}
-use Rattle.schema_tables.specs.Types.{Text, Defs, base_of, possible, root}
-use Rattle.schema_types.specs.Environments.{Values, arguments_in_environment, evaluation, is_true, value_in, with_pair}
-use Rattle.schema_types.specs.NameRules.{fragment_named}
-use Rattle.schema_types.specs.Sites.{FragmentAt, OperationAt, below, condition_or, field_type}
+use Rattle.plan_ir.specs.schema_tables.Types.{Text, Defs, base_of, possible, root}
+use Rattle.plan_ir.specs.schema_types.Environments.{Values, arguments_in_environment, evaluation, is_true, value_in, with_pair}
+use Rattle.plan_ir.specs.schema_types.NameRules.{fragment_named}
+use Rattle.plan_ir.specs.schema_types.Sites.{FragmentAt, OperationAt, below, condition_or, field_type}
 
 -- ---- the source with its additions
 

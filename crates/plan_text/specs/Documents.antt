@@ -1,18 +1,18 @@
 -- The text of an operation as a document.
 use Rattle.std.specs.Prelude.{◌≡◌, ℕ, false, List, [], ◌∷◌, Some, IfSome, IsUtf8}
 use Rattle.std.specs.List.{AllByRecursion}
-use Rattle.gql_ast.specs.declared.document.Definition.TheVariants as D
-use Rattle.gql_ast.specs.declared.document.Document.{Document}
-use Rattle.gql_ast.specs.declared.place.Placed.{Placed}
-use Rattle.gql_lex.specs.Sources.{lex_from}
-use Rattle.gql_lex.specs.Toks.{tokens_of}
+use Rattle.plan_ir.specs.gql_ast.declared.document.Definition.TheVariants as D
+use Rattle.plan_ir.specs.gql_ast.declared.document.Document.{Document}
+use Rattle.plan_ir.specs.gql_ast.declared.place.Placed.{Placed}
+use Rattle.plan_ir.specs.gql_lex.Sources.{lex_from}
+use Rattle.plan_ir.specs.gql_lex.Toks.{tokens_of}
 use Rattle.gql_parse.specs.Documents.{FormedVariable, Written, documents, full, nodes_of}
 use Rattle.gql_parse.specs.Trees.{IsDocument}
-use Rattle.gql_syntax.specs.FirstFault.{Shallow}
-use Rattle.gql_syntax.specs.Formed.{FormedArguments, FormedDirectives}
-use Rattle.gql_syntax.specs.Places.{place_nodes}
-use Rattle.gql_syntax.specs.Texts.{nesting_limit}
-use Rattle.gql_syntax.specs.Words.{IsName}
+use Rattle.plan_ir.specs.gql_syntax.FirstFault.{Shallow}
+use Rattle.plan_ir.specs.gql_syntax.Formed.{FormedArguments, FormedDirectives}
+use Rattle.plan_ir.specs.gql_syntax.Places.{place_nodes}
+use Rattle.plan_ir.specs.gql_syntax.Texts.{nesting_limit}
+use Rattle.plan_ir.specs.gql_syntax.Words.{IsName}
 use Rattle.plan_ir.specs.Nodes.{Nodes, end, field, inline}
 use Rattle.plan_ir.specs.OperationText.{operation_text}
 use Rattle.plan_ir.specs.declared.expanded.Expanded.{Expanded}

@@ -1,3 +1,4 @@
+pub use Rattle.gql_parse.specs as gql_parse
 pub mod Collecting
 pub mod Documents
 pub mod Lines

@@ -1,11 +1,11 @@
 -- The lines of artifacts (this project's own).
 use Rattle.std.specs.Prelude.{codes}
-use Rattle.gql_plain.specs.ToJson.{compact}
-use Rattle.gql_plain.specs.Tree.{no_members, object}
+use Rattle.plan_ir.specs.gql_plain.ToJson.{compact}
+use Rattle.plan_ir.specs.gql_plain.Tree.{no_members, object}
 use Rattle.plan_ir.specs.OperationText.{fragment_line, operation_line, text_member}
 use Rattle.plan_text.specs.declared.artifact.Artifact.{Artifact}
 use Rattle.plan_text.specs.declared.artifact.Artifact.TheVariants.{Operation, Fragment}
-use Rattle.schema_tables.specs.Types.{Text}
+use Rattle.plan_ir.specs.schema_tables.Types.{Text}
 
 abbrev pub line_of : Artifact → Text
 line_of (Operation k n t) = operation_line k n t

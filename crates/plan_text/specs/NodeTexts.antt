@@ -3,7 +3,7 @@ use Rattle.std.specs.Prelude.{◌++◌, ◌||◌, Bool}
 use Rattle.plan_ir.specs.OperationText.{arguments_text, arguments_use, condition_text, directives_text, directives_use, enclose, enclose_some, name_text, node_texts, nodes_use}
 use Rattle.plan_ir.specs.declared.node.Node.{Node}
 use Rattle.plan_ir.specs.declared.node.Node.TheVariants as N
-use Rattle.schema_tables.specs.Types.{Text}
+use Rattle.plan_ir.specs.schema_tables.Types.{Text}
 
 abbrev pub node_text : Node → Text
 node_text (N.Field r n xs ds c of s p) = name_text r n ++ arguments_text xs ++ directives_text ds ++ enclose_some 123 32 125 (node_texts s)

@@ -1,11 +1,11 @@
 -- Names with values.
 use Rattle.std.specs.Prelude.{◌∷◌, ◌++◌, List, map}
-use Rattle.gql_ast.specs.Value.{Val}
-use Rattle.gql_ast.specs.ValueView.{value_of}
+use Rattle.plan_ir.specs.gql_ast.Value.{Val}
+use Rattle.plan_ir.specs.gql_ast.ValueView.{value_of}
 use Rattle.plan_ir.specs.OperationText.{value_text}
 use Rattle.plan_ir.specs.Substitution.{Arguments}
 use Rattle.plan_text.specs.declared.order.Pair.{Pair}
-use Rattle.schema_tables.specs.Types.{Text}
+use Rattle.plan_ir.specs.schema_tables.Types.{Text}
 
 abbrev pub pair_of : Pair → Text × Val
 pair_of p = (p.name.now, value_of p.value.now)

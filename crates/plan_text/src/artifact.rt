@@ -1,11 +1,10 @@
 //! The lines of artifacts (this project's own).
 ghost use Rattle.std.specs.Prelude.{◌≡◌, IfOk};
-ghost use Rattle.gql_syntax.specs.Words.{kind_word};
+ghost use Rattle.plan_ir.specs.gql_syntax.Words.{kind_word};
 ghost use Rattle.plan_text.specs.Lines.{line_of, three_texts};
 
-use gql_ast::Kind;
-use gql_plain::{Name, NoMemory, Words};
 use json::Writer;
+use plan_ir::{Kind, Name, NoMemory, Words};
 use std::alloc::Global;
 
 /// What a project gives to a server: an operation with its text, or a fragment with its type.

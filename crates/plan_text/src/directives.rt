@@ -3,8 +3,7 @@ ghost use Rattle.std.specs.Prelude.{◌≡◌, ◌++◌, string_bytes, OnOk};
 ghost use Rattle.plan_ir.specs.OperationText.{arguments_text, directives_text};
 
 use crate::values::write_pairs;
-use gql_ast::{Arguments, Directives};
-use gql_plain::NoMemory;
+use plan_ir::{Arguments, Directives, NoMemory};
 
 /// Writes directives in written order.
 pub(crate) fn write_directives(out: &mut String, directives: &Directives) -> Result<(), NoMemory>

@@ -17,4 +17,5 @@ mod values;
 mod variables;
 
 pub use artifact::{Artifact, artifact_line};
+pub use gql_parse::parse_document;
 pub use operation::operation_text;

@@ -6,9 +6,7 @@ use crate::artifact::kind_word;
 use crate::directives::write_directives;
 use crate::selections::write_set;
 use crate::variables::{used_variables, write_variables};
-use gql_ast::Kind;
-use gql_plain::{NoMemory, Words};
-use plan_ir::Expanded;
+use plan_ir::{Expanded, Kind, NoMemory, Words};
 use std::alloc::Global;
 
 /// The text of an operation: blanks stand where the grammar needs them alone, arguments in byte

@@ -3,8 +3,7 @@ ghost use Rattle.std.specs.Prelude.{◌≡◌, map, IfOk};
 ghost use Rattle.plan_ir.specs.OperationText.{by_name};
 ghost use Rattle.plan_text.specs.Pairs.{pair_of};
 
-use gql_ast::{Arguments, ValueTree};
-use gql_plain::NoMemory;
+use plan_ir::{Arguments, NoMemory, ValueTree};
 
 /// A name and its value: an argument, or a field of an input object.
 #[derive(Clone, Copy)]

@@ -5,9 +5,7 @@ ghost use Rattle.plan_text.specs.NodeTexts.{node_text};
 
 use crate::directives::{write_arguments, write_directives};
 use crate::separator::separate;
-use gql_ast::Directives;
-use gql_plain::{Name, NoMemory};
-use plan_ir::{Node, Nodes};
+use plan_ir::{Directives, Name, NoMemory, Node, Nodes};
 
 /// Writes a selection set between `{` and `}`, with a space between each two selections.
 #[cycle(selections)]

@@ -1,7 +1,7 @@
 //! What stands between the parts of a list.
 ghost use Rattle.std.specs.Prelude.{◌≡◌, ◌<◌, [], ◌∷◌, ◌++◌, cond, string_bytes, OnOk};
 
-use gql_plain::NoMemory;
+use plan_ir::NoMemory;
 
 /// Writes a character in front of a part, unless the part is the first one.
 pub(crate) fn separate(out: &mut String, begun: bool, between: char) -> Result<(), NoMemory>

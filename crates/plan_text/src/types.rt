@@ -1,10 +1,9 @@
 //! Types (GraphQL, October 2021, section 2.11).
 ghost use Rattle.std.specs.Prelude.{◌≡◌, ◌++◌, string_bytes, OnOk};
-ghost use Rattle.gql_ast.specs.TypeView.{ty_of};
+ghost use Rattle.plan_ir.specs.gql_ast.TypeView.{ty_of};
 ghost use Rattle.plan_ir.specs.OperationText.{type_text};
 
-use gql_ast::TypeTree;
-use gql_plain::NoMemory;
+use plan_ir::{NoMemory, TypeTree};
 
 /// Writes a type.
 pub(crate) fn write_type(out: &mut String, of: &TypeTree) -> Result<(), NoMemory>

@@ -1,15 +1,13 @@
 //! The variables that an operation uses (GraphQL, October 2021, section 2.10).
 ghost use Rattle.std.specs.Prelude.{◌≡◌, ◌||◌, IfOk, OnOk};
-ghost use Rattle.gql_ast.specs.Value.{members_of, vals_of};
-ghost use Rattle.gql_ast.specs.ValueView.{value_of};
+ghost use Rattle.plan_ir.specs.gql_ast.Value.{members_of, vals_of};
+ghost use Rattle.plan_ir.specs.gql_ast.ValueView.{value_of};
 ghost use Rattle.plan_ir.specs.OperationText.{arguments_use, directives_use, members_use, nodes_use, value_uses, values_use};
 ghost use Rattle.plan_text.specs.NodeTexts.{node_uses};
 ghost use Rattle.plan_text.specs.UsedNames.{has_name};
-ghost use Rattle.schema_tables.specs.Types.{Text};
+ghost use Rattle.plan_ir.specs.schema_tables.Types.{Text};
 
-use gql_ast::{Arguments, Directives, ValueTree, ValueTrees};
-use gql_plain::NoMemory;
-use plan_ir::{Expanded, Node, Nodes};
+use plan_ir::{Arguments, Directives, Expanded, NoMemory, Node, Nodes, ValueTree, ValueTrees};
 use std::alloc::Global;
 use std::collections::BTreeSet;
 

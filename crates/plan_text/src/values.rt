@@ -2,15 +2,14 @@
 ghost use Rattle.std.specs.Prelude.{◌≡◌, ◌++◌, string_bytes, OnOk};
 ghost use Rattle.std.specs.Fmt.{signed_decimal};
 ghost use Rattle.json.specs.Print.{quoted};
-ghost use Rattle.gql_ast.specs.Value.{members_of, vals_of};
-ghost use Rattle.gql_ast.specs.ValueView.{value_of};
+ghost use Rattle.plan_ir.specs.gql_ast.Value.{members_of, vals_of};
+ghost use Rattle.plan_ir.specs.gql_ast.ValueView.{value_of};
 ghost use Rattle.plan_ir.specs.OperationText.{join_texts, member_texts, pairs_text, value_text, value_texts};
 
 use crate::order::in_order;
 use crate::separator::separate;
-use gql_ast::{Arguments, ValueTree, ValueTrees};
-use gql_plain::NoMemory;
 use json::Writer;
+use plan_ir::{Arguments, NoMemory, ValueTree, ValueTrees};
 use std::mem;
 
 /// Writes a value.

@@ -1,6 +1,6 @@
 //! The variables of an operation (GraphQL, October 2021, section 2.10).
 ghost use Rattle.std.specs.Prelude.{◌≡◌, [], ◌∷◌, ◌++◌, cond, map, option_map, string_bytes, IfOk, OnOk};
-ghost use Rattle.gql_ast.specs.ValueView.{value_of};
+ghost use Rattle.plan_ir.specs.gql_ast.ValueView.{value_of};
 ghost use Rattle.plan_ir.specs.OperationText as texts;
 ghost use Rattle.plan_ir.specs.OperationText.{default_text, variable_text, variables_text};
 ghost use Rattle.plan_text.specs.UsedNames.{has_name};
@@ -10,9 +10,7 @@ use crate::separator::separate;
 use crate::types::write_type;
 use crate::usage::names_used;
 use crate::values::write_value;
-use gql_ast::{ValueTree, VariableDef};
-use gql_plain::NoMemory;
-use plan_ir::Expanded;
+use plan_ir::{Expanded, NoMemory, ValueTree, VariableDef};
 use std::alloc::Global;
 use std::collections::BTreeSet;
 

@@ -1,11 +1,12 @@
 -- Worked lines of the definitions.
 use Rattle.std.proofs.Common.{◌≡◌, List, [], ◌∷◌, true, false, Some, None, codes, refl, pos}
-use Rattle.gql_ast.specs.Ty as ty
-use Rattle.gql_ast.specs.Value.{Val, variable, int, text, truth, null, list, object, no_vals, val, no_members, member}
-use Rattle.gql_lex.specs.Heads.{head}
-use Rattle.gql_lex.specs.Sources.{read}
-use Rattle.schema_types.specs.Sites.{ArgumentAt, DirectiveAt, Site, spread, DefinitionAt, fragment}
-use Rattle.gql_graph.specs.Texts.{Text}
+use Rattle.gql_syntax.specs.gql_ast.Sels as sels
+use Rattle.gql_syntax.specs.gql_ast.Ty as ty
+use Rattle.gql_syntax.specs.gql_ast.Value.{Val, variable, int, text, truth, null, list, object, no_vals, val, no_members, member}
+use Rattle.gql_syntax.specs.gql_lex.Heads.{head}
+use Rattle.gql_syntax.specs.gql_lex.Sources.{read}
+use Rattle.schema_values.specs.schema_types.Sites.{ArgumentAt, DirectiveAt, Site, spread, DefinitionAt, fragment}
+use Rattle.schema_values.specs.gql_graph.Texts.{Text}
 use Rattle.relay_dirs.specs.Connections.{is_key, is_good_key, are_good_filters, filters_of_value}
 use Rattle.relay_dirs.specs.Locals.{Local, local_of}
 use Rattle.relay_dirs.specs.RelayRules.{is_bad_alias, is_good_local, is_truth, aliases_wrong, locals_wrong, masks_wrong}
@@ -115,8 +116,8 @@ giving v = spread None (record { name = codes "B"; at = 11 }) (record { name = r
 
 abbrev two : (given local : Val) → List DefinitionAt
 two v w =
-    fragment (record { name = record { name = codes "A"; at = 3 }; on = record { name = codes "User"; at = 4 }; directives = []; selections = Rattle.gql_ast.specs.Sels.end; sites = giving v ∷ [] })
-    ∷ fragment (record { name = record { name = codes "B"; at = 19 }; on = record { name = codes "User"; at = 20 }; directives = defining w ∷ []; selections = Rattle.gql_ast.specs.Sels.end; sites = [] })
+    fragment (record { name = record { name = codes "A"; at = 3 }; on = record { name = codes "User"; at = 4 }; directives = []; selections = sels.end; sites = giving v ∷ [] })
+    ∷ fragment (record { name = record { name = codes "B"; at = 19 }; on = record { name = codes "User"; at = 20 }; directives = defining w ∷ []; selections = sels.end; sites = [] })
     ∷ []
 
 abbrev int_local : Val

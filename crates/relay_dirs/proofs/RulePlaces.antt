@@ -1,7 +1,7 @@
 -- Each place where a rule on the directives after Relay or on aliases does not hold is that of a node of the documents.
 use Rattle.std.proofs.Common.{◌≡◌, ℕ, ◌<◌, Bool, not, cond, List, [], ◌∷◌, ◌++◌, map, Option, Some, None, IfSome, bytes_eq, codes}
 use Rattle.std.specs.List.{AllByRecursion}
-use Rattle.gql_ast.specs.declared.document.Document.{Document}
+use Rattle.gql_syntax.specs.gql_ast.declared.document.Document.{Document}
 use Rattle.doc_uses.specs.Parts.{uses_wrong_in}
 use Rattle.relay_dirs.specs.Connections as connections
 use Rattle.relay_dirs.specs.Connections.{is_connection_name, response_key, field_defined}
@@ -9,19 +9,19 @@ use Rattle.relay_dirs.specs.Locals.{Local, locals_of, local_named, defines_local
 use Rattle.relay_dirs.specs.RelayRules as relay
 use Rattle.relay_dirs.specs.RelayRules.{relay_rules}
 use Rattle.relay_dirs.specs.Spreads as spreads
-use Rattle.schema_rules.specs.Rules.{each, wrong, first_broken}
-use Rattle.schema_rules.specs.declared.fault.Rule.{Rule}
-use Rattle.schema_tables.specs.Types.{Defs}
-use Rattle.schema_tables.specs.Views.{FieldDef}
-use Rattle.schema_trees.proofs.BelowSteps.{all_append, all_each, below_append, below_wrong, below_cond, below_each, below_first}
-use Rattle.schema_trees.specs.Located.{Located}
-use Rattle.schema_trees.specs.Numbers.{Below}
-use Rattle.schema_types.proofs.RulePlaces.{NameIn, ArgumentIn, DirectiveIn, SiteIn, OperationIn, FragmentIn, operations_here, fragments_here, each_site}
-use Rattle.schema_types.proofs.SiteNumberLaws.{all_below}
-use Rattle.schema_types.specs.ArgumentRules.{Use, uses_in, use_wrong, local_names}
-use Rattle.schema_types.specs.NameRules.{operations, fragments}
-use Rattle.schema_types.specs.SiteNumbers.{documents_nodes, DefinitionBelow, DefinitionsBelow}
-use Rattle.schema_types.specs.Sites.{ArgumentAt, DirectiveAt, Site, field, spread, inline, OperationAt, FragmentAt, DefinitionAt, operation, fragment, all_definitions}
+use Rattle.schema_values.specs.schema_rules.Rules.{each, wrong, first_broken}
+use Rattle.schema_values.specs.schema_rules.declared.fault.Rule.{Rule}
+use Rattle.schema_values.specs.schema_tables.Types.{Defs}
+use Rattle.schema_values.specs.schema_tables.Views.{FieldDef}
+use Rattle.schema_values.proofs.schema_trees_laws.BelowSteps.{all_append, all_each, below_append, below_wrong, below_cond, below_each, below_first}
+use Rattle.schema_values.specs.schema_trees.Located.{Located}
+use Rattle.schema_values.specs.schema_trees.Numbers.{Below}
+use Rattle.schema_values.proofs.schema_types_laws.RulePlaces.{NameIn, ArgumentIn, DirectiveIn, SiteIn, OperationIn, FragmentIn, operations_here, fragments_here, each_site}
+use Rattle.schema_values.proofs.schema_types_laws.SiteNumberLaws.{all_below}
+use Rattle.schema_values.specs.schema_types.ArgumentRules.{Use, uses_in, use_wrong, local_names}
+use Rattle.schema_values.specs.schema_types.NameRules.{operations, fragments}
+use Rattle.schema_values.specs.schema_types.SiteNumbers.{documents_nodes, DefinitionBelow, DefinitionsBelow}
+use Rattle.schema_values.specs.schema_types.Sites.{ArgumentAt, DirectiveAt, Site, field, spread, inline, OperationAt, FragmentAt, DefinitionAt, operation, fragment, all_definitions}
 
 module _ (m : ℕ) where
   -- ---- V17

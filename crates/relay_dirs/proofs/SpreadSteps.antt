@@ -3,12 +3,12 @@ use Rattle.std.proofs.Common.{◌≡◌, ℕ, ◌+◌, ◌<◌, ◌≤◌, Bool,
 use Rattle.std.proofs.Math.Seq.{drop-cons}
 use Rattle.std.proofs.lemmas.List.{drop_all}
 use Rattle.std.specs.List.{list_all}
-use Rattle.gql_plain.specs.Order.{has_text}
-use Rattle.gql_graph.specs.Rules.{each}
-use Rattle.gql_graph.specs.Texts.{Text}
-use Rattle.schema_types.specs.ArgumentRules.{is_given, is_null}
-use Rattle.schema_types.specs.NameRules.{fragment_named, fragments}
-use Rattle.schema_types.specs.Sites.{ArgumentAt, FragmentAt, DefinitionAt, operation, fragment}
+use Rattle.gql_syntax.specs.gql_plain.Order.{has_text}
+use Rattle.schema_values.specs.gql_graph.Rules.{each}
+use Rattle.schema_values.specs.gql_graph.Texts.{Text}
+use Rattle.schema_values.specs.schema_types.ArgumentRules.{is_given, is_null}
+use Rattle.schema_values.specs.schema_types.NameRules.{fragment_named, fragments}
+use Rattle.schema_values.specs.schema_types.Sites.{ArgumentAt, FragmentAt, DefinitionAt, operation, fragment}
 use Rattle.relay_dirs.specs.GivenNames.{given_names}
 use Rattle.relay_dirs.specs.Locals.{Local, local_named, locals_of}
 use Rattle.relay_dirs.specs.Spreads.{is_served, locals_named, locals_of_found, must_be_given}

@@ -1,15 +1,15 @@
 -- The type that a text says is the type that it is.
 use Rattle.std.proofs.Common.{◌≡◌, length, Option, Some, None, option_map, Result, Ok, Err, IsUtf8, refl, ap}
-use Rattle.gql_lex.specs.Sources.{Source, ended, faulty, token, lex_from}
-use Rattle.gql_ast.specs.Ty.{Ty}
-use Rattle.gql_ast.specs.TypeView.{ty_of}
-use Rattle.gql_ast.specs.declared.type_tree.TypeTree.{TypeTree}
+use Rattle.gql_syntax.specs.gql_lex.Sources.{Source, ended, faulty, token, lex_from}
+use Rattle.gql_syntax.specs.gql_ast.Ty.{Ty}
+use Rattle.gql_syntax.specs.gql_ast.TypeView.{ty_of}
+use Rattle.gql_syntax.specs.gql_ast.declared.type_tree.TypeTree.{TypeTree}
 use Rattle.gql_syntax.specs.Parts.{type_read}
 use Rattle.gql_syntax.specs.Run.{Stopped}
 use Rattle.gql_syntax.specs.Texts.{nesting_limit}
 use Rattle.gql_syntax.specs.TypeTexts.{TellsType}
 use Rattle.gql_syntax.proofs.TypeAlone.{type_found, more_follows, none_read, one_type}
-use Rattle.gql_graph.specs.Texts.{Text}
+use Rattle.schema_values.specs.gql_graph.Texts.{Text}
 use Rattle.relay_dirs.specs.TypeTexts.{type_in, read_whole, whole}
 
 behind : (text : Text) → IsUtf8 text → (t : Ty) (rest : Source) → type_read nesting_limit (length text) (lex_from 0 text) ≡ Ok (t, rest)

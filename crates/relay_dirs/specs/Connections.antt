@@ -2,22 +2,22 @@
 -- Specification).
 use Rattle.std.specs.Prelude.{ℕ, Bool, true, false, not, ◌&&◌, ◌||◌, ◌==◌, cond, List, [], ◌∷◌, ◌++◌, map, codes, Option, Some, None, option_map, bytes_eq}
 use Rattle.std.specs.List.{list_all}
-use Rattle.gql_plain.specs.Names.{is_name}
-use Rattle.gql_plain.specs.Order.{has_text, sorted_texts}
-use Rattle.gql_plain.specs.declared.ids.Conn.{Conn}
-use Rattle.gql_ast.specs.TypeView.{ty_of}
-use Rattle.gql_ast.specs.Value.{Val, Vals, text, list, no_vals, val}
-use Rattle.gql_ast.specs.declared.directive.Directive.{Directive}
-use Rattle.gql_ast.specs.declared.selection.Selection.{Selection}
-use Rattle.gql_ast.specs.declared.selection.Selection.TheVariants as S
-use Rattle.schema_tables.specs.Fits.{is_list_type}
-use Rattle.schema_tables.specs.Inputs.{must_be_given}
-use Rattle.schema_trees.specs.Located.{Located}
-use Rattle.schema_rules.specs.Rules.{each, wrong, is_object}
-use Rattle.schema_types.specs.Sites.{ArgumentAt, DirectiveAt, Site, field, spread, inline, DefinitionAt}
-use Rattle.schema_types.specs.NameRules.{sites_of}
-use Rattle.schema_tables.specs.Types.{Text, Defs, base_of, field_on, field_def, is_leaf, is_composite}
-use Rattle.schema_tables.specs.Views.{FieldDef, InputDef}
+use Rattle.gql_syntax.specs.gql_plain.Names.{is_name}
+use Rattle.gql_syntax.specs.gql_plain.Order.{has_text, sorted_texts}
+use Rattle.gql_syntax.specs.gql_plain.declared.ids.Conn.{Conn}
+use Rattle.gql_syntax.specs.gql_ast.TypeView.{ty_of}
+use Rattle.gql_syntax.specs.gql_ast.Value.{Val, Vals, text, list, no_vals, val}
+use Rattle.gql_syntax.specs.gql_ast.declared.directive.Directive.{Directive}
+use Rattle.gql_syntax.specs.gql_ast.declared.selection.Selection.{Selection}
+use Rattle.gql_syntax.specs.gql_ast.declared.selection.Selection.TheVariants as S
+use Rattle.schema_values.specs.schema_tables.Fits.{is_list_type}
+use Rattle.schema_values.specs.schema_tables.Inputs.{must_be_given}
+use Rattle.schema_values.specs.schema_trees.Located.{Located}
+use Rattle.schema_values.specs.schema_rules.Rules.{each, wrong, is_object}
+use Rattle.schema_values.specs.schema_types.Sites.{ArgumentAt, DirectiveAt, Site, field, spread, inline, DefinitionAt}
+use Rattle.schema_values.specs.schema_types.NameRules.{sites_of}
+use Rattle.schema_values.specs.schema_tables.Types.{Text, Defs, base_of, field_on, field_def, is_leaf, is_composite}
+use Rattle.schema_values.specs.schema_tables.Views.{FieldDef, InputDef}
 
 abbrev pub is_connection_name : Text → Bool
 is_connection_name n = bytes_eq n (codes "connection")

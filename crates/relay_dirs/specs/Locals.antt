@@ -1,12 +1,12 @@
 -- The local variables of a fragment: the arguments of its `@argumentDefinitions`, after Relay. Each is an object with `type`, a string that
 -- is a Type, and at most `defaultValue`, each once.
 use Rattle.std.specs.Prelude.{Bool, cond, List, [], ◌∷◌, codes, Option, Some, None, is_some, bytes_eq}
-use Rattle.gql_ast.specs.Ty.{Ty}
-use Rattle.gql_ast.specs.Value.{Val, Members, text, object, no_members, member}
-use Rattle.gql_ast.specs.declared.directive.Directive.{Directive}
-use Rattle.gql_graph.specs.Rules.{each}
-use Rattle.schema_types.specs.Sites.{ArgumentAt, DirectiveAt}
-use Rattle.gql_graph.specs.Texts.{Text}
+use Rattle.gql_syntax.specs.gql_ast.Ty.{Ty}
+use Rattle.gql_syntax.specs.gql_ast.Value.{Val, Members, text, object, no_members, member}
+use Rattle.gql_syntax.specs.gql_ast.declared.directive.Directive.{Directive}
+use Rattle.schema_values.specs.gql_graph.Rules.{each}
+use Rattle.schema_values.specs.schema_types.Sites.{ArgumentAt, DirectiveAt}
+use Rattle.schema_values.specs.gql_graph.Texts.{Text}
 use Rattle.relay_dirs.specs.TypeTexts.{type_in}
 
 -- ---- what the object of a local variable says

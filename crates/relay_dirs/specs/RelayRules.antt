@@ -1,16 +1,16 @@
 -- The rules on the directives after Relay and on aliases, in their order. Each is the list of the places where it does not hold.
 use Rattle.std.specs.Prelude.{ℕ, Bool, true, false, not, ◌&&◌, ◌||◌, cond, List, [], ◌∷◌, codes, Option, Some, None, bytes_eq}
-use Rattle.gql_ast.specs.Value.{Val, truth}
-use Rattle.schema_types.specs.ArgumentRules.{is_input_type}
-use Rattle.schema_types.specs.DocumentRules.{Rules}
-use Rattle.schema_tables.specs.Fits.{literal_fits}
-use Rattle.schema_trees.specs.Located.{Located}
-use Rattle.schema_types.specs.NameRules.{sites_of}
-use Rattle.schema_rules.specs.Rules.{each, wrong, begins_with_underscores}
-use Rattle.schema_types.specs.Sites.{ArgumentAt, DirectiveAt, Site, field, spread, inline, DefinitionAt, operation, fragment}
-use Rattle.schema_tables.specs.Types.{Text, Defs}
-use Rattle.schema_rules.specs.declared.fault.Rule.TheVariants as R
-use Rattle.gql_ast.specs.Ty.{Ty}
+use Rattle.gql_syntax.specs.gql_ast.Value.{Val, truth}
+use Rattle.schema_values.specs.schema_types.ArgumentRules.{is_input_type}
+use Rattle.schema_values.specs.schema_types.DocumentRules.{Rules}
+use Rattle.schema_values.specs.schema_tables.Fits.{literal_fits}
+use Rattle.schema_values.specs.schema_trees.Located.{Located}
+use Rattle.schema_values.specs.schema_types.NameRules.{sites_of}
+use Rattle.schema_values.specs.schema_rules.Rules.{each, wrong, begins_with_underscores}
+use Rattle.schema_values.specs.schema_types.Sites.{ArgumentAt, DirectiveAt, Site, field, spread, inline, DefinitionAt, operation, fragment}
+use Rattle.schema_values.specs.schema_tables.Types.{Text, Defs}
+use Rattle.schema_values.specs.schema_rules.declared.fault.Rule.TheVariants as R
+use Rattle.gql_syntax.specs.gql_ast.Ty.{Ty}
 use Rattle.relay_dirs.specs.Connections.{value_named, keys_wrong, connections_wrong}
 use Rattle.relay_dirs.specs.Locals.{Local, local_of, defines_locals}
 use Rattle.relay_dirs.specs.Spreads.{spreads_wrong}

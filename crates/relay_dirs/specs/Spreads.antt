@@ -1,15 +1,15 @@
 -- What spreads give to the local variables of their fragments by `@arguments`, after Relay.
 use Rattle.std.specs.Prelude.{ℕ, Bool, true, false, not, ◌&&◌, ◌||◌, cond, List, [], ◌++◌, map, codes, Option, Some, None, is_some, bytes_eq}
 use Rattle.std.specs.List.{list_all}
-use Rattle.gql_ast.specs.Ty.{Ty}
-use Rattle.gql_ast.specs.Value.{Val}
-use Rattle.schema_types.specs.ArgumentRules.{Place, Use, is_given, is_null, use_wrong, uses_in}
-use Rattle.schema_tables.specs.Fits.{is_non_null, literal_fits, nullable, types_agree}
-use Rattle.schema_trees.specs.Located.{Located}
-use Rattle.schema_types.specs.NameRules.{operations, fragments, fragment_named, sites_of}
-use Rattle.gql_graph.specs.Rules.{each, wrong}
-use Rattle.schema_types.specs.Sites.{ArgumentAt, DirectiveAt, Site, field, spread, inline, OperationAt, FragmentAt, DefinitionAt}
-use Rattle.schema_tables.specs.Types.{Text, Defs}
+use Rattle.gql_syntax.specs.gql_ast.Ty.{Ty}
+use Rattle.gql_syntax.specs.gql_ast.Value.{Val}
+use Rattle.schema_values.specs.schema_types.ArgumentRules.{Place, Use, is_given, is_null, use_wrong, uses_in}
+use Rattle.schema_values.specs.schema_tables.Fits.{is_non_null, literal_fits, nullable, types_agree}
+use Rattle.schema_values.specs.schema_trees.Located.{Located}
+use Rattle.schema_values.specs.schema_types.NameRules.{operations, fragments, fragment_named, sites_of}
+use Rattle.schema_values.specs.gql_graph.Rules.{each, wrong}
+use Rattle.schema_values.specs.schema_types.Sites.{ArgumentAt, DirectiveAt, Site, field, spread, inline, OperationAt, FragmentAt, DefinitionAt}
+use Rattle.schema_values.specs.schema_tables.Types.{Text, Defs}
 use Rattle.doc_uses.specs.Parts.{uses_wrong_in}
 use Rattle.relay_dirs.specs.Locals.{Local, locals_of, local_named}
 

@@ -3,9 +3,9 @@ use Rattle.std.specs.Prelude.{◌≡◌, cond, List, [], ◌∷◌, map, Option,
 use Rattle.std.specs.BTreeMap.{get_by}
 use Rattle.std.specs.Cmp.Lexicographic.{slice_cmp}
 use Rattle.std.specs.Ordering.{nat_cmp}
-use Rattle.gql_graph.specs.Rules.{each}
-use Rattle.gql_graph.specs.Texts.{Text}
-use Rattle.schema_types.specs.Sites.{FragmentAt, DefinitionAt, operation, fragment}
+use Rattle.schema_values.specs.gql_graph.Rules.{each}
+use Rattle.schema_values.specs.gql_graph.Texts.{Text}
+use Rattle.schema_values.specs.schema_types.Sites.{FragmentAt, DefinitionAt, operation, fragment}
 use Rattle.relay_dirs.specs.Locals.{Local, local_named, locals_of}
 use Rattle.relay_dirs.specs.Spreads.{locals_named, must_be_given}
 use Rattle.relay_dirs.specs.View.{local_view}

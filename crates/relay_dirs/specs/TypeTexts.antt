@@ -1,11 +1,11 @@
 -- The type that a text says (GraphQL, October 2021, section 2.11).
 use Rattle.std.specs.Prelude.{length, Option, Some, None, Result, Ok, Err}
-use Rattle.gql_lex.specs.Sources.{Source, ended, faulty, token, lex_from}
-use Rattle.gql_ast.specs.Ty.{Ty}
+use Rattle.gql_syntax.specs.gql_lex.Sources.{Source, ended, faulty, token, lex_from}
+use Rattle.gql_syntax.specs.gql_ast.Ty.{Ty}
 use Rattle.gql_syntax.specs.Parts.{type_read}
 use Rattle.gql_syntax.specs.Run.{Stopped}
 use Rattle.gql_syntax.specs.Texts.{nesting_limit}
-use Rattle.gql_graph.specs.Texts.{Text}
+use Rattle.schema_values.specs.gql_graph.Texts.{Text}
 
 -- a type behind which nothing follows
 abbrev pub whole : Ty → (rest : Source) → Option Ty

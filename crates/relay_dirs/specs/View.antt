@@ -1,10 +1,10 @@
 -- What the code keeps of local variables, parts of documents and uses of variables.
 use Rattle.std.specs.Prelude.{List, option_map}
-use Rattle.gql_ast.specs.TypeView.{ty_of}
-use Rattle.gql_ast.specs.ValueView.{value_of}
-use Rattle.gql_ast.specs.declared.directive.Directive.{Directive}
-use Rattle.gql_ast.specs.declared.variable.VariableDef.{VariableDef}
-use Rattle.gql_graph.specs.Rules.{each}
+use Rattle.gql_syntax.specs.gql_ast.TypeView.{ty_of}
+use Rattle.gql_syntax.specs.gql_ast.ValueView.{value_of}
+use Rattle.gql_syntax.specs.gql_ast.declared.directive.Directive.{Directive}
+use Rattle.gql_syntax.specs.gql_ast.declared.variable.VariableDef.{VariableDef}
+use Rattle.schema_values.specs.gql_graph.Rules.{each}
 use Rattle.relay_dirs.specs.Locals as spec
 use Rattle.relay_dirs.specs.Locals.{Local}
 use Rattle.relay_dirs.specs.declared.local_variables.LocalObject.{LocalObject}

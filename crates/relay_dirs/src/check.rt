@@ -1,9 +1,9 @@
 //! The first rule on the directives after Relay and on aliases that documents do not meet.
 ghost use Rattle.std.specs.Prelude.{◌≡◌, map, IfErr, IfOk, OnOk};
-ghost use Rattle.doc_sites.specs.Definitions.{AreIn};
-ghost use Rattle.doc_sites.specs.SitesView.{definition_of};
-ghost use Rattle.gql_graph.specs.Rules as rules;
-ghost use Rattle.schema_types.specs.DocumentRules.{AreFaulty, Meet};
+ghost use Rattle.doc_uses.specs.doc_sites.Definitions.{AreIn};
+ghost use Rattle.doc_uses.specs.doc_sites.SitesView.{definition_of};
+ghost use Rattle.schema_values.specs.gql_graph.Rules as rules;
+ghost use Rattle.schema_values.specs.schema_types.DocumentRules.{AreFaulty, Meet};
 ghost use Rattle.relay_dirs.specs.RelayRules.{relay_rules};
 
 use crate::rules::aliases::aliases_wrong;
@@ -12,12 +12,12 @@ use crate::rules::keys::keys_wrong;
 use crate::rules::locals::locals_wrong;
 use crate::rules::masks::masks_wrong;
 use crate::rules::spreads::spreads_wrong;
-use doc_sites::{DefinitionAt, definitions_at};
-use gql_ast::Documents;
-use gql_graph::first::First;
-use gql_graph::least::Least;
-use gql_plain::NoMemory;
-use schema_types::{NodeFault, Rule, RuleFault, Schema};
+use doc_uses::{DefinitionAt, definitions_at};
+use gql_syntax::gql_ast::Documents;
+use gql_syntax::gql_plain::NoMemory;
+use schema_values::first::First;
+use schema_values::least::Least;
+use schema_values::{NodeFault, Rule, RuleFault, Schema};
 use std::alloc::Global;
 
 /// Checks the rules on the directives after Relay and on aliases, in this order. Their profile is this

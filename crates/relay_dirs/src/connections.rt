@@ -1,12 +1,12 @@
 //! What the `@connection` of a selection says, after Relay.
 ghost use Rattle.std.specs.Prelude.{◌≡◌, ◌++◌, Option, option_map, IfOk, OnOk};
-ghost use Rattle.gql_ast.specs.Value.{vals_of};
-ghost use Rattle.gql_ast.specs.ValueView as tree;
+ghost use Rattle.gql_syntax.specs.gql_ast.Value.{vals_of};
+ghost use Rattle.gql_syntax.specs.gql_ast.ValueView as tree;
 ghost use Rattle.relay_dirs.specs.Connections as spec;
 
 use crate::values::value_of_name;
-use gql_ast::{Arguments, Directives, Selection, ValueTree, ValueTrees};
-use gql_plain::{Conn, Ids, NoMemory, Words};
+use gql_syntax::gql_ast::{Arguments, Directives, Selection, ValueTree, ValueTrees};
+use gql_syntax::gql_plain::{Conn, Ids, NoMemory, Words};
 use std::alloc::Global;
 
 /// What the `@connection` of a selection says: its key, and its filters, distinct and in byte order,

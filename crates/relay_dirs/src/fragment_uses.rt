@@ -1,10 +1,10 @@
 //! The variables that the spreads in fragments give.
 ghost use Rattle.std.specs.Prelude.{◌++◌, List, map, IfOk, OnOk};
-ghost use Rattle.schema_types.specs.ArgumentRules as rules;
-ghost use Rattle.schema_types.specs.NameRules.{fragments};
-ghost use Rattle.schema_types.specs.Sites as parts;
-ghost use Rattle.gql_graph.specs.Texts.{Text};
-ghost use Rattle.doc_sites.specs.SitesView.{definition_of};
+ghost use Rattle.schema_values.specs.schema_types.ArgumentRules as rules;
+ghost use Rattle.schema_values.specs.schema_types.NameRules.{fragments};
+ghost use Rattle.schema_values.specs.schema_types.Sites as parts;
+ghost use Rattle.schema_values.specs.gql_graph.Texts.{Text};
+ghost use Rattle.doc_uses.specs.doc_sites.SitesView.{definition_of};
 ghost use Rattle.doc_uses.specs.FragmentUses.{Describes};
 ghost use Rattle.doc_uses.specs.UsesByName.{Gathers, named_in, uses_among};
 ghost use Rattle.relay_dirs.specs.Spreads.{uses_in_fragment};
@@ -12,10 +12,9 @@ ghost use Rattle.relay_dirs.specs.Tables.{Suits};
 
 use crate::fragments::Fragments;
 use crate::spread_uses::uses_in_spreads;
-use doc_sites::DefinitionAt;
-use doc_uses::{FragmentUses, UsesByName};
-use gql_plain::NoMemory;
-use schema_types::Schema;
+use doc_uses::{DefinitionAt, FragmentUses, UsesByName};
+use gql_syntax::gql_plain::NoMemory;
+use schema_values::Schema;
 use std::alloc::Global;
 
 /// What is known of the variables that the spreads in the fragments among definitions give.

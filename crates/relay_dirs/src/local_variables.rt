@@ -1,20 +1,20 @@
 //! The local variables of fragments: the arguments of `@argumentDefinitions`, after Relay. Each is an
 //! object with `type`, a string that is a Type, and at most `defaultValue`, each once.
 ghost use Rattle.std.specs.Prelude.{◌≡◌, ◌++◌, [], map, option_map, IfOk, OnOk};
-ghost use Rattle.gql_ast.specs.TypeView.{ty_of};
-ghost use Rattle.gql_ast.specs.Value.{members_of};
-ghost use Rattle.gql_ast.specs.ValueView as tree;
-ghost use Rattle.gql_graph.specs.Rules.{each};
-ghost use Rattle.doc_sites.specs.SitesView.{argument_of, directive_of};
+ghost use Rattle.gql_syntax.specs.gql_ast.TypeView.{ty_of};
+ghost use Rattle.gql_syntax.specs.gql_ast.Value.{members_of};
+ghost use Rattle.gql_syntax.specs.gql_ast.ValueView as tree;
+ghost use Rattle.schema_values.specs.gql_graph.Rules.{each};
+ghost use Rattle.doc_uses.specs.doc_sites.SitesView.{argument_of, directive_of};
 ghost use Rattle.relay_dirs.specs.Locals as spec;
 ghost use Rattle.relay_dirs.specs.TypeTexts.{type_in};
 ghost use Rattle.relay_dirs.specs.View.{directives_of_all, local_view, object_view};
 
-use doc_sites::{ArgumentAt, DirectiveAt};
-use gql_ast::{
+use doc_uses::{ArgumentAt, DirectiveAt};
+use gql_syntax::gql_ast::{
     Arguments, Directive, Directives, Fragment, TypeTree, ValueTree, VariableDef, VariableDefs,
 };
-use gql_plain::{NoMemory, Words};
+use gql_syntax::gql_plain::{NoMemory, Words};
 use gql_syntax::type_of_text;
 use std::alloc::Global;
 

@@ -1,13 +1,13 @@
 //! What a spread gives to the local variables of its fragment by `@arguments`, after Relay.
 ghost use Rattle.std.specs.Prelude.{◌≡◌, ◌++◌, [], List, map, option_map, IfOk, OnOk};
 ghost use Rattle.std.specs.List.{list_all};
-ghost use Rattle.gql_ast.specs.ValueView.{value_of};
-ghost use Rattle.gql_plain.specs.Order.{has_text};
-ghost use Rattle.schema_types.specs.ArgumentRules.{is_null};
-ghost use Rattle.gql_graph.specs.Seen.{Knows};
-ghost use Rattle.gql_graph.specs.Texts.{Text};
-ghost use Rattle.schema_tables.specs.Types.{Defs};
-ghost use Rattle.doc_sites.specs.SitesView.{argument_of, directive_of};
+ghost use Rattle.gql_syntax.specs.gql_ast.ValueView.{value_of};
+ghost use Rattle.gql_syntax.specs.gql_plain.Order.{has_text};
+ghost use Rattle.schema_values.specs.schema_types.ArgumentRules.{is_null};
+ghost use Rattle.schema_values.specs.gql_graph.Seen.{Knows};
+ghost use Rattle.schema_values.specs.gql_graph.Texts.{Text};
+ghost use Rattle.schema_values.specs.schema_tables.Types.{Defs};
+ghost use Rattle.doc_uses.specs.doc_sites.SitesView.{argument_of, directive_of};
 ghost use Rattle.relay_dirs.specs.GivenNames.{given_name, given_names};
 ghost use Rattle.relay_dirs.specs.Locals.{Local};
 ghost use Rattle.relay_dirs.specs.Spreads as spec;
@@ -15,11 +15,11 @@ ghost use Rattle.relay_dirs.specs.Tables.{Finds, Serves};
 ghost use Rattle.relay_dirs.specs.View.{local_view};
 
 use crate::fragments::Locals;
-use doc_sites::{ArgumentAt, DirectiveAt};
-use gql_ast::{ValueTree, VariableDef};
-use gql_graph::seen::Seen;
-use gql_plain::NoMemory;
-use schema_types::Schema;
+use doc_uses::{ArgumentAt, DirectiveAt};
+use gql_syntax::gql_ast::{ValueTree, VariableDef};
+use gql_syntax::gql_plain::NoMemory;
+use schema_values::Schema;
+use schema_values::seen::Seen;
 use std::alloc::Global;
 
 /// The arguments that the directives of a spread give.

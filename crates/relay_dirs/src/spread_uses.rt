@@ -1,9 +1,9 @@
 //! The variables that spreads give to local variables by `@arguments`, each at its place; they are told
 //! at the name of the spread.
 ghost use Rattle.std.specs.Prelude.{◌≡◌, ◌++◌, List, map, option_map, IfOk, OnOk};
-ghost use Rattle.gql_graph.specs.Rules.{each};
-ghost use Rattle.schema_types.specs.Sites as parts;
-ghost use Rattle.doc_sites.specs.SitesView.{argument_of, site_of};
+ghost use Rattle.schema_values.specs.gql_graph.Rules.{each};
+ghost use Rattle.schema_values.specs.schema_types.Sites as parts;
+ghost use Rattle.doc_uses.specs.doc_sites.SitesView.{argument_of, site_of};
 ghost use Rattle.doc_uses.specs.UseView.{place_of, use_of};
 ghost use Rattle.relay_dirs.specs.Locals.{Local, local_named};
 ghost use Rattle.relay_dirs.specs.Spreads as spec;
@@ -12,12 +12,11 @@ ghost use Rattle.relay_dirs.specs.View.{local_view};
 
 use crate::fragments::{Fragments, Locals};
 use crate::spread_arguments::spread_arguments;
-use doc_sites::{ArgumentAt, Site};
-use doc_uses::{Place, Use, put_argument};
-use gql_ast::VariableDef;
-use gql_plain::NoMemory;
-use schema_trees::located::NameAt;
-use schema_types::Schema;
+use doc_uses::{ArgumentAt, Place, Site, Use, put_argument};
+use gql_syntax::gql_ast::VariableDef;
+use gql_syntax::gql_plain::NoMemory;
+use schema_values::Schema;
+use schema_values::located::NameAt;
 use std::alloc::Global;
 
 /// The variables that spreads among selections give.

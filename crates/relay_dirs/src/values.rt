@@ -1,11 +1,11 @@
 //! Values of arguments, by the names of the arguments (GraphQL, October 2021, section 2.6).
 ghost use Rattle.std.specs.Prelude.{◌≡◌, map, option_map};
-ghost use Rattle.gql_ast.specs.ValueView as tree;
-ghost use Rattle.doc_sites.specs.SitesView.{argument_of};
+ghost use Rattle.gql_syntax.specs.gql_ast.ValueView as tree;
+ghost use Rattle.doc_uses.specs.doc_sites.SitesView.{argument_of};
 ghost use Rattle.relay_dirs.specs.Connections as connections;
 
-use doc_sites::ArgumentAt;
-use gql_ast::{Arguments, ValueTree};
+use doc_uses::ArgumentAt;
+use gql_syntax::gql_ast::{Arguments, ValueTree};
 
 /// The value of the argument of a name, where it is given; takes no memory.
 pub(crate) fn value_named<'a>(arguments: &[ArgumentAt<'a>], name: &str) -> Option<&'a ValueTree>

@@ -1,11 +1,11 @@
 -- What an engine begins with stands for the machine's beginning.
 use Rattle.std.proofs.Common.{ℕ, zero, suc, ◌≡◌, ◌-◌, List, [], drop, refl, subst, sym}
-use Rattle.gql_ast.specs.declared.document.Document.{Document}
-use Rattle.gql_ast.specs.declared.place.Placed.{Placed}
+use Rattle.plan_ir.specs.gql_ast.declared.document.Document.{Document}
+use Rattle.plan_ir.specs.gql_ast.declared.place.Placed.{Placed}
 use Rattle.relay_engine.specs.Kept.{begun}
 use Rattle.relay_engine.specs.Stands.{KeepsReleased, StandsFor}
 use Rattle.relay_machine.specs.Machine.{Project, Retained, beginning, last_of}
-use Rattle.schema_tables.specs.Types.{Defs}
+use Rattle.plan_ir.specs.schema_tables.Types.{Defs}
 
 nothing_left : (i : ℕ) → drop {A = Retained} i [] ≡ []
 nothing_left zero = refl

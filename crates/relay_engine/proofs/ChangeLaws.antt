@@ -12,15 +12,15 @@ use Rattle.relay_engine.specs.Stands.{KeepsWatches, StandsFor, StandsUntold}
 use Rattle.relay_engine.specs.Steps.{HasStepped, IsStep, written}
 use Rattle.relay_engine.specs.declared.lines.Lines.{Lines}
 use Rattle.relay_machine.specs.Machine.{Project, State, Step, Watch, accept, notices_of, noticed, read_again, view, with_notices}
-use Rattle.schema_tables.specs.Types.{Text}
+use Rattle.plan_ir.specs.schema_tables.Types.{Text}
 use Rattle.store_layers.proofs.Drafted.{seen_begun}
-use Rattle.store_layers.proofs.Versions.{fold-append}
+use Rattle.store_layers.proofs.VersionSteps.{fold-append}
 use Rattle.store_layers.specs.Changed.{AreChanged}
 use Rattle.store_layers.specs.Layered.{Layer, Layered, above, below, begun, committed, entries_of, finished, from_on, reverted, view_of, without}
-use Rattle.store_model.specs.Entries.{fold_entries}
-use Rattle.store_model.specs.Walks.{Slots}
-use Rattle.store_model.specs.declared.entry.Entry.{Entry}
-use Rattle.store_read.specs.Reading.{slots}
+use Rattle.plan_ir.specs.store_model.Entries.{fold_entries}
+use Rattle.plan_ir.specs.store_model.Walks.{Slots}
+use Rattle.plan_ir.specs.store_model.declared.entry.Entry.{Entry}
+use Rattle.store_watch.specs.store_read.Reading.{slots}
 use Rattle.store_watch.specs.Watching as watching
 use Rattle.store_watch.specs.Watching.{AreShown, DifferAt, OthersAreShown, Telling, accepted, notices}
 

@@ -9,12 +9,12 @@ use Rattle.relay_engine.specs.Stands.{StandsFor, layer_of}
 use Rattle.relay_engine.specs.Work.{Change, confirming, dropping, starting}
 use Rattle.relay_machine.specs.Effects.{entries_in, layer_entries}
 use Rattle.relay_machine.specs.Machine.{Confirmation, Layer, Project, State, confirm, confirmed, drop_layer, view, with_layer, without_layer}
-use Rattle.schema_tables.specs.Types.{Text}
+use Rattle.plan_ir.specs.schema_tables.Types.{Text}
 use Rattle.store_layers.specs.Layered.{Layered, above, begun, below, committed, entries_of, finished, from_on, is_live, reverted, view_of, without}
 use Rattle.store_layers.specs.Work.{weights}
-use Rattle.store_model.specs.Entries.{fold_entries, weight}
-use Rattle.store_model.specs.Records.{Records}
-use Rattle.store_model.specs.declared.entry.Entry.{Entry}
+use Rattle.plan_ir.specs.store_model.Entries.{fold_entries, weight}
+use Rattle.plan_ir.specs.store_model.Records.{Records}
+use Rattle.plan_ir.specs.store_model.declared.entry.Entry.{Entry}
 
 -- ---- what the calls change
 

@@ -8,7 +8,7 @@ use Rattle.relay_engine.specs.Handles.{handle_kept, handle_under, held_as}
 use Rattle.relay_engine.specs.Kept.{HandleKept}
 use Rattle.relay_engine.specs.Stands.{KeepsHandle, KeepsHandles}
 use Rattle.relay_machine.specs.Machine.{Handle, Project, handle_named, without_handle}
-use Rattle.schema_tables.specs.Types.{Text}
+use Rattle.plan_ir.specs.schema_tables.Types.{Text}
 use Rattle.store_retain.specs.Kept.{held_under, is_live, without}
 use Rattle.store_retain.specs.declared.held.Held.{Held}
 

@@ -1,8 +1,8 @@
 -- What stands for a state still does, when both retain, release, watch, unwatch; and handles and watches by their names.
 use Rattle.std.proofs.Common.{◌≡◌, ℕ, List, [], ◌∷◌, ◌++◌, length, map, Bool, Option, Some, None, is_some, option_map, refl, sym, ap, subst, ◌∙◌}
 use Rattle.std.proofs.lemmas.List.{length-map}
-use Rattle.gql_ast.specs.declared.document.Document.{Document}
-use Rattle.gql_ast.specs.declared.place.Placed.{Placed}
+use Rattle.plan_ir.specs.gql_ast.declared.document.Document.{Document}
+use Rattle.plan_ir.specs.gql_ast.declared.place.Placed.{Placed}
 use Rattle.plan_project.specs.Lookups.{Agree}
 use Rattle.relay_engine.proofs.HandleLaws as handles
 use Rattle.relay_engine.proofs.HandleLaws.{agrees, is_some-under, kept_after, under_is}
@@ -16,10 +16,10 @@ use Rattle.relay_engine.specs.Kept as engine
 use Rattle.relay_engine.specs.Stands.{KeepsHandle, KeepsHandles, KeepsWatch, ShowsPart, StandsFor}
 use Rattle.relay_machine.specs.Machine as machine
 use Rattle.relay_machine.specs.Machine.{Handle, PartShown, Project, State, handle_named, is_in_use, is_watch, release_handle, shown, started, view, with_handle, without_watch}
-use Rattle.schema_tables.specs.Types.{Text, Defs}
+use Rattle.plan_ir.specs.schema_tables.Types.{Text, Defs}
 use Rattle.store_layers.specs.Layered.{Layered, view_of}
-use Rattle.store_model.specs.Walks.{Reading}
-use Rattle.store_read.specs.Reading.{slots}
+use Rattle.plan_ir.specs.store_model.Walks.{Reading}
+use Rattle.store_watch.specs.store_read.Reading.{slots}
 use Rattle.store_retain.specs.Kept.{Kept, held_under, released, retained}
 use Rattle.store_retain.specs.declared.held.Held.{Held}
 use Rattle.store_watch.specs.Watching.{Look, Watch, is_live, shows, uses, without}

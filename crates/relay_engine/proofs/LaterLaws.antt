@@ -10,8 +10,8 @@ use Rattle.relay_engine.specs.Stands.{StandsFor}
 use Rattle.relay_engine.specs.Steps.{HasStepped, IsStep}
 use Rattle.relay_engine.specs.declared.lines.Lines.{Lines}
 use Rattle.relay_machine.specs.Machine.{State, step_line}
-use Rattle.store_model.specs.Events as e
-use Rattle.store_model.specs.Events.{Event, Line}
+use Rattle.plan_ir.specs.store_model.Events as e
+use Rattle.plan_ir.specs.store_model.Events.{Event, Line}
 
 -- an event that sweeps is a collect
 is_collect : (s : State) (event : Event) → sweeps s (e.event event) ≡ true → event ≡ e.collect

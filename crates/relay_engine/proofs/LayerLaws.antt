@@ -5,7 +5,7 @@ use Rattle.std.proofs.lemmas.Slice.Eq.{bytes_eq-Decides}
 use Rattle.relay_engine.proofs.Names.{bytes_eq-sym}
 use Rattle.relay_engine.specs.Stands.{AreApart, layer_of}
 use Rattle.relay_machine.specs.Machine.{Layer, is_layer, without_layer}
-use Rattle.schema_tables.specs.Types.{Text}
+use Rattle.plan_ir.specs.schema_tables.Types.{Text}
 use Rattle.store_layers.specs.Layered as layered
 use Rattle.store_layers.specs.Layered.{above, is_live, without}
 

@@ -1,16 +1,16 @@
 -- The local variables of a fragment are valued as the variables of an operation are.
 use Rattle.std.proofs.Common.{◌≡◌, Bool, not, ◌&&◌, cond, List, [], ◌∷◌, map, Option, Some, None, is_some, option_map, refl, ap, sym, ◌∙◌}
-use Rattle.gql_ast.specs.ValueView.{value_of}
-use Rattle.gql_ast.specs.TypeView.{ty_of}
-use Rattle.gql_ast.specs.declared.value.ValueTree.{ValueTree}
-use Rattle.gql_ast.specs.declared.variable.VariableDef.{VariableDef}
-use Rattle.gql_plain.specs.Order.{member_at}
-use Rattle.gql_plain.specs.Tree.{Tree}
-use Rattle.relay_dirs.specs.View.{local_view}
+use Rattle.plan_ir.specs.gql_ast.ValueView.{value_of}
+use Rattle.plan_ir.specs.gql_ast.TypeView.{ty_of}
+use Rattle.plan_ir.specs.gql_ast.declared.value.ValueTree.{ValueTree}
+use Rattle.plan_ir.specs.gql_ast.declared.variable.VariableDef.{VariableDef}
+use Rattle.plan_ir.specs.gql_plain.Order.{member_at}
+use Rattle.plan_ir.specs.gql_plain.Tree.{Tree}
+use Rattle.plan_ir.specs.relay_dirs.View.{local_view}
 use Rattle.relay_machine.specs.Machine as machine
-use Rattle.schema_tables.specs.Fits.{is_non_null}
-use Rattle.schema_tables.specs.Types.{Defs}
-use Rattle.schema_types.specs.Environments.{Failure, Values, environment, failure_of, first_failure, first_of, missing, value_or_default, with_pair}
+use Rattle.plan_ir.specs.schema_tables.Fits.{is_non_null}
+use Rattle.plan_ir.specs.schema_tables.Types.{Defs}
+use Rattle.plan_ir.specs.schema_types.Environments.{Failure, Values, environment, failure_of, first_failure, first_of, missing, value_or_default, with_pair}
 
 -- ---- failures
 

@@ -3,14 +3,14 @@ use Rattle.std.proofs.Common.{◌≡◌, ℕ, List, [], ◌∷◌, ◌++◌, map
 use Rattle.std.specs.List.Sorted.{IsStrictlySortedBy}
 use Rattle.std.specs.Map.{keys_of}
 use Rattle.std.specs.Ordering.{match_ordering}
-use Rattle.gql_plain.specs.Order.{AreInOrder}
-use Rattle.gql_plain.specs.Shown.{tree_of, shown_members}
-use Rattle.gql_plain.specs.Tree.{Tree}
+use Rattle.plan_ir.specs.gql_plain.Order.{AreInOrder}
+use Rattle.plan_ir.specs.gql_plain.Shown.{tree_of, shown_members}
+use Rattle.plan_ir.specs.gql_plain.Tree.{Tree}
 use Rattle.relay_engine.specs.Marked.{marked}
-use Rattle.relay_model.specs.Readings.{with_marked}
-use Rattle.schema_types.specs.Environments.{Values, with_pair}
-use Rattle.schema_values.proofs.Placing.{Entries, put_all, put_all-first}
-use Rattle.schema_values.specs.Listed.{first_of_each}
+use Rattle.relay_machine.specs.relay_model.Readings.{with_marked}
+use Rattle.plan_ir.specs.schema_types.Environments.{Values, with_pair}
+use Rattle.plan_ir.proofs.schema_values_laws.Placing.{Entries, put_all, put_all-first}
+use Rattle.plan_ir.specs.schema_values.Listed.{first_of_each}
 
 put_all-append : (ps qs : List (List ℕ × Tree)) (done : Values) → put_all with_pair (ps ++ qs) done ≡ put_all with_pair ps (put_all with_pair qs done)
 put_all-append [] qs done = refl

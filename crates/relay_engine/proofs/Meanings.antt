@@ -1,32 +1,32 @@
 -- The plans of operations and fragments mean what the machine asks of handles.
 use Rattle.std.proofs.Common.{◌≡◌, List, Some, None, ap, sym, subst, ◌∙◌}
-use Rattle.gql_ast.specs.declared.document.Document.{Document}
-use Rattle.gql_ast.specs.declared.place.Placed.{Placed}
+use Rattle.plan_ir.specs.gql_ast.declared.document.Document.{Document}
+use Rattle.plan_ir.specs.gql_ast.declared.place.Placed.{Placed}
 use Rattle.plan_ir.specs.NormalMeaning.{plan_says}
 use Rattle.plan_ir.specs.ReaderMeaning.{plan_reads}
 use Rattle.plan_ir.specs.declared.normal.NormalPlan.{NormalPlan}
 use Rattle.plan_project.specs.Lookups.{IsOperation, KeepsFragment, ReadsFragment, operation_in}
 use Rattle.plan_project.specs.declared.operations.Compiled.{Compiled}
 use Rattle.plan_project.specs.declared.operations.CompiledFragment.{CompiledFragment}
-use Rattle.plan_read.specs.Laws.{AreLocals}
+use Rattle.plan_project.specs.plan_read.Laws.{AreLocals}
 use Rattle.relay_engine.specs.Handles.{held_as}
 use Rattle.relay_engine.specs.Kept.{HandleKept}
 use Rattle.relay_engine.specs.Parts.{IsProject}
 use Rattle.relay_engine.specs.Stands.{KeepsHandle, ShowsPart}
 use Rattle.relay_machine.specs.Machine as machine
 use Rattle.relay_machine.specs.Machine.{Handle, documents_of, fragment_read, operation_read, root_type}
-use Rattle.relay_model.specs.Readings.{fragment_reads, no_place, operation_reads, with_marked}
-use Rattle.relay_model.specs.Responses.{operation_says}
-use Rattle.schema_tables.specs.Types.{Text, Defs}
-use Rattle.schema_types.specs.Environments.{Values, environment}
-use Rattle.schema_types.specs.Sites.{FragmentAt, OperationAt}
-use Rattle.schema_values.specs.declared.env.Env.{Env}
+use Rattle.relay_machine.specs.relay_model.Readings.{fragment_reads, no_place, operation_reads, with_marked}
+use Rattle.relay_machine.specs.relay_model.Responses.{operation_says}
+use Rattle.plan_ir.specs.schema_tables.Types.{Text, Defs}
+use Rattle.plan_ir.specs.schema_types.Environments.{Values, environment}
+use Rattle.plan_ir.specs.schema_types.Sites.{FragmentAt, OperationAt}
+use Rattle.plan_ir.specs.schema_values.declared.env.Env.{Env}
 use Rattle.serde_json.specs.Data as J
-use Rattle.store_model.specs.Records.{Records}
-use Rattle.store_model.specs.Verdicts.{Verdict}
-use Rattle.store_model.specs.Walks.{Slots, reading, type_of_record}
-use Rattle.store_read.specs.Reading.{slots}
-use Rattle.store_record.specs.Keys as keys
+use Rattle.plan_ir.specs.store_model.Records.{Records}
+use Rattle.plan_ir.specs.store_model.Verdicts.{Verdict}
+use Rattle.plan_ir.specs.store_model.Walks.{Slots, reading, type_of_record}
+use Rattle.store_watch.specs.store_read.Reading.{slots}
+use Rattle.plan_ir.specs.store_record.Keys as keys
 use Rattle.store_retain.specs.declared.held.Held.{Held}
 use Rattle.store_watch.specs.Rows.{look_of}
 use Rattle.store_watch.specs.Watching.{read_of}

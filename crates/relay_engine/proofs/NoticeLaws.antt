@@ -2,17 +2,17 @@
 use Rattle.std.proofs.Common.{◌≡◌, ℕ, zero, suc, ◌+◌, Bool, true, false, not, ◌||◌, cond, List, [], ◌∷◌, ◌++◌, length, map, take, drop, slice_index_or, append_assoc, refl, sym, ap, subst, ◌∙◌, arith}
 use Rattle.std.specs.Bool.{beq}
 use Rattle.std.specs.Cmp.{booleans_Decides}
-use Rattle.gql_plain.specs.Equal.{tree_eq, tree_eq-itself, tree_eq-sound}
+use Rattle.plan_ir.specs.gql_plain.Equal.{tree_eq, tree_eq-itself, tree_eq-sound}
 use Rattle.relay_engine.proofs.LayerLaws.{first_false, second_false}
 use Rattle.relay_engine.specs.Notices.{line_of, names_of, told_lines}
 use Rattle.relay_engine.specs.Stands.{KeepsWatch, KeepsWatches}
 use Rattle.relay_machine.specs.Machine as machine
 use Rattle.relay_machine.specs.Machine.{Project, is_changed, notices_of, read_again, shown_by, started}
 use Rattle.relay_machine.specs.Printed.{notice_line}
-use Rattle.schema_tables.specs.Types.{Text}
-use Rattle.store_model.specs.Records.{Records}
-use Rattle.store_model.specs.Walks.{Reading}
-use Rattle.store_read.specs.Reading.{slots}
+use Rattle.plan_ir.specs.schema_tables.Types.{Text}
+use Rattle.plan_ir.specs.store_model.Records.{Records}
+use Rattle.plan_ir.specs.store_model.Walks.{Reading}
+use Rattle.store_watch.specs.store_read.Reading.{slots}
 use Rattle.store_watch.specs.Watching as watching
 use Rattle.store_watch.specs.Watching.{AreShown, OthersAreShown, Telling, accepted, differs, meets, notices, notices_from, shows, with_kept}
 

@@ -1,17 +1,17 @@
 -- All that is held are operations of the project, with their plans.
 use Rattle.std.proofs.Common.{◌≡◌, ℕ, zero, suc, ◌-◌, List, [], ◌∷◌, ◌++◌, length, map, drop, Bool, true, false, cond, bytes_eq, Option, Some, None, is_some, sym, ap, subst, ◌∙◌}
-use Rattle.gql_ast.specs.declared.document.Document.{Document}
-use Rattle.gql_ast.specs.declared.place.Placed.{Placed}
-use Rattle.gql_plain.specs.Order.{has_text}
+use Rattle.plan_ir.specs.gql_ast.declared.document.Document.{Document}
+use Rattle.plan_ir.specs.gql_ast.declared.place.Placed.{Placed}
+use Rattle.plan_ir.specs.gql_plain.Order.{has_text}
 use Rattle.plan_ir.specs.NormalReach.{plan_reaches}
 use Rattle.plan_project.specs.Lookups.{Agree, IsOperation, KeepsOperation, Normalizes, ReadsOperation, operation_in}
 use Rattle.plan_project.specs.declared.operations.Compiled.{Compiled}
 use Rattle.relay_engine.proofs.Names.{agreed, found_left}
 use Rattle.relay_engine.specs.Kept as engine
 use Rattle.relay_engine.specs.Operations.{HoldPlans, HoldsPlan}
-use Rattle.schema_tables.specs.Types.{Text, Defs}
-use Rattle.schema_types.specs.Sites.{OperationAt}
-use Rattle.store_model.specs.Walks.{type_of_record}
+use Rattle.plan_ir.specs.schema_tables.Types.{Text, Defs}
+use Rattle.plan_ir.specs.schema_types.Sites.{OperationAt}
+use Rattle.plan_ir.specs.store_model.Walks.{type_of_record}
 use Rattle.store_retain.specs.Kept.{Kept, all_held, held_under, released, retained, some_held, without}
 use Rattle.store_retain.specs.declared.held.Held.{Held}
 

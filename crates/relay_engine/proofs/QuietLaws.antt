@@ -9,7 +9,7 @@ use Rattle.relay_engine.specs.Stands.{StandsFor}
 use Rattle.relay_engine.specs.Steps.{HasStepped, IsStep}
 use Rattle.relay_engine.specs.declared.lines.Lines.{Lines}
 use Rattle.relay_machine.specs.Machine.{Project, State, Step, notices_of, noticed, read_again, view, with_notices, with_watches}
-use Rattle.store_read.specs.Reading.{slots}
+use Rattle.store_watch.specs.store_read.Reading.{slots}
 use Rattle.store_watch.specs.Watching.{AreShown}
 
 both_same : {X : Type 0} (b : Bool) (x : X) → cond b x x ≡ x

@@ -1,19 +1,19 @@
 -- What the operations that are held keep is what the retained operations reach.
 use Rattle.std.proofs.Common.{◌≡◌, List, [], ◌∷◌, map, ◌||◌, ap, refl, ◌∙◌}
-use Rattle.gql_plain.specs.Order.{has_text}
+use Rattle.plan_ir.specs.gql_plain.Order.{has_text}
 use Rattle.plan_ir.specs.NormalReach.{plan_reaches}
 use Rattle.relay_engine.proofs.ReleasedLaws.{all_live, both}
 use Rattle.relay_engine.specs.Handles.{handle_kept, operation_kept}
 use Rattle.relay_engine.specs.Operations.{HoldPlans, HoldsPlan}
 use Rattle.relay_engine.specs.Stands.{KeepsHandles, KeepsOperation, KeepsReleased}
 use Rattle.relay_machine.specs.Machine.{Project, Retained, State, documents_of, is_reached, last_of, retained, retained_by}
-use Rattle.relay_model.specs.Reaches.{operation_reaches}
-use Rattle.relay_model.specs.Readings.{no_place}
-use Rattle.schema_tables.specs.Types.{Text}
-use Rattle.schema_types.specs.Environments.{Values}
-use Rattle.store_model.specs.Records.{Records}
-use Rattle.store_model.specs.Walks.{type_of_record}
-use Rattle.store_record.specs.Keys as keys
+use Rattle.relay_machine.specs.relay_model.Reaches.{operation_reaches}
+use Rattle.relay_machine.specs.relay_model.Readings.{no_place}
+use Rattle.plan_ir.specs.schema_tables.Types.{Text}
+use Rattle.plan_ir.specs.schema_types.Environments.{Values}
+use Rattle.plan_ir.specs.store_model.Records.{Records}
+use Rattle.plan_ir.specs.store_model.Walks.{type_of_record}
+use Rattle.plan_ir.specs.store_record.Keys as keys
 use Rattle.store_retain.specs.Kept.{Kept, all_held, is_kept}
 use Rattle.store_retain.specs.Steps.{slots_of}
 use Rattle.store_retain.specs.declared.held.Held.{Held}

@@ -5,7 +5,7 @@ use Rattle.plan_project.specs.Lookups.{Agree}
 use Rattle.relay_engine.specs.Handles.{handle_kept, held_as, operation_kept}
 use Rattle.relay_engine.specs.Stands.{KeepsHandle, KeepsHandles, KeepsOperation, KeepsReleased}
 use Rattle.relay_machine.specs.Machine.{Handle, Project, Retained, last_of, released_by, retained_by}
-use Rattle.schema_tables.specs.Types.{Text}
+use Rattle.plan_ir.specs.schema_tables.Types.{Text}
 use Rattle.store_retain.specs.Kept.{some_held}
 use Rattle.store_retain.specs.declared.held.Held.{Held}
 

@@ -13,8 +13,8 @@ use Rattle.relay_machine.specs.Machine.{Handle, Project, Retained, State, accept
 use Rattle.relay_machine.specs.Printed.{collect_line}
 use Rattle.retained_reads.proofs.Sweeping.{sweeps_keep_reads}
 use Rattle.retained_reads.specs.Reads.{IsOfDocuments, StaysRead}
-use Rattle.store_model.specs.Events.{Line}
-use Rattle.store_model.specs.Records.{no_records}
+use Rattle.plan_ir.specs.store_model.Events.{Line}
+use Rattle.plan_ir.specs.store_model.Records.{no_records}
 
 -- ---- what is retained are operations of the documents
 

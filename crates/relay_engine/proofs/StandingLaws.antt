@@ -6,12 +6,12 @@ use Rattle.relay_engine.specs.Kept.{Kept, with_layers}
 use Rattle.relay_engine.specs.Stands.{StandsFor, StandsUntold, layer_of}
 use Rattle.relay_machine.proofs.Sweeps.{confirmed_after}
 use Rattle.relay_machine.specs.Machine.{Layer, Project, State, base, confirm, confirmed, drop_layer, is_layer, view, with_layer}
-use Rattle.schema_tables.specs.Types.{Text}
+use Rattle.plan_ir.specs.schema_tables.Types.{Text}
 use Rattle.store_layers.specs.Layered as layered
 use Rattle.store_layers.specs.Layered.{Layered, begun, committed, entries_of, finished, is_live, reverted, view_of}
-use Rattle.store_model.specs.Entries.{apply, fold_entries}
-use Rattle.store_model.specs.Records.{no_records}
-use Rattle.store_model.specs.declared.entry.Entry.{Entry}
+use Rattle.plan_ir.specs.store_model.Entries.{apply, fold_entries}
+use Rattle.plan_ir.specs.store_model.Records.{no_records}
+use Rattle.plan_ir.specs.store_model.declared.entry.Entry.{Entry}
 
 -- ---- folds
 

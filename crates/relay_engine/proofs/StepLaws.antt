@@ -12,12 +12,12 @@ use Rattle.relay_engine.specs.declared.taking.Taken.TheVariants as T
 use Rattle.relay_machine.specs.Machine.{Project, State, Step, accept, refuse, step_line, unless, unless_failure}
 use Rattle.relay_machine.specs.Printed.{refusal_line}
 use Rattle.relay_machine.specs.Refusals.{Refusal, variables}
-use Rattle.schema_tables.specs.Types.{Text}
-use Rattle.schema_types.specs.Environments.{Failure}
-use Rattle.schema_values.specs.Failures.{Tells}
-use Rattle.schema_values.specs.declared.env.VarFault.{VarFault}
-use Rattle.store_model.specs.Events.{Line}
-use Rattle.store_model.specs.declared.entry.Entry.{Entry}
+use Rattle.plan_ir.specs.schema_tables.Types.{Text}
+use Rattle.plan_ir.specs.schema_types.Environments.{Failure}
+use Rattle.plan_ir.specs.schema_values.Failures.{Tells}
+use Rattle.plan_ir.specs.schema_values.declared.env.VarFault.{VarFault}
+use Rattle.plan_ir.specs.store_model.Events.{Line}
+use Rattle.plan_ir.specs.store_model.declared.entry.Entry.{Entry}
 
 -- a refused line changes nothing
 pub refusing : (k : Kept) (p : Project) (s : State) (n : ℕ) (why : Refusal) (lines : Lines) → StandsFor k p s → AreLines (refusal_line n why) true lines

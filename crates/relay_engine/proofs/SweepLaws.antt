@@ -1,6 +1,6 @@
 -- A sweep of the base is the machine's.
 use Rattle.std.proofs.Common.{◌≡◌, ℕ, Bool, false, List, [], ◌∷◌, length, map, refl, sym, ap, subst, ◌∙◌, arith}
-use Rattle.gql_plain.specs.Order.{has_text}
+use Rattle.plan_ir.specs.gql_plain.Order.{has_text}
 use Rattle.relay_engine.proofs.ReachLaws.{kept_is}
 use Rattle.relay_engine.specs.Answered.{AreLines}
 use Rattle.relay_engine.specs.Handles.{handle_kept, operation_kept}
@@ -13,11 +13,11 @@ use Rattle.relay_machine.proofs.Sweeps.{confirmed_after, same_swept}
 use Rattle.relay_machine.specs.Machine.{Project, State, base, is_reached, last_of, retained, sweep_base}
 use Rattle.relay_machine.specs.Printed.{collect_line}
 use Rattle.store_layers.specs.Layered.{Layer, Layered, entries_of, swept, view_of}
-use Rattle.store_model.specs.Entries.{fold_entries}
-use Rattle.store_model.specs.Records.{Records, no_records}
-use Rattle.store_model.specs.Sweeps.{dropped, sweep}
-use Rattle.store_read.specs.Reading.{slots}
-use Rattle.store_record.specs.Keys.{Text}
+use Rattle.plan_ir.specs.store_model.Entries.{fold_entries}
+use Rattle.plan_ir.specs.store_model.Records.{Records, no_records}
+use Rattle.plan_ir.specs.store_model.Sweeps.{dropped, sweep}
+use Rattle.store_watch.specs.store_read.Reading.{slots}
+use Rattle.plan_ir.specs.store_record.Keys.{Text}
 use Rattle.store_retain.specs.Kept.{Kept, all_held, is_kept}
 use Rattle.store_retain.specs.Steps.{slots_of}
 use Rattle.store_watch.specs.Watching.{DifferAt}

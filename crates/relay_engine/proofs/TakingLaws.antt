@@ -3,7 +3,7 @@ use Rattle.std.proofs.Common.{refl}
 use Rattle.relay_engine.specs.Handles.{held_as}
 use Rattle.relay_engine.specs.Stands.{KeepsHandle}
 use Rattle.relay_machine.specs.Machine.{Handle, Project}
-use Rattle.schema_tables.specs.Types.{Text}
+use Rattle.plan_ir.specs.schema_tables.Types.{Text}
 use Rattle.store_retain.specs.declared.held.Held.{Held}
 
 pub renamed : (p : Project) (name : Text) (held : Held) (h : Handle) → KeepsHandle p (held_as name held) h → KeepsHandle p (held_as h.name held) h

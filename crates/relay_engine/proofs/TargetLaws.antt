@@ -9,10 +9,10 @@ use Rattle.relay_engine.specs.declared.targets.Targeted.{Targeted}
 use Rattle.relay_engine.specs.declared.targets.Targeted.TheVariants as T
 use Rattle.relay_machine.specs.Effects.{reads_of_fragment, reads_of_part, reads_of_target}
 use Rattle.relay_machine.specs.Machine.{Handle, PartShown, Project, State, Step, handle_named}
-use Rattle.schema_tables.specs.Types.{Text}
-use Rattle.schema_types.specs.Environments.{Values}
-use Rattle.schema_types.specs.Sites.{FragmentAt}
-use Rattle.store_model.specs.Events as e
+use Rattle.plan_ir.specs.schema_tables.Types.{Text}
+use Rattle.plan_ir.specs.schema_types.Environments.{Values}
+use Rattle.plan_ir.specs.schema_types.Sites.{FragmentAt}
+use Rattle.plan_ir.specs.store_model.Events as e
 use Rattle.store_watch.specs.Watching.{Look}
 
 module _ (k : Kept) (p : Project) (other step : Step) (h : Handle) (same : other ≡ step) where

@@ -5,7 +5,7 @@ use Rattle.std.specs.List.{AllByRecursion}
 use Rattle.relay_engine.specs.Notices.{line_of, told_lines}
 use Rattle.relay_engine.specs.Steps.{written}
 use Rattle.relay_machine.specs.Printed.{notice_line}
-use Rattle.schema_tables.specs.Types.{Text}
+use Rattle.plan_ir.specs.schema_tables.Types.{Text}
 use Rattle.std.specs.Prelude.{cond, slice_index_or}
 use Rattle.store_watch.specs.Rows.{telling_of}
 use Rattle.store_watch.specs.Watching.{Telling}

@@ -4,8 +4,8 @@ use Rattle.relay_engine.proofs.Names.{bytes_eq-sym}
 use Rattle.relay_engine.specs.Stands.{KeepsWatch, KeepsWatches}
 use Rattle.relay_machine.specs.Machine as machine
 use Rattle.relay_machine.specs.Machine.{Project, is_in_use, is_watch, without_watch}
-use Rattle.schema_tables.specs.Types.{Text}
-use Rattle.store_model.specs.Walks.{Slots}
+use Rattle.plan_ir.specs.schema_tables.Types.{Text}
+use Rattle.plan_ir.specs.store_model.Walks.{Slots}
 use Rattle.store_watch.specs.Watching.{AreShown, Watch, is_live, shows, uses, without}
 
 module _ (p : Project) where

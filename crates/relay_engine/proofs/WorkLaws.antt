@@ -3,21 +3,21 @@ use Rattle.std.proofs.Common.{◌≡◌, ℕ, ◌+◌, ◌≤◌, Bool, true, fa
 use Rattle.std.proofs.lemmas.Result.{IfOk-weaker}
 use Rattle.std.specs.List.{list_any}
 use Rattle.std.specs.Result.{IfOk}
-use Rattle.gql_plain.specs.Order.{has_text}
+use Rattle.plan_ir.specs.gql_plain.Order.{has_text}
 use Rattle.relay_engine.specs.Answered.{AreLines}
 use Rattle.relay_engine.specs.Kept.{Kept}
 use Rattle.relay_engine.specs.Work.{AppliesAbove, Change, ReadsWithin, change_of, change_work, changing_work, event_work, is_touched, notice_work, read_work}
 use Rattle.relay_engine.specs.declared.lines.Lines.{Lines}
 use Rattle.relay_machine.specs.Effects.{answer_reads}
 use Rattle.relay_machine.specs.Machine.{Project, State, Step, accept, view}
-use Rattle.schema_tables.specs.Types.{Text}
+use Rattle.plan_ir.specs.schema_tables.Types.{Text}
 use Rattle.store_layers.specs.Layered.{Layered, above, view_of}
 use Rattle.store_layers.specs.Work.{counted}
-use Rattle.store_model.specs.Events as e
-use Rattle.store_model.specs.Events.{Event, Line}
-use Rattle.store_model.specs.Records.{Records}
-use Rattle.store_model.specs.Walks.{Found, Slots, standings}
-use Rattle.store_read.specs.Reading.{slots}
+use Rattle.plan_ir.specs.store_model.Events as e
+use Rattle.plan_ir.specs.store_model.Events.{Event, Line}
+use Rattle.plan_ir.specs.store_model.Records.{Records}
+use Rattle.plan_ir.specs.store_model.Walks.{Found, Slots, standings}
+use Rattle.store_watch.specs.store_read.Reading.{slots}
 use Rattle.store_watch.specs.Watching.{Look, Watch, meets, read_of, work}
 
 -- ---- numbers

@@ -10,12 +10,12 @@ use Rattle.relay_engine.specs.declared.taking.Taken.TheVariants as T
 use Rattle.relay_machine.specs.Machine.{Project, Step, step_line}
 use Rattle.relay_machine.specs.Printed.{refusal_line}
 use Rattle.relay_machine.specs.Refusals.{variables}
-use Rattle.schema_tables.specs.Types.{Text}
-use Rattle.schema_types.specs.Environments.{Failure}
-use Rattle.schema_values.specs.Failures.{Tells}
-use Rattle.schema_values.specs.declared.env.VarFault.{VarFault}
-use Rattle.store_model.specs.Events.{Line}
-use Rattle.store_model.specs.declared.entry.Entry.{Entry}
+use Rattle.plan_ir.specs.schema_tables.Types.{Text}
+use Rattle.plan_ir.specs.schema_types.Environments.{Failure}
+use Rattle.plan_ir.specs.schema_values.Failures.{Tells}
+use Rattle.plan_ir.specs.schema_values.declared.env.VarFault.{VarFault}
+use Rattle.plan_ir.specs.store_model.Events.{Line}
+use Rattle.plan_ir.specs.store_model.declared.entry.Entry.{Entry}
 
 -- the lines are this text, and refused or not
 pub record AreLines (what : Text) (whether : Bool) (lines : Lines) : Type 0 where

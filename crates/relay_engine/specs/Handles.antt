@@ -1,7 +1,7 @@
 -- Handles by their names, and what they hold.
 use Rattle.std.specs.Prelude.{List, [], ◌∷◌, cond, bytes_eq, Option, Some, None}
 use Rattle.relay_engine.specs.Kept.{HandleKept, OperationKept}
-use Rattle.schema_tables.specs.Types.{Text}
+use Rattle.plan_ir.specs.schema_tables.Types.{Text}
 use Rattle.store_retain.specs.declared.held.Held.{Held}
 
 -- what is kept under a name

@@ -1,11 +1,11 @@
 -- What an engine keeps (this project's own).
 use Rattle.std.specs.Prelude.{ℕ, List, []}
-use Rattle.gql_ast.specs.declared.document.Document.{Document}
-use Rattle.gql_ast.specs.declared.place.Placed.{Placed}
-use Rattle.schema_tables.specs.Types.{Text, Defs}
-use Rattle.schema_types.specs.Environments.{Values}
+use Rattle.plan_ir.specs.gql_ast.declared.document.Document.{Document}
+use Rattle.plan_ir.specs.gql_ast.declared.place.Placed.{Placed}
+use Rattle.plan_ir.specs.schema_tables.Types.{Text, Defs}
+use Rattle.plan_ir.specs.schema_types.Environments.{Values}
 use Rattle.store_layers.specs.Layered.{Layered}
-use Rattle.store_model.specs.Records.{no_records}
+use Rattle.plan_ir.specs.store_model.Records.{no_records}
 use Rattle.store_watch.specs.Watching.{Watch}
 
 -- a live handle: the name of its operation, the operation's root type, and the values of its variables

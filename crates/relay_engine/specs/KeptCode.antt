@@ -1,15 +1,15 @@
 -- The code of what an engine keeps.
 use Rattle.std.specs.Prelude.{ℕ, List, refl}
 use Rattle.std.specs.Coded.{Coded, code_by, coded×, coded_list, coded_ℕ}
-use Rattle.gql_ast.specs.contracts.document.Document as document_row
-use Rattle.gql_ast.specs.contracts.place.Placed as placed_row
-use Rattle.gql_ast.specs.contracts.schema.SchemaDef as definition_row
-use Rattle.gql_ast.specs.declared.document.Document.{Document}
-use Rattle.gql_ast.specs.declared.place.Placed.{Placed}
-use Rattle.gql_plain.specs.Codes.{coded_members, coded_text}
+use Rattle.plan_ir.specs.gql_ast.contracts.document.Document as document_row
+use Rattle.plan_ir.specs.gql_ast.contracts.place.Placed as placed_row
+use Rattle.plan_ir.specs.gql_ast.contracts.schema.SchemaDef as definition_row
+use Rattle.plan_ir.specs.gql_ast.declared.document.Document.{Document}
+use Rattle.plan_ir.specs.gql_ast.declared.place.Placed.{Placed}
+use Rattle.plan_ir.specs.gql_plain.Codes.{coded_members, coded_text}
 use Rattle.relay_engine.specs.Kept.{HandleKept, Kept, OperationKept}
-use Rattle.schema_tables.specs.Types.{Text, Defs}
-use Rattle.schema_types.specs.Environments.{Values}
+use Rattle.plan_ir.specs.schema_tables.Types.{Text, Defs}
+use Rattle.plan_ir.specs.schema_types.Environments.{Values}
 use Rattle.store_layers.specs.Layered.{Layered}
 use Rattle.store_layers.specs.LayeredCode.{layered_code}
 use Rattle.store_watch.specs.Codes.{coded_watch}

@@ -1,7 +1,7 @@
 -- What the laws of later lines say of an engine: what a sweep drops makes no difference to a line that does not look at it.
 use Rattle.std.specs.Prelude.{◌≡◌, ℕ, Bool, true, false, [], ◌++◌, length}
 use Rattle.std.specs.List.{AllByRecursion}
-use Rattle.gql_plain.specs.Order.{has_text}
+use Rattle.plan_ir.specs.gql_plain.Order.{has_text}
 use Rattle.later_lines.specs.Alike.{AreAlike, dropped_ids, swept_state}
 use Rattle.later_lines.specs.Looked.{looked, sweeps}
 use Rattle.relay_engine.specs.Kept.{Kept}
@@ -10,8 +10,8 @@ use Rattle.relay_engine.specs.Steps.{written}
 use Rattle.relay_engine.specs.declared.lines.Lines.{Lines}
 use Rattle.relay_machine.specs.Machine.{Project, State, Step, base, is_reached, notices_of, retained, step_line, view}
 use Rattle.relay_machine.specs.Printed.{collect_line}
-use Rattle.schema_tables.specs.Types.{Text}
-use Rattle.store_model.specs.Events.{Line}
+use Rattle.plan_ir.specs.schema_tables.Types.{Text}
+use Rattle.plan_ir.specs.store_model.Events.{Line}
 
 -- the lines are those of a step from another state, and the engine stands for a state that is like the one after that step, but for some ids
 pub record GoesAlike (p : Project) (D : Text → Bool) (step : Step) (lines : Lines) (new : Kept) : Type 0 where

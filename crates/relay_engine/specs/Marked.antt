@@ -1,7 +1,7 @@
 -- Pairs under marked names.
 use Rattle.std.specs.Prelude.{◌++◌, codes}
-use Rattle.gql_plain.specs.Tree.{Tree}
-use Rattle.schema_tables.specs.Types.{Text}
+use Rattle.plan_ir.specs.gql_plain.Tree.{Tree}
+use Rattle.plan_ir.specs.schema_tables.Types.{Text}
 
 -- a colon stands before the name
 abbrev pub marked : Text × Tree → Text × Tree

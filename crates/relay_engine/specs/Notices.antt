@@ -6,7 +6,7 @@ use Rattle.relay_engine.specs.Stands.{StandsUntold}
 use Rattle.relay_engine.specs.declared.lines.Lines.{Lines}
 use Rattle.relay_machine.specs.Machine.{Project, State, Step}
 use Rattle.relay_machine.specs.Printed.{notice_line}
-use Rattle.schema_tables.specs.Types.{Text}
+use Rattle.plan_ir.specs.schema_tables.Types.{Text}
 use Rattle.store_layers.specs.Layered.{Layered}
 use Rattle.store_watch.specs.Watching.{Telling, Watch}
 

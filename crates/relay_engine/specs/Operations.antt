@@ -1,19 +1,19 @@
 -- That what is held are operations of the project, with their plans.
 use Rattle.std.specs.Prelude.{◌≡◌, true, List, [], ◌∷◌, Some, is_some}
 use Rattle.std.specs.List.{AllByRecursion}
-use Rattle.gql_ast.specs.declared.document.Document.{Document}
-use Rattle.gql_ast.specs.declared.place.Placed.{Placed}
-use Rattle.gql_plain.specs.Order.{has_text}
-use Rattle.plan_expand.specs.Answers.{project}
+use Rattle.plan_ir.specs.gql_ast.declared.document.Document.{Document}
+use Rattle.plan_ir.specs.gql_ast.declared.place.Placed.{Placed}
+use Rattle.plan_ir.specs.gql_plain.Order.{has_text}
+use Rattle.relay_machine.specs.plan_expand.Answers.{project}
 use Rattle.plan_ir.specs.Expansion.{name_or}
 use Rattle.plan_ir.specs.NormalReach.{plan_reaches}
 use Rattle.plan_project.specs.Lookups.{operation_in}
-use Rattle.relay_model.specs.Readings.{no_place}
-use Rattle.relay_model.specs.Reaches.{operation_reaches}
-use Rattle.schema_tables.specs.Types.{Text, Defs, root}
-use Rattle.schema_types.specs.Environments.{Values}
-use Rattle.schema_types.specs.Sites.{OperationAt}
-use Rattle.store_model.specs.Walks.{Slots, type_of_record}
+use Rattle.relay_machine.specs.relay_model.Readings.{no_place}
+use Rattle.relay_machine.specs.relay_model.Reaches.{operation_reaches}
+use Rattle.plan_ir.specs.schema_tables.Types.{Text, Defs, root}
+use Rattle.plan_ir.specs.schema_types.Environments.{Values}
+use Rattle.plan_ir.specs.schema_types.Sites.{OperationAt}
+use Rattle.plan_ir.specs.store_model.Walks.{Slots, type_of_record}
 use Rattle.store_retain.specs.declared.held.Held.{Held}
 
 -- the documents have the operation, and its plan reaches what the operation does along the documents

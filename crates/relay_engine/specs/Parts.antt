@@ -1,12 +1,12 @@
 -- What the parts of a step say, as the machine sees it.
 use Rattle.std.specs.Prelude.{◌≡◌, List}
-use Rattle.gql_ast.specs.declared.document.Document.{Document}
-use Rattle.gql_ast.specs.declared.place.Placed.{Placed}
+use Rattle.plan_ir.specs.gql_ast.declared.document.Document.{Document}
+use Rattle.plan_ir.specs.gql_ast.declared.place.Placed.{Placed}
 use Rattle.relay_engine.specs.declared.said.Told.{Told}
 use Rattle.relay_engine.specs.declared.said.Told.TheVariants.{Facts, Fault}
 use Rattle.relay_machine.specs.Machine.{Project}
-use Rattle.schema_tables.specs.Types.{Defs}
-use Rattle.store_model.specs.Verdicts.{Verdict, content, refusal}
+use Rattle.plan_ir.specs.schema_tables.Types.{Defs}
+use Rattle.plan_ir.specs.store_model.Verdicts.{Verdict, content, refusal}
 
 -- the schema and the documents are those of the project
 pub record IsProject (parts : Defs × List (Placed Document)) (p : Project) : Type 0 where

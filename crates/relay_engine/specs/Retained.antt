@@ -9,7 +9,7 @@ use Rattle.relay_engine.specs.declared.retaining.Prepared.{Prepared}
 use Rattle.relay_engine.specs.declared.retaining.Prepared.TheVariants as P
 use Rattle.relay_machine.specs.Machine.{Handle, Project, State, Step, accept, with_handle}
 use Rattle.relay_machine.specs.Printed.{event_line}
-use Rattle.schema_tables.specs.Types.{Text}
+use Rattle.plan_ir.specs.schema_tables.Types.{Text}
 
 -- what is held is an operation of the project, with its plan
 abbrev pub IsThere : Kept → Prepared → Type 0

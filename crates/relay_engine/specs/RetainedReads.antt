@@ -6,8 +6,8 @@ use Rattle.relay_engine.specs.Kept.{Kept}
 use Rattle.relay_engine.specs.Stands.{StandsFor}
 use Rattle.relay_machine.specs.Machine.{Project, State, retained}
 use Rattle.retained_reads.specs.Reads.{StaysRead}
-use Rattle.schema_tables.specs.Types.{Text}
-use Rattle.store_model.specs.Events.{Line}
+use Rattle.plan_ir.specs.schema_tables.Types.{Text}
+use Rattle.plan_ir.specs.store_model.Events.{Line}
 
 -- whichever state the engine stood for, and whoever owns the pointers
 abbrev pub KeepsRetainedReads : (old new : Kept) → Line → Type 0

@@ -5,12 +5,12 @@ use Rattle.plan_project.specs.Lookups.{operation_in}
 use Rattle.relay_engine.specs.Kept.{HandleKept, Kept, OperationKept}
 use Rattle.relay_machine.specs.Machine as machine
 use Rattle.relay_machine.specs.Machine.{Handle, Layer, PartShown, Project, Retained, State, base, is_layer, last_of, shown}
-use Rattle.schema_tables.specs.Types.{root}
+use Rattle.plan_ir.specs.schema_tables.Types.{root}
 use Rattle.std.specs.Prelude.{Option}
 use Rattle.store_layers.specs.Layered as layered
 use Rattle.store_layers.specs.Layered.{view_of}
-use Rattle.store_model.specs.Records.{Records}
-use Rattle.store_read.specs.Reading.{slots}
+use Rattle.plan_ir.specs.store_model.Records.{Records}
+use Rattle.store_watch.specs.store_read.Reading.{slots}
 use Rattle.store_watch.specs.Watching as watching
 use Rattle.store_watch.specs.Watching.{AreShown, Look, shows}
 

@@ -4,7 +4,7 @@ use Rattle.relay_engine.specs.Kept.{Kept}
 use Rattle.relay_engine.specs.Stands.{StandsFor}
 use Rattle.relay_engine.specs.declared.lines.Lines.{Lines}
 use Rattle.relay_machine.specs.Machine.{Project, State, Step}
-use Rattle.schema_tables.specs.Types.{Text}
+use Rattle.plan_ir.specs.schema_tables.Types.{Text}
 
 -- texts as lines, each ended by LF
 abbrev pub written : List Text → Text

@@ -7,10 +7,10 @@ use Rattle.relay_engine.specs.declared.targets.Targeted.{Targeted}
 use Rattle.relay_engine.specs.declared.targets.Targeted.TheVariants as T
 use Rattle.relay_machine.specs.Effects.{reads_of_fragment, reads_of_part, reads_of_target}
 use Rattle.relay_machine.specs.Machine.{Handle, PartShown, Project, State, Step, handle_named}
-use Rattle.schema_types.specs.Sites.{FragmentAt}
-use Rattle.store_model.specs.Events as e
-use Rattle.store_model.specs.Records.{Records}
-use Rattle.store_read.specs.Reading.{slots}
+use Rattle.plan_ir.specs.schema_types.Sites.{FragmentAt}
+use Rattle.plan_ir.specs.store_model.Events as e
+use Rattle.plan_ir.specs.store_model.Records.{Records}
+use Rattle.store_watch.specs.store_read.Reading.{slots}
 use Rattle.store_watch.specs.Rows.{look_of}
 use Rattle.store_watch.specs.Watching.{read_of}
 

@@ -5,17 +5,17 @@ use Rattle.relay_engine.specs.Kept.{Kept}
 use Rattle.relay_engine.specs.Stands.{StandsFor, layer_of}
 use Rattle.relay_machine.specs.Effects.{answer_reads, layer_entries, newly_confirmed}
 use Rattle.relay_machine.specs.Machine.{Project, State, Step, act, base, view}
-use Rattle.schema_tables.specs.Types.{Text}
+use Rattle.plan_ir.specs.schema_tables.Types.{Text}
 use Rattle.store_layers.specs.Changed.{is_changed_by}
 use Rattle.store_layers.specs.Layered.{Layer, above, below, entries_of, from_on, view_of}
 use Rattle.store_layers.specs.Work.{counted, weights}
-use Rattle.store_model.specs.Entries.{fold_entries}
-use Rattle.store_model.specs.Events as e
-use Rattle.store_model.specs.Events.{Event, Line, line_of}
-use Rattle.store_model.specs.Records.{Records}
-use Rattle.store_model.specs.Walks.{Found, Slots, standings}
-use Rattle.store_model.specs.declared.entry.Entry.{Entry}
-use Rattle.store_read.specs.Reading.{slots}
+use Rattle.plan_ir.specs.store_model.Entries.{fold_entries}
+use Rattle.plan_ir.specs.store_model.Events as e
+use Rattle.plan_ir.specs.store_model.Events.{Event, Line, line_of}
+use Rattle.plan_ir.specs.store_model.Records.{Records}
+use Rattle.plan_ir.specs.store_model.Walks.{Found, Slots, standings}
+use Rattle.plan_ir.specs.store_model.declared.entry.Entry.{Entry}
+use Rattle.store_watch.specs.store_read.Reading.{slots}
 use Rattle.store_watch.specs.Watching.{Look, Watch, read_of}
 
 -- ---- entries

@@ -3,15 +3,14 @@ ghost use Rattle.std.specs.Prelude.{◌≡◌, ◌<◌, ◌^◌, ◌++◌, [], �
 ghost use Rattle.relay_engine.specs.Answered.{AreLines, IsFaultOf, IsRefusalOf};
 ghost use Rattle.relay_lines.specs.RefusalShown.{refusal_shown};
 ghost use Rattle.relay_machine.specs.Printed as model;
-ghost use Rattle.store_read.specs.Reading.{reading_of};
+ghost use Rattle.store_watch.specs.store_read.Reading.{reading_of};
 
 use crate::lines::Lines;
 use event_script::LineFault;
-use gql_plain::{NoMemory, Words};
+use plan_ir::{NoMemory, VarFault, Words};
 use relay_lines::{Refusal, collect_line, event_line, read_line, refusal_line, watch_line};
-use schema_values::VarFault;
 use std::alloc::Global;
-use store_read::Snapshot;
+use store_watch::Snapshot;
 
 /// The answer of an event that shows nothing, where it is taken.
 pub(crate) fn accept(alloc: Global, event: &str, n: u64) -> Result<Lines, NoMemory>

@@ -6,15 +6,15 @@ ghost use Rattle.relay_engine.specs.Steps.{IsStep};
 ghost use Rattle.relay_machine.specs.Machine as machine;
 ghost use Rattle.store_layers.specs.Drafts.{Fits, placed};
 ghost use Rattle.store_layers.specs.Layered.{view_of};
-ghost use Rattle.store_read.specs.Reading.{slots};
+ghost use Rattle.store_watch.specs.store_read.Reading.{slots};
 ghost use Rattle.store_watch.specs.Watching.{DifferAt, work};
 
 use crate::engine::Engine;
 use crate::lines::Lines;
 use crate::telling::with_notices;
-use gql_plain::NoMemory;
+use plan_ir::NoMemory;
 use store_layers::Draft;
-use store_source::RecordSource;
+use store_retain::RecordSource;
 
 impl<S: RecordSource> Engine<S> {
     /// Settles a change of the layers. Each watch that saw one of the touched ids is read again, and

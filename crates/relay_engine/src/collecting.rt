@@ -6,8 +6,8 @@ ghost use Rattle.relay_machine.specs.Machine as machine;
 use crate::answers::collected;
 use crate::engine::Engine;
 use crate::lines::Lines;
-use gql_plain::NoMemory;
-use store_source::RecordSource;
+use plan_ir::NoMemory;
+use store_retain::RecordSource;
 
 impl<S: RecordSource> Engine<S> {
     /// Takes the records out of the base that no retained operation reaches. While a layer is live

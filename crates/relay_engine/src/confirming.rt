@@ -5,15 +5,14 @@ ghost use Rattle.relay_engine.specs.Steps.{HasStepped};
 ghost use Rattle.relay_engine.specs.Work.{ChangesWithin, EventWithin, confirming};
 ghost use Rattle.relay_machine.specs.Machine as machine;
 ghost use Rattle.relay_machine.specs.Printed as printed;
-ghost use Rattle.store_model.specs.Events as events;
+ghost use Rattle.plan_ir.specs.store_model.Events as events;
 
 use crate::answers::accept;
 use crate::engine::Engine;
 use crate::lines::Lines;
 use crate::taking::Taken;
-use gql_plain::NoMemory;
-use store_model::{Answer, Commands, Entry};
-use store_source::RecordSource;
+use plan_ir::{Answer, Commands, Entry, NoMemory};
+use store_retain::RecordSource;
 
 impl<S: RecordSource> Engine<S> {
     /// Confirms what the response to a handle says, if there is one, and then the commands. The event

@@ -8,20 +8,18 @@ ghost use Rattle.relay_engine.specs.RetainedReads.{KeepsRetainedReads};
 ghost use Rattle.relay_engine.specs.Steps.{HasStepped};
 ghost use Rattle.relay_engine.specs.Work.{AppliesAbove, IsWithinWork};
 ghost use Rattle.relay_machine.specs.Machine as machine;
-ghost use Rattle.store_model.specs.Events as events;
-ghost use Rattle.store_model.specs.Events.{line_of};
-ghost use Rattle.store_model.specs.Records.{no_records};
+ghost use Rattle.plan_ir.specs.store_model.Events as events;
+ghost use Rattle.plan_ir.specs.store_model.Records.{no_records};
 
 use crate::answers::refuse_fault;
 use crate::lines::Lines;
 use event_script::{Event, LineReader};
-use gql_plain::NoMemory;
+use plan_ir::NoMemory;
 use plan_project::Project;
 use std::alloc::Global;
 use std::marker::Model;
 use store_layers::Layers;
-use store_retain::Retained;
-use store_source::RecordSource;
+use store_retain::{RecordSource, Retained};
 use store_watch::Watches;
 
 /// A project, the records that were confirmed with the live optimistic layers over them, the operations
@@ -94,10 +92,10 @@ impl<S: RecordSource> Engine<S> {
         ensures refused { IfOk result (λ lines. lines.refused ≡ true → self.new ≡ self.old) }
         ensures err { OnErr result (self.new ≡ self.old) }
         ensures applies { S.Count.applies steps.new ≤ S.Count.applies steps.old + (length self.old.layers.live + 1) }
-        ensures exact { IfOk result (λ lines. AppliesAbove self.old (line_of line.now) lines.refused (S.Count.applies steps.old) (S.Count.applies steps.new)) }
-        ensures looks { IsWithinWork self.old n (line_of line.now) (S.Count.looks steps.old) (S.Count.looks steps.new) }
-        ensures later { IfOk result (λ lines. KeepsLaterLines self.old self.new n (line_of line.now) lines) }
-        ensures retained { IfOk result (λ lines. KeepsRetainedReads self.old self.new (line_of line.now)) }
+        ensures exact { IfOk result (λ lines. AppliesAbove self.old (events.line_of line.now) lines.refused (S.Count.applies steps.old) (S.Count.applies steps.new)) }
+        ensures looks { IsWithinWork self.old n (events.line_of line.now) (S.Count.looks steps.old) (S.Count.looks steps.new) }
+        ensures later { IfOk result (λ lines. KeepsLaterLines self.old self.new n (events.line_of line.now) lines) }
+        ensures retained { IfOk result (λ lines. KeepsRetainedReads self.old self.new (events.line_of line.now)) }
     {
         self.project.is_accepted();
         self.watches.refresh()?;
@@ -112,8 +110,8 @@ impl<S: RecordSource> Engine<S> {
         ensures refused { IfOk result (λ lines. lines.refused ≡ true → self.new ≡ self.old) }
         ensures err { OnErr result (self.new ≡ self.old) }
         ensures applies { S.Count.applies steps.new ≤ S.Count.applies steps.old + (length self.old.layers.live + 1) }
-        ensures exact { IfOk result (λ lines. AppliesAbove self.old (line_of line.now) lines.refused (S.Count.applies steps.old) (S.Count.applies steps.new)) }
-        ensures looks { IsWithinWork self.old n (line_of line.now) (S.Count.looks steps.old) (S.Count.looks steps.new) }
+        ensures exact { IfOk result (λ lines. AppliesAbove self.old (events.line_of line.now) lines.refused (S.Count.applies steps.old) (S.Count.applies steps.new)) }
+        ensures looks { IsWithinWork self.old n (events.line_of line.now) (S.Count.looks steps.old) (S.Count.looks steps.new) }
     {
         match self.reader.read(line) {
             Ok(event) => self.step_event(event, n, steps),

@@ -1,18 +1,17 @@
 //! The environments in which fragments are read.
 ghost use Rattle.std.specs.Prelude.{◌≡◌, ◌++◌, codes, map, None, IfErr, IfOk, OnOk};
-ghost use Rattle.gql_plain.specs.Shown.{shown_members};
-ghost use Rattle.relay_dirs.specs.View.{local_view};
+ghost use Rattle.plan_ir.specs.gql_plain.Shown.{shown_members};
+ghost use Rattle.plan_ir.specs.relay_dirs.View.{local_view};
 ghost use Rattle.relay_engine.specs.Marked.{marked};
 ghost use Rattle.relay_machine.specs.Machine as machine;
-ghost use Rattle.relay_model.specs.Readings.{with_marked};
-ghost use Rattle.schema_types.specs.Environments.{environment};
-ghost use Rattle.schema_values.specs.Failures.{Tells};
-ghost use Rattle.schema_values.specs.Listed as listed;
+ghost use Rattle.relay_machine.specs.relay_model.Readings.{with_marked};
+ghost use Rattle.plan_ir.specs.schema_types.Environments.{environment};
+ghost use Rattle.plan_ir.specs.schema_values.Failures.{Tells};
+ghost use Rattle.plan_ir.specs.schema_values.Listed as listed;
 
-use gql_ast::VariableDefs;
-use gql_plain::{Name, NoMemory, Pairs, Plain, Words};
-use schema_types::Schema;
-use schema_values::{Env, VarFault, variables};
+use plan_ir::{
+    Env, Name, NoMemory, Pairs, Plain, Schema, VarFault, VariableDefs, Words, variables,
+};
 use std::alloc::Global;
 use std::collections::BTreeMap;
 

@@ -6,18 +6,16 @@ ghost use Rattle.relay_engine.specs.Work.{ChangesWithin, EventWithin, confirming
 ghost use Rattle.relay_machine.specs.Machine as machine;
 ghost use Rattle.relay_machine.specs.Printed as printed;
 ghost use Rattle.store_layers.specs.Layered as layered;
-ghost use Rattle.store_layers.specs.Layered.{above};
 ghost use Rattle.store_layers.specs.Work.{counted};
-ghost use Rattle.store_model.specs.Events as events;
+ghost use Rattle.plan_ir.specs.store_model.Events as events;
 
 use crate::answers::{accept, refuse};
 use crate::engine::Engine;
 use crate::lines::Lines;
 use crate::taking::Taken;
-use gql_plain::{NoMemory, Words};
+use plan_ir::{Answer, Commands, Entry, NoMemory, Words};
 use relay_lines::Refusal;
-use store_model::{Answer, Commands, Entry};
-use store_source::RecordSource;
+use store_retain::RecordSource;
 
 /// At most this many layers are live.
 const MAX_LAYERS: u64 = 1_000;
@@ -135,7 +133,7 @@ impl<S: RecordSource> Engine<S> {
         ensures err { OnErr result (self.new ≡ self.old) }
         ensures applies { S.Count.applies steps.new ≤ S.Count.applies steps.old + (length self.old.layers.live + 1) }
         ensures looks { EventWithin self.old (events.revert layer.now) (λ p s. machine.step_revert s n layer.now) (S.Count.looks steps.old) (S.Count.looks steps.new) }
-        ensures exact { IfOk result (λ lines. lines.refused ≡ false → S.Count.applies steps.new ≡ counted (length (above layer.now self.old.layers.live)) (S.Count.applies steps.old)) }
+        ensures exact { IfOk result (λ lines. lines.refused ≡ false → S.Count.applies steps.new ≡ counted (length (layered.above layer.now self.old.layers.live)) (S.Count.applies steps.old)) }
     {
         if !self.layers.is_live(layer.as_str()) {
             return refuse(self.alloc, Refusal::UnknownLayer(layer.as_str()), n);

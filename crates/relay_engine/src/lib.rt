@@ -21,3 +21,5 @@ mod watching;
 
 pub use engine::Engine;
 pub use lines::Lines;
+pub use relay_lines::{fault_line, summary_line};
+pub use store_retain::{Flat, RecordSource, Versions};

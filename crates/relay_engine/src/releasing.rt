@@ -6,9 +6,9 @@ ghost use Rattle.relay_machine.specs.Machine as machine;
 use crate::answers::{accept, refuse};
 use crate::engine::Engine;
 use crate::lines::Lines;
-use gql_plain::{NoMemory, Words};
+use plan_ir::{NoMemory, Words};
 use relay_lines::Refusal;
-use store_source::RecordSource;
+use store_retain::RecordSource;
 
 impl<S: RecordSource> Engine<S> {
     /// Releases the operation of a handle with which no live watch was started.

@@ -8,18 +8,16 @@ ghost use Rattle.relay_engine.specs.Stands.{StandsFor, KeepsHandle};
 ghost use Rattle.relay_engine.specs.Steps.{HasStepped, IsStep};
 ghost use Rattle.relay_machine.specs.Machine as machine;
 ghost use Rattle.relay_machine.specs.Printed as printed;
-ghost use Rattle.schema_types.specs.Sites.{OperationAt};
+ghost use Rattle.plan_ir.specs.schema_types.Sites.{OperationAt};
 
 use crate::answers::{accept, refuse, refuse_variables};
 use crate::engine::Engine;
 use crate::lines::Lines;
-use gql_plain::{NoMemory, Pairs, Words};
+use plan_ir::{NoMemory, Pairs, Words, variables};
 use plan_project::Compiled;
 use relay_lines::{Limited, Refusal};
-use schema_values::variables;
 use std::rc::Rc;
-use store_retain::Held;
-use store_source::RecordSource;
+use store_retain::{Held, RecordSource};
 
 /// At most this many handles are live.
 const MAX_HANDLES: u64 = 10_000;

@@ -6,14 +6,13 @@ ghost use Rattle.relay_engine.specs.Handles.{held_as};
 ghost use Rattle.relay_engine.specs.Parts.{IsProject, verdict_told};
 ghost use Rattle.relay_engine.specs.Stands.{KeepsHandle};
 ghost use Rattle.relay_machine.specs.Machine as machine;
-ghost use Rattle.schema_types.specs.Sites.{OperationAt};
+ghost use Rattle.plan_ir.specs.schema_types.Sites.{OperationAt};
 ghost use Rattle.serde_json.specs.View.{view};
 
-use gql_plain::NoMemory;
+use plan_ir::{Facts, NoMemory, PayloadFault};
 use plan_project::{Compiled, Project};
 use serde_json::Value;
 use std::alloc::Global;
-use store_model::{Facts, PayloadFault};
 use store_norm::{NormFault, facts};
 use store_retain::Held;
 

@@ -8,19 +8,17 @@ ghost use Rattle.relay_engine.specs.Stands.{KeepsHandle, StandsFor};
 ghost use Rattle.relay_machine.specs.Machine as machine;
 ghost use Rattle.relay_machine.specs.Refusals as model;
 ghost use Rattle.serde_json.specs.View.{view};
-ghost use Rattle.store_model.specs.declared.entry.Entry as E;
+ghost use Rattle.plan_ir.specs.store_model.declared.entry.Entry as E;
 
 use crate::answers::refuse;
 use crate::engine::Engine;
 use crate::lines::Lines;
 use crate::said::{Told, said_to};
 use crate::types::unknown_type;
-use gql_plain::NoMemory;
+use plan_ir::{Answer, Commands, Entry, Facts, NoMemory};
 use relay_lines::{Limited, Refusal};
 use serde_json::Value;
-use store_model::{Answer, Commands, Entry, Facts};
-use store_retain::Held;
-use store_source::RecordSource;
+use store_retain::{Held, RecordSource};
 
 /// What an event gives: its entry, or the answer that refuses it.
 #[derive(Drop)]

@@ -1,26 +1,24 @@
 //! The targets of reads and of watches.
 ghost use Rattle.std.specs.Prelude.{◌≡◌, ◌<◌, ◌^◌, Option, None, Some, true, is_some, IfOk};
 ghost use Rattle.event_script.specs.Seen.{part_seen, target_seen};
-ghost use Rattle.plan_project.specs.Lookups.{operation_in, KeepsFragment, ReadsFragment, fragment_in};
+ghost use Rattle.plan_project.specs.Lookups as lookups;
 ghost use Rattle.relay_engine.specs.Handles.{held_as};
 ghost use Rattle.relay_engine.specs.Stands.{KeepsHandle, StandsFor};
-ghost use Rattle.relay_engine.specs.Targets.{ReadsFragmentAt, ReadsPart, ReadsTarget, Targets, TargetsPart};
+ghost use Rattle.relay_engine.specs.Targets as spec;
 ghost use Rattle.relay_machine.specs.Machine as machine;
 ghost use Rattle.relay_machine.specs.Refusals as model;
-ghost use Rattle.schema_types.specs.Sites.{FragmentAt};
-ghost use Rattle.store_model.specs.Events as e;
+ghost use Rattle.plan_ir.specs.schema_types.Sites.{FragmentAt};
+ghost use Rattle.plan_ir.specs.store_model.Events as e;
 
 use crate::answers::{refuse, refuse_variables};
 use crate::engine::Engine;
 use crate::environments::scope_given;
 use crate::lines::Lines;
 use crate::watched::{fragment_at, whole_operation};
-use gql_plain::{NoMemory, Words};
+use plan_ir::{NoMemory, Part, Target, Words};
 use plan_project::CompiledFragment;
 use relay_lines::{Limited, Refusal};
-use store_model::{Part, Target};
-use store_retain::Held;
-use store_source::RecordSource;
+use store_retain::{Held, RecordSource};
 use store_watch::Watched;
 
 /// What a target shows, or the answer that refuses it.
@@ -40,8 +38,8 @@ impl<S: RecordSource> Engine<S> {
     ) -> Result<Targeted, NoMemory>
         requires { n < 2 ^ 63 }
         ensures step { IfOk result (λ targeted. (p : machine.Project) (s : machine.State) → StandsFor self.now p s → (take : machine.Handle → Option machine.PartShown → machine.Step)
-            → Targets self.now p (machine.of_target p s n (target_seen target.now) (machine.handle_named s.handles target.now.handle) (λ step. machine.unless s n is_full (model.too_many model.watches) step) take) take targeted) }
-        ensures found { IfOk result (λ targeted. (p : machine.Project) (s : machine.State) → StandsFor self.now p s → ReadsTarget p s (target_seen target.now) targeted) }
+            → spec.Targets self.now p (machine.of_target p s n (target_seen target.now) (machine.handle_named s.handles target.now.handle) (λ step. machine.unless s n is_full (model.too_many model.watches) step) take) take targeted) }
+        ensures found { IfOk result (λ targeted. (p : machine.Project) (s : machine.State) → StandsFor self.now p s → spec.ReadsTarget p s (target_seen target.now) targeted) }
     {
         let handle = &target.handle;
         let Some(held) = self.retained.held(handle.as_str()) else {
@@ -63,12 +61,12 @@ impl<S: RecordSource> Engine<S> {
         n: u64,
     ) -> Result<Targeted, NoMemory>
         requires within { n < 2 ^ 63 }
-        requires there { is_some (operation_in self.now.defs self.now.documents held.now.name) ≡ true }
+        requires there { is_some (lookups.operation_in self.now.defs self.now.documents held.now.name) ≡ true }
         ensures step { IfOk result (λ targeted. (p : machine.Project) (s : machine.State) (h : machine.Handle) → StandsFor self.now p s → KeepsHandle p (held_as handle.now held.now) h
             → (take : Option machine.PartShown → machine.Step)
-            → TargetsPart self.now p (machine.of_part p s n None (λ step. machine.unless s n is_full (model.too_many model.watches) step) take) h take targeted) }
+            → spec.TargetsPart self.now p (machine.of_part p s n None (λ step. machine.unless s n is_full (model.too_many model.watches) step) take) h take targeted) }
         ensures found { IfOk result (λ targeted. (p : machine.Project) (s : machine.State) (h : machine.Handle) → StandsFor self.now p s → KeepsHandle p (held_as handle.now held.now) h
-            → ReadsPart p h None targeted) }
+            → spec.ReadsPart p h None targeted) }
     {
         if is_full {
             return self.too_many_watches(n);
@@ -89,9 +87,9 @@ impl<S: RecordSource> Engine<S> {
         requires { n < 2 ^ 63 }
         ensures step { IfOk result (λ targeted. (p : machine.Project) (s : machine.State) (h : machine.Handle) → StandsFor self.now p s → KeepsHandle p (held_as handle.now held.now) h
             → (take : Option machine.PartShown → machine.Step)
-            → TargetsPart self.now p (machine.of_part p s n (Some (part_seen part.now)) (λ step. machine.unless s n is_full (model.too_many model.watches) step) take) h take targeted) }
+            → spec.TargetsPart self.now p (machine.of_part p s n (Some (part_seen part.now)) (λ step. machine.unless s n is_full (model.too_many model.watches) step) take) h take targeted) }
         ensures found { IfOk result (λ targeted. (p : machine.Project) (s : machine.State) (h : machine.Handle) → StandsFor self.now p s → KeepsHandle p (held_as handle.now held.now) h
-            → ReadsPart p h (Some (part_seen part.now)) targeted) }
+            → spec.ReadsPart p h (Some (part_seen part.now)) targeted) }
     {
         let name = part.fragment.as_str();
         let Some(fragment) = self.project.fragment(name) else {
@@ -116,11 +114,11 @@ impl<S: RecordSource> Engine<S> {
     ) -> Result<Targeted, NoMemory>
         requires { n < 2 ^ 63 }
         ensures step { IfOk result (λ targeted. (p : machine.Project) (s : machine.State) (h : machine.Handle) (f : FragmentAt) → StandsFor self.now p s → KeepsHandle p (held_as handle.now held.now) h
-            → fragment_in p.defs p.documents part.now.fragment ≡ Some f → KeepsFragment p.defs part.now.fragment f fragment.now → ReadsFragment p.defs p.documents f fragment.now
+            → lookups.fragment_in p.defs p.documents part.now.fragment ≡ Some f → lookups.KeepsFragment p.defs part.now.fragment f fragment.now → lookups.ReadsFragment p.defs p.documents f fragment.now
             → (take : Option machine.PartShown → machine.Step)
-            → TargetsPart self.now p (machine.of_fragment p s n (part_seen part.now) (Some f) (λ step. step) take) h take targeted) }
+            → spec.TargetsPart self.now p (machine.of_fragment p s n (part_seen part.now) (Some f) (λ step. step) take) h take targeted) }
         ensures found { IfOk result (λ targeted. (p : machine.Project) (h : machine.Handle) (f : FragmentAt) → KeepsHandle p (held_as handle.now held.now) h
-            → KeepsFragment p.defs part.now.fragment f fragment.now → ReadsFragment p.defs p.documents f fragment.now → ReadsFragmentAt p h (part_seen part.now) f targeted) }
+            → lookups.KeepsFragment p.defs part.now.fragment f fragment.now → lookups.ReadsFragment p.defs p.documents f fragment.now → spec.ReadsFragmentAt p h (part_seen part.now) f targeted) }
     {
         let schema = self.project.schema();
         match scope_given(
@@ -142,8 +140,8 @@ impl<S: RecordSource> Engine<S> {
     fn too_many_watches(&self, n: u64) -> Result<Targeted, NoMemory>
         requires { n < 2 ^ 63 }
         ensures step { IfOk result (λ targeted. (p : machine.Project) (s : machine.State) (h : machine.Handle) → StandsFor self.now p s → (take : Option machine.PartShown → machine.Step)
-            → TargetsPart self.now p (machine.refuse s n (model.too_many model.watches)) h take targeted) }
-        ensures found { IfOk result (λ targeted. (p : machine.Project) (h : machine.Handle) (part : Option e.Part) → ReadsPart p h part targeted) }
+            → spec.TargetsPart self.now p (machine.refuse s n (model.too_many model.watches)) h take targeted) }
+        ensures found { IfOk result (λ targeted. (p : machine.Project) (h : machine.Handle) (part : Option e.Part) → spec.ReadsPart p h part targeted) }
     {
         let lines = refuse(self.alloc, Refusal::TooMany(Limited::Watches), n)?;
         Ok(Targeted::Refused(lines))

@@ -7,7 +7,7 @@ ghost use Rattle.store_watch.specs.Rows.{telling_of};
 ghost use Rattle.store_watch.specs.Watching.{Telling};
 
 use crate::lines::Lines;
-use gql_plain::{NoMemory, Words};
+use plan_ir::{NoMemory, Words};
 use relay_lines::notice_line;
 use std::alloc::Global;
 use store_watch::{Notice, Notices, Watches};

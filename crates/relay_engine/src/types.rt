@@ -1,11 +1,9 @@
 //! The types that commands name.
 ghost use Rattle.std.specs.Prelude.{◌≡◌, option_copied};
 ghost use Rattle.relay_machine.specs.Machine as machine;
-ghost use Rattle.schema_rules.specs.Rules.{is_object};
+ghost use Rattle.plan_ir.specs.schema_rules.Rules.{is_object};
 
-use gql_plain::Words;
-use schema_types::{Schema, TypeKind};
-use store_model::{Command, Commands};
+use plan_ir::{Command, Commands, Schema, TypeKind, Words};
 
 /// The first name of a type in commands that is none of an object type of the schema; takes no memory.
 pub(crate) fn unknown_type<'c>(schema: &Schema, commands: &'c Commands) -> Option<&'c Words>

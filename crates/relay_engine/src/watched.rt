@@ -1,34 +1,30 @@
 //! What reads and watches show.
 ghost use Rattle.std.specs.Prelude.{◌≡◌, ◌+◌, ◌≤◌, ◌++◌, ◌∷◌, [], List, ℕ, true, is_some, None, Some, IfOk};
-ghost use Rattle.plan_order.specs.Alike.{ReadAlike};
-ghost use Rattle.plan_order.specs.Ordered.{IsOrdered};
-ghost use Rattle.plan_project.specs.Lookups.{fragment_in, operation_in, KeepsFragment, ReadsFragment};
+ghost use Rattle.plan_project.specs.plan_order.Alike.{ReadAlike};
+ghost use Rattle.plan_project.specs.plan_order.Ordered.{IsOrdered};
+ghost use Rattle.plan_project.specs.Lookups as lookups;
 ghost use Rattle.relay_engine.specs.Handles.{held_as};
 ghost use Rattle.relay_engine.specs.Parts.{IsProject};
 ghost use Rattle.relay_engine.specs.Stands.{KeepsHandle, ShowsPart};
 ghost use Rattle.relay_machine.specs.Machine as machine;
 ghost use Rattle.relay_machine.specs.Printed as printed;
-ghost use Rattle.schema_types.specs.Environments.{Values, environment};
-ghost use Rattle.schema_types.specs.Sites.{FragmentAt};
-ghost use Rattle.store_model.specs.Records.{Records};
-ghost use Rattle.store_model.specs.Walks.{standings};
-ghost use Rattle.store_read.specs.Reading.{reading_of, slots};
+ghost use Rattle.plan_ir.specs.schema_types.Environments.{Values, environment};
+ghost use Rattle.plan_ir.specs.schema_types.Sites.{FragmentAt};
+ghost use Rattle.plan_ir.specs.store_model.Records.{Records};
+ghost use Rattle.plan_ir.specs.store_model.Walks.{standings};
+ghost use Rattle.store_watch.specs.store_read.Reading.{reading_of, slots};
 ghost use Rattle.store_watch.specs.Rows.{look_of};
 ghost use Rattle.store_watch.specs.Watching.{read_of, shows};
 
 use crate::environments::with_locals;
 use crate::said::operation_held;
-use gql_plain::{Id, NoMemory, Words};
-use plan_ir::ReaderPlan;
+use plan_ir::{Env, Id, NoMemory, ReaderPlan, Words};
 use plan_project::{CompiledFragment, Project};
 use relay_lines::{line_of_read, read_line};
-use schema_values::Env;
 use std::alloc::Global;
 use std::rc::Rc;
-use store_read::{Snapshot, read};
-use store_retain::Held;
-use store_source::RecordSource;
-use store_watch::Watched;
+use store_retain::{Held, RecordSource};
+use store_watch::{Snapshot, Watched, read};
 
 /// The id of the record at which operations are read.
 const ROOT: &str = "client:root";
@@ -40,7 +36,7 @@ pub(crate) fn whole_operation(
     held: &Held,
     handle: &Words,
 ) -> Result<Watched, NoMemory>
-    requires { is_some (operation_in project.now.0 project.now.1 held.now.name) ≡ true }
+    requires { is_some (lookups.operation_in project.now.0 project.now.1 held.now.name) ≡ true }
     ensures shown { IfOk result (λ what. (p : machine.Project) (h : machine.Handle) → IsProject project.now p → KeepsHandle p (held_as handle.now held.now) h
         → ShowsPart p (look_of what) h None) }
     ensures found { IfOk result (λ what. (p : machine.Project) (h : machine.Handle) → IsProject project.now p → KeepsHandle p (held_as handle.now held.now) h
@@ -67,12 +63,12 @@ pub(crate) fn fragment_at(
     handle: &Words,
     id: &Id,
 ) -> Result<Watched, NoMemory>
-    ensures shown { IfOk result (λ what. (p : machine.Project) (h : machine.Handle) (f : FragmentAt) (n : List ℕ) → fragment_in p.defs p.documents n ≡ Some f
-        → KeepsFragment p.defs n f fragment.now → ReadsFragment p.defs p.documents f fragment.now → KeepsHandle p (held_as handle.now held.now) h
+    ensures shown { IfOk result (λ what. (p : machine.Project) (h : machine.Handle) (f : FragmentAt) (n : List ℕ) → lookups.fragment_in p.defs p.documents n ≡ Some f
+        → lookups.KeepsFragment p.defs n f fragment.now → lookups.ReadsFragment p.defs p.documents f fragment.now → KeepsHandle p (held_as handle.now held.now) h
         → (given : Values) → scope.now.values ≡ environment fragment.now.locals given
         → ShowsPart p (look_of what) h (Some (record { fragment = f; scope = scope.now.values; id = id.now }))) }
-    ensures found { IfOk result (λ what. (p : machine.Project) (h : machine.Handle) (f : FragmentAt) (n : List ℕ) → KeepsFragment p.defs n f fragment.now
-        → ReadsFragment p.defs p.documents f fragment.now → KeepsHandle p (held_as handle.now held.now) h → (given : Values) → scope.now.values ≡ environment fragment.now.locals given
+    ensures found { IfOk result (λ what. (p : machine.Project) (h : machine.Handle) (f : FragmentAt) (n : List ℕ) → lookups.KeepsFragment p.defs n f fragment.now
+        → lookups.ReadsFragment p.defs p.documents f fragment.now → KeepsHandle p (held_as handle.now held.now) h → (given : Values) → scope.now.values ≡ environment fragment.now.locals given
         → (m : Records) → machine.fragment_read p m h f scope.now.values id.now ≡ read_of (slots m) (look_of what)) }
 {
     let env = with_locals(alloc, &held.env, &scope.values)?;

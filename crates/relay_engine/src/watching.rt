@@ -7,7 +7,7 @@ ghost use Rattle.relay_engine.specs.Stands.{ShowsPart, StandsFor};
 ghost use Rattle.relay_engine.specs.Steps.{IsStep};
 ghost use Rattle.relay_engine.specs.Work.{EventWithin, ReadsWithin};
 ghost use Rattle.std.specs.Prelude.{Option};
-ghost use Rattle.store_model.specs.Events as events;
+ghost use Rattle.plan_ir.specs.store_model.Events as events;
 ghost use Rattle.store_watch.specs.Rows.{look_of};
 ghost use Rattle.store_watch.specs.Watching as watch_list;
 
@@ -16,10 +16,9 @@ use crate::engine::Engine;
 use crate::lines::Lines;
 use crate::targets::Targeted;
 use crate::watched::{look, read_line_of};
-use gql_plain::{NoMemory, Words};
+use plan_ir::{NoMemory, Target, Words};
 use relay_lines::Refusal;
-use store_model::Target;
-use store_source::RecordSource;
+use store_retain::RecordSource;
 use store_watch::Watched;
 
 /// At most this many watches are live.

@@ -1,1 +1,2 @@
+pub use Rattle.store_show.proofs as store_show_laws
 mod LineLaws

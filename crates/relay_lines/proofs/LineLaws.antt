@@ -1,17 +1,17 @@
 -- The tokens of a line, member by member.
 use Rattle.std.proofs.Common.{◌≡◌, ℕ, Bool, List, [], ◌∷◌, ◌++◌, Bor, codes, map, refl, sym, ap, ◌∙◌, append_assoc, append-nil, Result, IfOk}
 use Rattle.std.proofs.lemmas.Result.{IfOk-weaker}
-use Rattle.gql_plain.proofs.Tokens.{print-tree_tokens}
-use Rattle.gql_plain.specs.ToJson.{members_tokens}
-use Rattle.gql_plain.specs.Tree.{Tree, truth, text, list, trees_of, members_of}
-use Rattle.gql_plain.specs.declared.memory.NoMemory.{NoMemory}
+use Rattle.plan_ir.proofs.gql_plain_laws.Tokens.{print-tree_tokens}
+use Rattle.plan_ir.specs.gql_plain.ToJson.{members_tokens}
+use Rattle.plan_ir.specs.gql_plain.Tree.{Tree, truth, text, list, trees_of, members_of}
+use Rattle.plan_ir.specs.gql_plain.declared.memory.NoMemory.{NoMemory}
 use Rattle.json.specs.Print.{print}
 use Rattle.json.specs.Token as token
 use Rattle.json.specs.Token.{Token}
 use Rattle.relay_lines.specs.Members.{member_tokens, ordered_line}
 use Rattle.relay_machine.specs.Printed.{in_order, line, number, read_line}
-use Rattle.store_model.specs.Walks.{Reading, shown_object}
-use Rattle.store_record.specs.Keys.{Text}
+use Rattle.plan_ir.specs.store_model.Walks.{Reading, shown_object}
+use Rattle.plan_ir.specs.store_record.Keys.{Text}
 
 -- the tokens of members
 abbrev members_front : List (Text × Tree) → List Token

@@ -1,13 +1,13 @@
 -- Members of an object, as they are written one after the other.
 use Rattle.std.specs.Prelude.{ℕ, List, [], ◌∷◌, ◌++◌, map, codes}
-use Rattle.gql_plain.specs.ToJson.{compact, tree_tokens}
-use Rattle.gql_plain.specs.Tree.{Tree, truth, text, list, trees_of}
+use Rattle.plan_ir.specs.gql_plain.ToJson.{compact, tree_tokens}
+use Rattle.plan_ir.specs.gql_plain.Tree.{Tree, truth, text, list, trees_of}
 use Rattle.json.specs.Token as token
 use Rattle.json.specs.Token.{Token}
 use Rattle.relay_machine.specs.Printed.{line, number}
 use Rattle.relay_machine.specs.Refusals.{Refusal, code_of, name_of}
-use Rattle.store_model.specs.Walks.{Reading, shown_object}
-use Rattle.store_record.specs.Keys.{Text}
+use Rattle.plan_ir.specs.store_model.Walks.{Reading, shown_object}
+use Rattle.plan_ir.specs.store_record.Keys.{Text}
 
 -- the tokens of one member
 abbrev pub member_tokens : Text → Tree → List Token

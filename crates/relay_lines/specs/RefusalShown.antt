@@ -4,7 +4,7 @@ use Rattle.relay_lines.specs.declared.refusal.Limited.TheVariants as L
 use Rattle.relay_lines.specs.declared.refusal.Refusal.{Refusal}
 use Rattle.relay_lines.specs.declared.refusal.Refusal.TheVariants as R
 use Rattle.relay_machine.specs.Refusals as model
-use Rattle.schema_types.specs.Environments.{missing, unfit}
+use Rattle.plan_ir.specs.schema_types.Environments.{missing, unfit}
 
 abbrev pub limited_shown : Limited → model.Limited
 limited_shown L.Handles = model.handles

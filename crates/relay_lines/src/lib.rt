@@ -15,4 +15,5 @@ pub use lines::{
     watch_line,
 };
 pub use refusal::{Limited, Refusal};
+pub use store_show::Snapshot;
 pub use summary::summary_line;

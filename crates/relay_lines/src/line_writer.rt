@@ -1,28 +1,23 @@
 //! The text of one line, written a member at a time.
 ghost use Rattle.std.specs.Prelude.{◌≡◌, ◌≤◌, ◌+◌, ◌∷◌, ◌++◌, [], map, IfOk, OnOk};
-ghost use Rattle.gql_plain.specs.Shown.{tree_of};
-ghost use Rattle.gql_plain.specs.Tree.{truth, text, list, trees_of};
+ghost use Rattle.plan_ir.specs.gql_plain.Shown.{tree_of};
+ghost use Rattle.plan_ir.specs.gql_plain.Tree.{truth, text, list, trees_of};
 ghost use Rattle.json.specs.Print.{print};
 ghost use Rattle.json.specs.Token.{begin_object, end_object};
 ghost use Rattle.plan_ir.specs.ReaderMeaning.{plan_reads};
-ghost use Rattle.plan_order.specs.Ordered.{IsOrdered};
+ghost use Rattle.store_show.specs.plan_order.Ordered.{IsOrdered};
 ghost use Rattle.relay_lines.specs.Members.{member_tokens};
 ghost use Rattle.relay_machine.specs.Printed.{number};
 ghost use Rattle.relay_machine.specs.Refusals.{shown_field, shown_step};
-ghost use Rattle.store_model.specs.Walks.{reading, standings, type_of_record};
-ghost use Rattle.store_read.specs.Reading.{slots};
+ghost use Rattle.plan_ir.specs.store_model.Walks.{reading, standings, type_of_record};
+ghost use Rattle.store_show.specs.store_read.Reading.{slots};
 
 use crate::values::{write_borrowed, write_field, write_path, write_texts};
-use gql_plain::{Id, Ids, NoMemory, Plain, Words, write_plain};
 use json::Writer;
-use plan_ir::ReaderPlan;
-use schema_values::Env;
+use plan_ir::{Env, Field, Id, Ids, NoMemory, PathSteps, Plain, ReaderPlan, Words, write_plain};
 use std::alloc::Global;
 use std::marker::Model;
-use store_model::PathSteps;
-use store_record::Field;
-use store_show::{Seen, show};
-use store_source::RecordSource;
+use store_show::{RecordSource, Seen, show};
 
 /// The bytes that a line has room for at first: most lines need no more.
 const FIRST_ROOM: usize = 128;

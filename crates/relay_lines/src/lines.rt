@@ -1,23 +1,20 @@
 //! The printed lines.
 ghost use Rattle.std.specs.Prelude.{◌≡◌, ◌≤◌, ◌+◌, ◌++◌, ◌∷◌, [], IfOk};
-ghost use Rattle.gql_plain.specs.Tree.{text};
+ghost use Rattle.plan_ir.specs.gql_plain.Tree.{text};
 ghost use Rattle.plan_ir.specs.ReaderMeaning.{plan_reads};
-ghost use Rattle.plan_order.specs.Ordered.{IsOrdered};
+ghost use Rattle.store_show.specs.plan_order.Ordered.{IsOrdered};
 ghost use Rattle.relay_lines.specs.Members.{ordered_line, shown_members};
 ghost use Rattle.relay_lines.specs.RefusalShown.{refusal_shown};
 ghost use Rattle.relay_machine.specs.Printed as model;
-ghost use Rattle.store_model.specs.Walks.{reading, standings, type_of_record};
-ghost use Rattle.store_read.specs.Reading.{reading_of, slots};
+ghost use Rattle.plan_ir.specs.store_model.Walks.{reading, standings, type_of_record};
+ghost use Rattle.store_show.specs.store_read.Reading.{reading_of, slots};
 
 use crate::line_writer::LineWriter;
 use crate::refusal::Refusal;
 use crate::refused::{bare_line, limit_line, named_line, payload_line, variable_line};
-use gql_plain::{Id, Ids, NoMemory, Words};
-use plan_ir::ReaderPlan;
-use schema_values::Env;
+use plan_ir::{Env, Id, Ids, NoMemory, ReaderPlan, Words};
 use std::alloc::Global;
-use store_read::Snapshot;
-use store_source::RecordSource;
+use store_show::{RecordSource, Snapshot};
 
 /// The answer of an event that shows nothing: the event's name, and the number of the line.
 pub fn event_line(alloc: Global, name: &str, n: u64) -> Result<Words, NoMemory>

@@ -3,7 +3,7 @@ ghost use Rattle.std.specs.Prelude.{◌≡◌};
 ghost use Rattle.relay_lines.specs.RefusalShown.{limited_shown, refusal_shown};
 ghost use Rattle.relay_machine.specs.Refusals as model;
 
-use store_model::PayloadFault;
+use plan_ir::PayloadFault;
 
 /// What there may be no more of.
 #[derive(Clone, Copy, Debug)]

@@ -1,6 +1,6 @@
 //! The lines of refusals, by the further keys that they have.
 ghost use Rattle.std.specs.Prelude.{◌≡◌, ◌++◌, ◌∷◌, [], codes, map, IfOk};
-ghost use Rattle.gql_plain.specs.Tree.{text, list, trees_of};
+ghost use Rattle.plan_ir.specs.gql_plain.Tree.{text, list, trees_of};
 ghost use Rattle.relay_lines.specs.Members.{refused_with};
 ghost use Rattle.relay_lines.specs.RefusalShown.{limited_shown, refusal_shown};
 ghost use Rattle.relay_machine.specs.Printed.{number};
@@ -8,10 +8,8 @@ ghost use Rattle.relay_machine.specs.Refusals.{keys_of, limited_name, most, name
 
 use crate::line_writer::LineWriter;
 use crate::refusal::{Limited, Refusal};
-use gql_plain::{NoMemory, Words};
+use plan_ir::{Cause, Field, NoMemory, PathSteps, PayloadFault, Words};
 use std::alloc::Global;
-use store_model::{Cause, PathSteps, PayloadFault};
-use store_record::Field;
 
 /// The line of a refusal without further keys.
 pub(crate) fn bare_line(alloc: Global, refusal: Refusal<'_>, n: u64) -> Result<Words, NoMemory>

@@ -3,7 +3,7 @@ ghost use Rattle.std.specs.Prelude.{◌≡◌, ◌++◌, ◌∷◌, [], IfOk};
 ghost use Rattle.relay_machine.specs.Printed as model;
 
 use crate::line_writer::LineWriter;
-use gql_plain::{NoMemory, Words};
+use plan_ir::{NoMemory, Words};
 use std::alloc::Global;
 
 /// The summary of a script: how many bytes are written for it, how many lines it has, how many notices

@@ -1,14 +1,12 @@
 //! The values of members that are no plain trees: lists of ids, paths, and fields.
 ghost use Rattle.std.specs.Prelude.{◌≡◌, ◌++◌, map, OnOk};
-ghost use Rattle.gql_plain.specs.ToJson.{tree_tokens};
-ghost use Rattle.gql_plain.specs.Tree.{text, list, trees_of};
+ghost use Rattle.plan_ir.specs.gql_plain.ToJson.{tree_tokens};
+ghost use Rattle.plan_ir.specs.gql_plain.Tree.{text, list, trees_of};
 ghost use Rattle.relay_machine.specs.Refusals.{id_or_null, shown_field, shown_step};
-ghost use Rattle.store_record.specs.declared.field.Field.TheVariants.{Link, Links};
+ghost use Rattle.plan_ir.specs.store_record.declared.field.Field.TheVariants.{Link, Links};
 
-use gql_plain::{NoMemory, OptIds, Words, write_plain};
 use json::Writer;
-use store_model::PathStep;
-use store_record::Field;
+use plan_ir::{Field, NoMemory, OptIds, PathStep, Words, write_plain};
 
 /// Writes a list of texts.
 pub(crate) fn write_texts(out: &mut Writer, texts: &[Words]) -> Result<(), NoMemory>

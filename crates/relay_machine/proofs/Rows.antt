@@ -3,43 +3,43 @@ use Rattle.std.proofs.Common.{◌≡◌, refl, ℕ, List, [], ◌∷◌, Option,
 use Rattle.std.specs.FinMap.{gets}
 use Rattle.std.specs.Fmt.{digits}
 use Rattle.std.specs.Prelude.{cond, bytes_eq}
-use Rattle.gql_ast.specs.Sels as sels
-use Rattle.gql_ast.specs.Sels.{Sels}
-use Rattle.gql_ast.specs.Ty as ty
-use Rattle.gql_ast.specs.Value as v
-use Rattle.gql_ast.specs.declared.directive.Directive.{Directive}
-use Rattle.gql_ast.specs.declared.document.Definition.{Definition}
-use Rattle.gql_ast.specs.declared.document.Definition.TheVariants as D
-use Rattle.gql_ast.specs.declared.document.Kind.TheVariants as K
-use Rattle.gql_ast.specs.declared.member.FieldTree.{FieldTree}
-use Rattle.gql_ast.specs.declared.member.InputTree.{InputTree}
-use Rattle.gql_ast.specs.declared.schema.SchemaDef.TheVariants as S
-use Rattle.gql_ast.specs.declared.type_tree.TypeTree.{TypeTree}
-use Rattle.gql_ast.specs.declared.type_tree.TypeTree.TheVariants as T
-use Rattle.gql_ast.specs.declared.variable.VariableDef.{VariableDef}
-use Rattle.gql_lex.specs.Heads.{head}
-use Rattle.gql_lex.specs.Sources.{read as read_text}
-use Rattle.gql_plain.specs.Tree as t
+use Rattle.plan_ir.specs.gql_ast.Sels as sels
+use Rattle.plan_ir.specs.gql_ast.Sels.{Sels}
+use Rattle.plan_ir.specs.gql_ast.Ty as ty
+use Rattle.plan_ir.specs.gql_ast.Value as v
+use Rattle.plan_ir.specs.gql_ast.declared.directive.Directive.{Directive}
+use Rattle.plan_ir.specs.gql_ast.declared.document.Definition.{Definition}
+use Rattle.plan_ir.specs.gql_ast.declared.document.Definition.TheVariants as D
+use Rattle.plan_ir.specs.gql_ast.declared.document.Kind.TheVariants as K
+use Rattle.plan_ir.specs.gql_ast.declared.member.FieldTree.{FieldTree}
+use Rattle.plan_ir.specs.gql_ast.declared.member.InputTree.{InputTree}
+use Rattle.plan_ir.specs.gql_ast.declared.schema.SchemaDef.TheVariants as S
+use Rattle.plan_ir.specs.gql_ast.declared.type_tree.TypeTree.{TypeTree}
+use Rattle.plan_ir.specs.gql_ast.declared.type_tree.TypeTree.TheVariants as T
+use Rattle.plan_ir.specs.gql_ast.declared.variable.VariableDef.{VariableDef}
+use Rattle.plan_ir.specs.gql_lex.Heads.{head}
+use Rattle.plan_ir.specs.gql_lex.Sources.{read as read_text}
+use Rattle.plan_ir.specs.gql_plain.Tree as t
 use Rattle.plan_ir.specs.Expansion.{operation_named}
-use Rattle.gql_plain.specs.declared.plain.Plain.TheVariants.{Text as Words}
+use Rattle.plan_ir.specs.gql_plain.declared.plain.Plain.TheVariants.{Text as Words}
 use Rattle.relay_machine.specs.Machine.{Handle, Project, State, Step, Watch, accept, beginning, confirmed, definitions_in, documents_of, refuse, slots_of, step_event, step_line, view}
 use Rattle.relay_machine.specs.Printed.{notice_line, read_line}
 use Rattle.relay_machine.specs.Refusals.{handles, layers, watches, too_many}
 use Rattle.relay_model.specs.Readings.{operation_reads}
-use Rattle.schema_tables.specs.Types.{Text, Defs}
-use Rattle.schema_types.specs.NameRules.{operations}
-use Rattle.schema_types.specs.Sites.{OperationAt}
+use Rattle.plan_ir.specs.schema_tables.Types.{Text, Defs}
+use Rattle.plan_ir.specs.schema_types.NameRules.{operations}
+use Rattle.plan_ir.specs.schema_types.Sites.{OperationAt}
 use Rattle.serde_json.proofs.OnLiterals.{serde_json_on_literals}
 use Rattle.serde_json.specs.Data as J
-use Rattle.store_model.specs.Events.{Event, retain, release, payload, update, begin, finish, revert, read, watch, unwatch, collect, too_long, not_json, no_event, no_commands}
-use Rattle.store_model.specs.declared.command.Command.TheVariants as C
-use Rattle.store_model.specs.declared.entry.Entry.{Entry}
-use Rattle.store_model.specs.declared.facts.Fact.{Fact}
-use Rattle.store_record.specs.declared.field.Field.{Field}
-use Rattle.store_record.specs.declared.field.Field.TheVariants.{Leaf, Link}
-use Rattle.store_record.specs.declared.record.Slot.{Slot}
-use Rattle.store_record.specs.declared.record.Slot.TheVariants.{Alive}
-use Rattle.store_model.specs.Walks.{Reading, Slots, reading}
+use Rattle.plan_ir.specs.store_model.Events.{Event, retain, release, payload, update, begin, finish, revert, read, watch, unwatch, collect, too_long, not_json, no_event, no_commands}
+use Rattle.plan_ir.specs.store_model.declared.command.Command.TheVariants as C
+use Rattle.plan_ir.specs.store_model.declared.entry.Entry.{Entry}
+use Rattle.plan_ir.specs.store_model.declared.facts.Fact.{Fact}
+use Rattle.plan_ir.specs.store_record.declared.field.Field.{Field}
+use Rattle.plan_ir.specs.store_record.declared.field.Field.TheVariants.{Leaf, Link}
+use Rattle.plan_ir.specs.store_record.declared.record.Slot.{Slot}
+use Rattle.plan_ir.specs.store_record.declared.record.Slot.TheVariants.{Alive}
+use Rattle.plan_ir.specs.store_model.Walks.{Reading, Slots, reading}
 
 -- ---- the schema: `type Query{me:User node(id:ID!):User} type User{id:ID! name:String age:Int friend:User}`
 

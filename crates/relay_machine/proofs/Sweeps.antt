@@ -7,12 +7,12 @@ use Rattle.std.specs.Cmp.Lexicographic.{slice_cmp, nat_list_eq_equiv}
 use Rattle.std.specs.FinMap.{IsAntisymmetric, keys, contains_key-keys, get-retain_keys, slice_cmp-IsAntisymmetric, nat_cmp-IsAntisymmetric}
 use Rattle.std.specs.List.{list_any}
 use Rattle.std.specs.Ordering.{eq_by_cmp, nat_cmp}
-use Rattle.gql_plain.specs.Order.{has_text}
+use Rattle.plan_ir.specs.gql_plain.Order.{has_text}
 use Rattle.relay_machine.specs.Machine.{Confirmation, Project, confirm_one, fold_confirmed}
-use Rattle.schema_tables.specs.Types.{Text}
-use Rattle.store_model.specs.Records.{Records, slot_at}
-use Rattle.store_model.specs.Sweeps.{dropped, sweep}
-use Rattle.store_record.specs.declared.record.Slot.{Slot}
+use Rattle.plan_ir.specs.schema_tables.Types.{Text}
+use Rattle.plan_ir.specs.store_model.Records.{Records, slot_at}
+use Rattle.plan_ir.specs.store_model.Sweeps.{dropped, sweep}
+use Rattle.plan_ir.specs.store_record.declared.record.Slot.{Slot}
 
 -- ---- slots
 

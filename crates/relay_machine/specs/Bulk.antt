@@ -4,7 +4,7 @@ use Rattle.std.specs.Fmt.{decimal}
 use Rattle.std.specs.List.{count_by}
 use Rattle.relay_machine.specs.Machine.{Project, State, beginning, output, step}
 use Rattle.relay_machine.specs.Printed.{summary_line}
-use Rattle.schema_tables.specs.Types.{Text}
+use Rattle.plan_ir.specs.schema_tables.Types.{Text}
 
 -- ---- the project
 

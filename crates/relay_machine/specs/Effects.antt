@@ -1,14 +1,14 @@
 -- What a line does: the entries that it confirms, those of the layers that are live after it, and the reads of its answer.
 use Rattle.std.specs.Prelude.{List, [], ◌∷◌, map, drop, length, Option, Some, None}
-use Rattle.relay_dirs.specs.Locals.{locals_of}
+use Rattle.plan_ir.specs.relay_dirs.Locals.{locals_of}
 use Rattle.relay_machine.specs.Machine.{Confirmation, confirmed, swept, Handle, Layer, Project, State, definitions_in, fragment_read, handle_named, operation_read, scope_given, view}
-use Rattle.schema_types.specs.NameRules.{fragment_named, fragments}
-use Rattle.schema_types.specs.Sites.{FragmentAt}
-use Rattle.store_model.specs.Events as e
-use Rattle.store_model.specs.Events.{Event}
-use Rattle.store_model.specs.Records.{Records}
-use Rattle.store_model.specs.Walks.{Found}
-use Rattle.store_model.specs.declared.entry.Entry.{Entry}
+use Rattle.plan_ir.specs.schema_types.NameRules.{fragment_named, fragments}
+use Rattle.plan_ir.specs.schema_types.Sites.{FragmentAt}
+use Rattle.plan_ir.specs.store_model.Events as e
+use Rattle.plan_ir.specs.store_model.Events.{Event}
+use Rattle.plan_ir.specs.store_model.Records.{Records}
+use Rattle.plan_ir.specs.store_model.Walks.{Found}
+use Rattle.plan_ir.specs.store_model.declared.entry.Entry.{Entry}
 
 -- ---- entries
 

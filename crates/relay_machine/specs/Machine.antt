@@ -3,42 +3,42 @@
 use Rattle.std.specs.Prelude.{ℕ, ◌+◌, ◌-◌, List, [], ◌∷◌, ◌++◌, map, drop, length, take, Bool, true, false, not, ◌&&◌, ◌||◌, ◌==◌, cond, codes, bytes_eq, Option, Some, None, is_some}
 use Rattle.std.specs.Bool.{beq}
 use Rattle.std.specs.List.{filter, list_any}
-use Rattle.gql_ast.specs.Value.{Val}
-use Rattle.gql_ast.specs.declared.document.Document.{Document}
-use Rattle.gql_ast.specs.declared.place.Placed.{Placed}
+use Rattle.plan_ir.specs.gql_ast.Value.{Val}
+use Rattle.plan_ir.specs.gql_ast.declared.document.Document.{Document}
+use Rattle.plan_ir.specs.gql_ast.declared.place.Placed.{Placed}
 use Rattle.plan_expand.specs.Answers as expansions
 use Rattle.plan_ir.specs.Expansion as plans
 use Rattle.plan_ir.specs.Expansion.{operation_named, variable_trees}
-use Rattle.relay_dirs.specs.Locals.{Local, locals_of}
+use Rattle.plan_ir.specs.relay_dirs.Locals.{Local, locals_of}
 use Rattle.relay_machine.specs.Printed.{collect_line, event_line, notice_line, read_line, refusal_line, watch_line}
 use Rattle.relay_machine.specs.Refusals.{Refusal, not_json, event_shape, update_shape, line_too_long, unknown_operation, unknown_fragment, unknown_handle, handle_taken, handle_in_use, unknown_layer, layer_taken, unknown_watch, watch_taken, unknown_type, variables, payload, too_many, handles, layers, watches, most}
 use Rattle.relay_model.specs.Readings.{fragment_reads, no_place, operation_reads}
 use Rattle.relay_model.specs.Reaches.{operation_reaches}
 use Rattle.relay_model.specs.Responses.{operation_says}
-use Rattle.schema_rules.specs.Rules.{is_object}
-use Rattle.schema_tables.specs.Fits.{is_non_null}
-use Rattle.schema_tables.specs.Types.{Text, Defs, root}
-use Rattle.schema_types.specs.DocumentRules.{trees_of}
-use Rattle.schema_types.specs.Environments.{Failure, Values, environment, evaluation, first_failure, first_of, fits, missing, unfit, with_pair}
-use Rattle.schema_types.specs.NameRules.{fragment_named, fragments, operations}
-use Rattle.schema_types.specs.Sites.{DefinitionAt, FragmentAt, OperationAt, all_definitions}
-use Rattle.gql_plain.specs.Equal.{tree_eq}
-use Rattle.gql_plain.specs.Order.{has_text, member_at}
-use Rattle.gql_plain.specs.Tree as t
-use Rattle.gql_plain.specs.Tree.{Tree}
+use Rattle.plan_ir.specs.schema_rules.Rules.{is_object}
+use Rattle.plan_ir.specs.schema_tables.Fits.{is_non_null}
+use Rattle.plan_ir.specs.schema_tables.Types.{Text, Defs, root}
+use Rattle.plan_ir.specs.schema_types.DocumentRules.{trees_of}
+use Rattle.plan_ir.specs.schema_types.Environments.{Failure, Values, environment, evaluation, first_failure, first_of, fits, missing, unfit, with_pair}
+use Rattle.plan_ir.specs.schema_types.NameRules.{fragment_named, fragments, operations}
+use Rattle.plan_ir.specs.schema_types.Sites.{DefinitionAt, FragmentAt, OperationAt, all_definitions}
+use Rattle.plan_ir.specs.gql_plain.Equal.{tree_eq}
+use Rattle.plan_ir.specs.gql_plain.Order.{has_text, member_at}
+use Rattle.plan_ir.specs.gql_plain.Tree as t
+use Rattle.plan_ir.specs.gql_plain.Tree.{Tree}
 use Rattle.serde_json.specs.Data as J
-use Rattle.store_model.specs.Entries.{apply, fold_entries}
-use Rattle.store_model.specs.Events as e
-use Rattle.store_model.specs.Events.{Event, Line, line_of}
-use Rattle.store_model.specs.Records.{Records, no_records, slot_at}
-use Rattle.store_model.specs.Said.{Said}
-use Rattle.store_model.specs.Sweeps.{dropped, sweep}
-use Rattle.store_model.specs.Verdicts.{Verdict, refusal, content}
-use Rattle.store_model.specs.Walks.{Found, Reading, Slots, reading}
-use Rattle.store_model.specs.declared.command.Command.{Command}
-use Rattle.store_model.specs.declared.command.Command.TheVariants as C
-use Rattle.store_model.specs.declared.entry.Entry.{Entry}
-use Rattle.store_record.specs.Keys as keys
+use Rattle.plan_ir.specs.store_model.Entries.{apply, fold_entries}
+use Rattle.plan_ir.specs.store_model.Events as e
+use Rattle.plan_ir.specs.store_model.Events.{Event, Line, line_of}
+use Rattle.plan_ir.specs.store_model.Records.{Records, no_records, slot_at}
+use Rattle.plan_ir.specs.store_model.Said.{Said}
+use Rattle.plan_ir.specs.store_model.Sweeps.{dropped, sweep}
+use Rattle.plan_ir.specs.store_model.Verdicts.{Verdict, refusal, content}
+use Rattle.plan_ir.specs.store_model.Walks.{Found, Reading, Slots, reading}
+use Rattle.plan_ir.specs.store_model.declared.command.Command.{Command}
+use Rattle.plan_ir.specs.store_model.declared.command.Command.TheVariants as C
+use Rattle.plan_ir.specs.store_model.declared.entry.Entry.{Entry}
+use Rattle.plan_ir.specs.store_record.Keys as keys
 
 -- ---- projects and states
 

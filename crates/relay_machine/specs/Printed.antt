@@ -1,10 +1,10 @@
 -- The printed lines: compact JSON with keys in byte order, each ended by LF (this project's own).
 use Rattle.std.specs.Prelude.{ℕ, Bool, pos, List, [], ◌∷◌, ◌++◌, map, codes}
-use Rattle.gql_plain.specs.ToJson.{compact}
-use Rattle.gql_plain.specs.Tree.{Tree, truth, whole, text, list, trees_of}
+use Rattle.plan_ir.specs.gql_plain.ToJson.{compact}
+use Rattle.plan_ir.specs.gql_plain.Tree.{Tree, truth, whole, text, list, trees_of}
 use Rattle.relay_machine.specs.Refusals.{Refusal, code_of, keys_of, name_of}
-use Rattle.store_model.specs.Walks.{Reading, Shown, shown_object, with_value}
-use Rattle.store_record.specs.Keys.{Text}
+use Rattle.plan_ir.specs.store_model.Walks.{Reading, Shown, shown_object, with_value}
+use Rattle.plan_ir.specs.store_record.Keys.{Text}
 
 -- members put in byte order of their keys
 abbrev pub in_order : List (Text × Tree) → Shown

@@ -1,16 +1,16 @@
 -- Why a line is refused: each refusal has a code, a name, and further keys (this project's own).
 use Rattle.std.specs.Prelude.{ℕ, List, [], ◌∷◌, map, codes, pos, Option, Some, None}
-use Rattle.gql_plain.specs.Shown.{tree_of}
-use Rattle.gql_plain.specs.Tree.{Tree, null, text, whole, list, object, trees_of, members_of}
-use Rattle.schema_types.specs.Environments.{Failure, missing, unfit}
-use Rattle.store_model.specs.declared.payload_fault.Cause.{Cause}
-use Rattle.store_model.specs.declared.payload_fault.Cause.TheVariants.{NoData, Shape, NotWhole, IdShape, ReservedId, Typename, Conflict}
-use Rattle.store_model.specs.declared.payload_fault.PathStep.{PathStep}
-use Rattle.store_model.specs.declared.payload_fault.PathStep.TheVariants.{Key, Index}
-use Rattle.store_model.specs.declared.payload_fault.PayloadFault.{PayloadFault}
-use Rattle.store_record.specs.Keys.{Text}
-use Rattle.store_record.specs.declared.field.Field.{Field}
-use Rattle.store_record.specs.declared.field.Field.TheVariants.{Leaf, Link, Links}
+use Rattle.plan_ir.specs.gql_plain.Shown.{tree_of}
+use Rattle.plan_ir.specs.gql_plain.Tree.{Tree, null, text, whole, list, object, trees_of, members_of}
+use Rattle.plan_ir.specs.schema_types.Environments.{Failure, missing, unfit}
+use Rattle.plan_ir.specs.store_model.declared.payload_fault.Cause.{Cause}
+use Rattle.plan_ir.specs.store_model.declared.payload_fault.Cause.TheVariants.{NoData, Shape, NotWhole, IdShape, ReservedId, Typename, Conflict}
+use Rattle.plan_ir.specs.store_model.declared.payload_fault.PathStep.{PathStep}
+use Rattle.plan_ir.specs.store_model.declared.payload_fault.PathStep.TheVariants.{Key, Index}
+use Rattle.plan_ir.specs.store_model.declared.payload_fault.PayloadFault.{PayloadFault}
+use Rattle.plan_ir.specs.store_record.Keys.{Text}
+use Rattle.plan_ir.specs.store_record.declared.field.Field.{Field}
+use Rattle.plan_ir.specs.store_record.declared.field.Field.TheVariants.{Leaf, Link, Links}
 
 -- what there may be no more of
 pub data Limited : Type 0 where

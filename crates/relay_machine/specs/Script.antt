@@ -1,7 +1,7 @@
 -- The lines of a script.
 use Rattle.std.specs.Prelude.{◌+◌, List, [], ◌∷◌, ◌++◌, map, take, Bool, ◌==◌, cond}
-use Rattle.store_record.specs.Keys.{Text}
-use Rattle.gql_plain.specs.Limits.{max_line}
+use Rattle.plan_ir.specs.store_record.Keys.{Text}
+use Rattle.plan_ir.specs.gql_plain.Limits.{max_line}
 
 -- a last part that no LF ends is a line where the script has ended and the part is not empty
 abbrev pub last_line : Bool → Text → List Text

@@ -2,41 +2,41 @@
 use Rattle.std.proofs.Common.{◌≡◌, refl, ℕ, List, [], ◌∷◌, Option, Some, None, codes, true, false}
 use Rattle.std.specs.Fmt.{digits}
 use Rattle.std.specs.Prelude.{pos}
-use Rattle.gql_ast.specs.Sels as sels
-use Rattle.gql_ast.specs.Sels.{Sels}
-use Rattle.gql_ast.specs.Ty as ty
-use Rattle.gql_ast.specs.Value as v
-use Rattle.gql_ast.specs.Value.{Val}
-use Rattle.gql_ast.specs.declared.directive.Directive.{Directive}
-use Rattle.gql_ast.specs.declared.document.Kind.TheVariants as K
-use Rattle.gql_ast.specs.declared.member.FieldTree.{FieldTree}
-use Rattle.gql_ast.specs.declared.member.InputTree.{InputTree}
-use Rattle.gql_ast.specs.declared.place.FilePlace.{FilePlace}
-use Rattle.gql_ast.specs.declared.schema.SchemaDef.TheVariants as S
-use Rattle.gql_ast.specs.declared.type_tree.TypeTree.{TypeTree}
-use Rattle.gql_ast.specs.declared.type_tree.TypeTree.TheVariants as T
-use Rattle.gql_lex.specs.Heads.{head}
-use Rattle.gql_lex.specs.Sources.{read}
-use Rattle.gql_plain.specs.Tree as t
-use Rattle.gql_plain.specs.declared.plain.Plain.TheVariants.{Null, Int, Text as Words}
+use Rattle.plan_ir.specs.gql_ast.Sels as sels
+use Rattle.plan_ir.specs.gql_ast.Sels.{Sels}
+use Rattle.plan_ir.specs.gql_ast.Ty as ty
+use Rattle.plan_ir.specs.gql_ast.Value as v
+use Rattle.plan_ir.specs.gql_ast.Value.{Val}
+use Rattle.plan_ir.specs.gql_ast.declared.directive.Directive.{Directive}
+use Rattle.plan_ir.specs.gql_ast.declared.document.Kind.TheVariants as K
+use Rattle.plan_ir.specs.gql_ast.declared.member.FieldTree.{FieldTree}
+use Rattle.plan_ir.specs.gql_ast.declared.member.InputTree.{InputTree}
+use Rattle.plan_ir.specs.gql_ast.declared.place.FilePlace.{FilePlace}
+use Rattle.plan_ir.specs.gql_ast.declared.schema.SchemaDef.TheVariants as S
+use Rattle.plan_ir.specs.gql_ast.declared.type_tree.TypeTree.{TypeTree}
+use Rattle.plan_ir.specs.gql_ast.declared.type_tree.TypeTree.TheVariants as T
+use Rattle.plan_ir.specs.gql_lex.Heads.{head}
+use Rattle.plan_ir.specs.gql_lex.Sources.{read}
+use Rattle.plan_ir.specs.gql_plain.Tree as t
+use Rattle.plan_ir.specs.gql_plain.declared.plain.Plain.TheVariants.{Null, Int, Text as Words}
 use Rattle.plan_ir.specs.Expansion.{Project}
 use Rattle.relay_model.specs.Collection.{Part, Setting, collect, part_of}
 use Rattle.relay_model.specs.Responses.{operation_says}
-use Rattle.schema_tables.specs.Types.{Text, Defs}
-use Rattle.schema_types.specs.Environments.{Values}
-use Rattle.schema_types.specs.Sites.{ArgumentAt, DirectiveAt, FragmentAt, OperationAt}
+use Rattle.plan_ir.specs.schema_tables.Types.{Text, Defs}
+use Rattle.plan_ir.specs.schema_types.Environments.{Values}
+use Rattle.plan_ir.specs.schema_types.Sites.{ArgumentAt, DirectiveAt, FragmentAt, OperationAt}
 use Rattle.serde_json.proofs.OnLiterals.{serde_json_on_literals}
 use Rattle.serde_json.specs.Data as J
-use Rattle.store_model.specs.Items.{Ask, Item, Below, asked, pointed, leaf, one}
-use Rattle.store_model.specs.Verdicts.{Verdict, content, refusal}
-use Rattle.store_model.specs.declared.facts.Fact.{Fact}
-use Rattle.store_model.specs.declared.facts.HandleFact.{HandleFact}
-use Rattle.store_model.specs.declared.payload_fault.Cause.{Cause}
-use Rattle.store_model.specs.declared.payload_fault.Cause.TheVariants.{NoData, Shape, NotWhole, IdShape, ReservedId, Typename, Conflict}
-use Rattle.store_model.specs.declared.payload_fault.PathStep.{PathStep}
-use Rattle.store_model.specs.declared.payload_fault.PathStep.TheVariants.{Key, Index}
-use Rattle.store_record.specs.declared.field.Field.{Field}
-use Rattle.store_record.specs.declared.field.Field.TheVariants.{Leaf, Link, Links}
+use Rattle.plan_ir.specs.store_model.Items.{Ask, Item, Below, asked, pointed, leaf, one}
+use Rattle.plan_ir.specs.store_model.Verdicts.{Verdict, content, refusal}
+use Rattle.plan_ir.specs.store_model.declared.facts.Fact.{Fact}
+use Rattle.plan_ir.specs.store_model.declared.facts.HandleFact.{HandleFact}
+use Rattle.plan_ir.specs.store_model.declared.payload_fault.Cause.{Cause}
+use Rattle.plan_ir.specs.store_model.declared.payload_fault.Cause.TheVariants.{NoData, Shape, NotWhole, IdShape, ReservedId, Typename, Conflict}
+use Rattle.plan_ir.specs.store_model.declared.payload_fault.PathStep.{PathStep}
+use Rattle.plan_ir.specs.store_model.declared.payload_fault.PathStep.TheVariants.{Key, Index}
+use Rattle.plan_ir.specs.store_record.declared.field.Field.{Field}
+use Rattle.plan_ir.specs.store_record.declared.field.Field.TheVariants.{Leaf, Link, Links}
 
 -- ---- the schema
 

@@ -3,26 +3,26 @@
 -- not masked, and gives a pointer for each other one.
 use Rattle.std.specs.Prelude.{ℕ, zero, suc, Bool, true, false, ◌||◌, ◌&&◌, cond, List, [], ◌∷◌, ◌++◌, map, codes, Option, Some, None, option_map, bytes_eq}
 use Rattle.std.specs.List.{filter, list_any}
-use Rattle.gql_ast.specs.Sels as sels
-use Rattle.gql_ast.specs.Sels.{Sels}
-use Rattle.gql_ast.specs.Ty.{Ty}
-use Rattle.gql_ast.specs.Value.{Val, truth}
-use Rattle.gql_ast.specs.declared.directive.Directive.{Directive}
-use Rattle.gql_ast.specs.declared.place.FilePlace.{FilePlace}
-use Rattle.gql_graph.specs.Rules.{each}
-use Rattle.gql_plain.specs.declared.ids.Conn.{Conn}
+use Rattle.plan_ir.specs.gql_ast.Sels as sels
+use Rattle.plan_ir.specs.gql_ast.Sels.{Sels}
+use Rattle.plan_ir.specs.gql_ast.Ty.{Ty}
+use Rattle.plan_ir.specs.gql_ast.Value.{Val, truth}
+use Rattle.plan_ir.specs.gql_ast.declared.directive.Directive.{Directive}
+use Rattle.plan_ir.specs.gql_ast.declared.place.FilePlace.{FilePlace}
+use Rattle.plan_ir.specs.gql_graph.Rules.{each}
+use Rattle.plan_ir.specs.gql_plain.declared.ids.Conn.{Conn}
 use Rattle.plan_ir.specs.Additions.{is_abstract, type_or}
 use Rattle.plan_ir.specs.Expansion.{Project, response_key, spreads_in}
 use Rattle.plan_ir.specs.Substitution.{Arguments, arguments_in}
 use Rattle.plan_text.specs.Collecting.{applies, environment_inside, is_left_out, with_additions, with_locals}
-use Rattle.relay_dirs.specs.Connections.{connection_among, value_of_name}
-use Rattle.relay_dirs.specs.Locals.{locals_of}
-use Rattle.schema_tables.specs.Fits.{is_list_type}
-use Rattle.schema_tables.specs.Types.{Text, Defs, base_of, has_id, is_composite, possible, root}
-use Rattle.schema_types.specs.Environments.{Values, arguments_in_environment}
-use Rattle.schema_types.specs.NameRules.{fragment_named}
-use Rattle.schema_types.specs.Sites.{DirectiveAt, FragmentAt, OperationAt, field_type}
-use Rattle.store_model.specs.Items.{Ask, Asked, Below, Collect, Connection, Form, Item, Pointer, asked, pointed, typename, leaf, one, many}
+use Rattle.plan_ir.specs.relay_dirs.Connections.{connection_among, value_of_name}
+use Rattle.plan_ir.specs.relay_dirs.Locals.{locals_of}
+use Rattle.plan_ir.specs.schema_tables.Fits.{is_list_type}
+use Rattle.plan_ir.specs.schema_tables.Types.{Text, Defs, base_of, has_id, is_composite, possible, root}
+use Rattle.plan_ir.specs.schema_types.Environments.{Values, arguments_in_environment}
+use Rattle.plan_ir.specs.schema_types.NameRules.{fragment_named}
+use Rattle.plan_ir.specs.schema_types.Sites.{DirectiveAt, FragmentAt, OperationAt, field_type}
+use Rattle.plan_ir.specs.store_model.Items.{Ask, Asked, Below, Collect, Connection, Form, Item, Pointer, asked, pointed, typename, leaf, one, many}
 
 -- ---- what stands under a field of an object type
 

@@ -1,18 +1,18 @@
 -- Reach along the syntax trees of documents: the ids at which a walk along an operation's whole form stands, with all spreads entered and the
 -- fields that are added.
 use Rattle.std.specs.Prelude.{ℕ, zero, suc, ◌+◌, List, [], ◌∷◌, Some}
-use Rattle.gql_ast.specs.Sels.{Sels}
-use Rattle.gql_ast.specs.declared.place.FilePlace.{FilePlace}
+use Rattle.plan_ir.specs.gql_ast.Sels.{Sels}
+use Rattle.plan_ir.specs.gql_ast.declared.place.FilePlace.{FilePlace}
 use Rattle.plan_ir.specs.Expansion.{Project, name_or}
 use Rattle.relay_model.specs.Collection.{Part, Setting, collect, part_of, selections_of}
 use Rattle.relay_model.specs.Readings.{depth_inside, depth_with}
 use Rattle.relay_model.specs.Responses.{whole_setting}
-use Rattle.schema_tables.specs.Types.{Text, root}
-use Rattle.schema_types.specs.Environments.{Values}
-use Rattle.schema_types.specs.NameRules.{fragment_named}
-use Rattle.schema_types.specs.Sites.{OperationAt}
-use Rattle.store_model.specs.Reaches.{reach_at}
-use Rattle.store_model.specs.Walks.{Slots, type_of_record}
+use Rattle.plan_ir.specs.schema_tables.Types.{Text, root}
+use Rattle.plan_ir.specs.schema_types.Environments.{Values}
+use Rattle.plan_ir.specs.schema_types.NameRules.{fragment_named}
+use Rattle.plan_ir.specs.schema_types.Sites.{OperationAt}
+use Rattle.plan_ir.specs.store_model.Reaches.{reach_at}
+use Rattle.plan_ir.specs.store_model.Walks.{Slots, type_of_record}
 
 -- how many records the walk stands at one below another, the first one not counted: at most as many as sets stand in one another; so many
 -- spreads may still be entered, one in another

@@ -1,15 +1,15 @@
 -- Reading along the syntax trees of documents, by the masked form of collection: what an operation shows at an id, and what a fragment does.
 use Rattle.std.specs.Prelude.{ℕ, zero, suc, ◌+◌, false, List, [], ◌∷◌, ◌++◌, codes, Option, Some, None, max}
-use Rattle.gql_ast.specs.Sels as sels
-use Rattle.gql_ast.specs.Sels.{Sels}
-use Rattle.gql_ast.specs.declared.place.FilePlace.{FilePlace}
+use Rattle.plan_ir.specs.gql_ast.Sels as sels
+use Rattle.plan_ir.specs.gql_ast.Sels.{Sels}
+use Rattle.plan_ir.specs.gql_ast.declared.place.FilePlace.{FilePlace}
 use Rattle.plan_ir.specs.Expansion.{Project, name_or, spreads_in}
 use Rattle.relay_model.specs.Collection.{Part, Setting, collect, part_of}
-use Rattle.schema_tables.specs.Types.{Text, possible, root}
-use Rattle.schema_types.specs.Environments.{Values, with_pair}
-use Rattle.schema_types.specs.NameRules.{fragment_named}
-use Rattle.schema_types.specs.Sites.{FragmentAt, OperationAt}
-use Rattle.store_model.specs.Walks.{Found, Slots, read_at, type_of_record}
+use Rattle.plan_ir.specs.schema_tables.Types.{Text, possible, root}
+use Rattle.plan_ir.specs.schema_types.Environments.{Values, with_pair}
+use Rattle.plan_ir.specs.schema_types.NameRules.{fragment_named}
+use Rattle.plan_ir.specs.schema_types.Sites.{FragmentAt, OperationAt}
+use Rattle.plan_ir.specs.store_model.Walks.{Found, Slots, read_at, type_of_record}
 
 -- a place for what is added; by the masked form nothing is
 abbrev pub no_place : FilePlace

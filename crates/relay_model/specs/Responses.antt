@@ -1,13 +1,13 @@
 -- What a response says to an operation of the documents: its first fault, or its facts and pages.
 use Rattle.std.specs.Prelude.{List, [], ◌∷◌, true}
-use Rattle.gql_ast.specs.declared.place.FilePlace.{FilePlace}
+use Rattle.plan_ir.specs.gql_ast.declared.place.FilePlace.{FilePlace}
 use Rattle.plan_ir.specs.Expansion.{Project, name_or}
 use Rattle.relay_model.specs.Collection.{Setting, collect, part_of}
-use Rattle.schema_tables.specs.Types.{root}
-use Rattle.schema_types.specs.Environments.{Values}
-use Rattle.schema_types.specs.Sites.{OperationAt}
+use Rattle.plan_ir.specs.schema_tables.Types.{root}
+use Rattle.plan_ir.specs.schema_types.Environments.{Values}
+use Rattle.plan_ir.specs.schema_types.Sites.{OperationAt}
 use Rattle.serde_json.specs.Data as J
-use Rattle.store_model.specs.Verdicts.{Verdict, says}
+use Rattle.plan_ir.specs.store_model.Verdicts.{Verdict, says}
 
 -- by the whole form
 abbrev pub whole_setting : Project → FilePlace → Values → Setting

@@ -1,16 +1,16 @@
 -- What is written of artifact lines, one definition after another.
 use Rattle.std.proofs.Common.{◌≡◌, ◌+◌, ◌<◌, ◌++◌, ◌∷◌, ℕ, [], List, map, length, get_or, take, drop, drop-cons, add-one, refl, sym, ap, inl, inr, ◌∙◌, append_assoc}
 use Rattle.std.proofs.lemmas.List.{take-append-drop}
-use Rattle.gql_ast.specs.declared.document.Document.{Document}
-use Rattle.gql_ast.specs.declared.place.Placed.{Placed}
-use Rattle.gql_graph.specs.Rules.{each}
+use Rattle.plan_ir.specs.gql_ast.declared.document.Document.{Document}
+use Rattle.plan_ir.specs.gql_ast.declared.place.Placed.{Placed}
+use Rattle.plan_ir.specs.gql_graph.Rules.{each}
 use Rattle.plan_project.specs.Expansions.{line_lists, lines_at}
-use Rattle.plan_expand.specs.Answers.{definitions_in}
-use Rattle.schema_tables.specs.Types.{Text}
+use Rattle.relay_machine.specs.plan_expand.Answers.{definitions_in}
+use Rattle.plan_ir.specs.schema_tables.Types.{Text}
 use Rattle.relay_run.specs.Answers.{EndsLine}
 use Rattle.relay_run.specs.Output.{artifacts_text, text_of_lines}
 use Rattle.relay_run.proofs.Written.{both_end}
-use Rattle.schema_tables.specs.Types.{Defs}
+use Rattle.plan_ir.specs.schema_tables.Types.{Defs}
 
 -- the lines of several definitions
 abbrev pub text_of_lists : List (List Text) → Text

@@ -3,7 +3,7 @@ use Rattle.std.proofs.Common.{◌≡◌, ℕ, suc, ◌+◌, ◌-◌, ◌<◌, �
 use Rattle.std.proofs.lemmas.List.Sums.{sum_by-append}
 use Rattle.relay_machine.specs.Bulk.{Bulk, begun, bulk_lines, line_count, lines_from, next_bulk, next_line, refusals_from}
 use Rattle.relay_machine.specs.Machine.{Project, State, beginning, output_from, step}
-use Rattle.schema_tables.specs.Types.{Text}
+use Rattle.plan_ir.specs.schema_tables.Types.{Text}
 
 -- the next line of so many
 next_of : (b : Bulk) (count n : ℕ) → n < count → lines_from b (count - n) ≡ next_line b ∷ lines_from (next_bulk b) (count - (n + 1))

@@ -5,7 +5,7 @@ use Rattle.std.proofs.lemmas.Bool.{false≢true}
 use Rattle.std.proofs.lemmas.List.{take_all}
 use Rattle.relay_io.specs.Streams.{append, prepend}
 use Rattle.relay_io.proofs.Streaming.{append-none}
-use Rattle.schema_tables.specs.Types.{Text}
+use Rattle.plan_ir.specs.schema_tables.Types.{Text}
 use Rattle.relay_machine.specs.Machine.{Project}
 use Rattle.relay_machine.specs.Printed.{project_fault}
 use Rattle.relay_run.specs.Answers.{unknown, refused, accepted, due, AnsweringBy, Ran, EndsLine, IsWhole}

@@ -5,7 +5,7 @@ use Rattle.std.proofs.lemmas.Bool.{leb-true, le-leb}
 use Rattle.std.proofs.lemmas.List.{length_push}
 use Rattle.plan_project.specs.Verdicts as plan
 use Rattle.relay_io.specs.Files.{file_of, GivesFile, IsAbsent, IsTooLong}
-use Rattle.schema_tables.specs.Types.{Text}
+use Rattle.plan_ir.specs.schema_tables.Types.{Text}
 use Rattle.relay_run.specs.Files.{Files, Contents, absent, too_long, readable, within, take_file, documents_from, contents_under, max_file, max_all}
 use Rattle.relay_run.specs.Reads.{GivesDocuments, GivesFiles, IsDocumentAbsent, GoesOn, IsFileClosedBy, AreClosedBy, Hold, AreRead, IsFirstAbsentUnder, AreUnreadBy}
 use Rattle.relay_run.specs.declared.files.Closed.{Closed}

@@ -6,7 +6,7 @@ use Rattle.relay_io.specs.Streams.{append}
 use Rattle.relay_run.specs.Answers.{Wrote}
 use Rattle.relay_run.specs.declared.status.Status.{Status}
 use Rattle.relay_run.specs.declared.status.Status.TheVariants.{Done, WriteFault, NoMemory}
-use Rattle.schema_tables.specs.Types.{Text}
+use Rattle.plan_ir.specs.schema_tables.Types.{Text}
 
 no_memory : NoMemory ≡ Done → ⊥
 no_memory e = cc

@@ -1,7 +1,7 @@
 -- The project that files are, or its fault, as they were read.
 use Rattle.std.proofs.Common.{◌≡◌, ℕ, codes, List, [], ◌∷◌, Option, Some, None, refl, sym, ap, subst, inl, inr, ◌∙◌}
-use Rattle.gql_ast.specs.declared.document.Document.{Document}
-use Rattle.gql_ast.specs.declared.place.Placed.{Placed}
+use Rattle.plan_ir.specs.gql_ast.declared.document.Document.{Document}
+use Rattle.plan_ir.specs.gql_ast.declared.place.Placed.{Placed}
 use Rattle.plan_project.specs.Verdicts as plan
 use Rattle.plan_project.specs.declared.compiling.CompileFault.TheVariants.{Refused}
 use Rattle.plan_project.specs.declared.fault.ProjectFault.{ProjectFault}
@@ -14,7 +14,7 @@ use Rattle.relay_run.specs.Rules.{rule_text}
 use Rattle.relay_run.specs.Words.{Form, file_names}
 use Rattle.relay_run.specs.declared.files.Closed.{Closed}
 use Rattle.relay_run.specs.declared.files.Closed.TheVariants as C
-use Rattle.schema_tables.specs.Types.{Text, Defs}
+use Rattle.plan_ir.specs.schema_tables.Types.{Text, Defs}
 
 -- a rule that is not met, by the number of the file, its line, its column and the rule's name
 abbrev Place : Type 0

@@ -5,7 +5,7 @@ use Rattle.std.proofs.lemmas.Bool.{cases_eq}
 use Rattle.std.proofs.lemmas.List.{append-nil, take_all}
 use Rattle.bulk_laws.specs.BulkProject.{bulk_project}
 use Rattle.relay_io.specs.Streams.{append, prepend}
-use Rattle.schema_tables.specs.Types.{Text}
+use Rattle.plan_ir.specs.schema_tables.Types.{Text}
 use Rattle.relay_machine.specs.Bulk.{bulk_summary}
 use Rattle.relay_machine.specs.Machine.{Project}
 use Rattle.relay_machine.specs.Printed.{project_fault}

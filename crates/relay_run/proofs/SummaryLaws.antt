@@ -2,8 +2,8 @@
 use Rattle.std.proofs.Common.{◌≡◌, ◌-◌, ℕ, List, [], ◌∷◌, length, sym, ap, subst, ◌∙◌}
 use Rattle.bulk_laws.proofs.Accepted.{bulk_is_accepted}
 use Rattle.bulk_laws.specs.BulkProject.{bulk_project}
-use Rattle.gql_ast.specs.declared.document.Document.{Document}
-use Rattle.gql_ast.specs.declared.place.Placed.{Placed}
+use Rattle.plan_ir.specs.gql_ast.declared.document.Document.{Document}
+use Rattle.plan_ir.specs.gql_ast.declared.place.Placed.{Placed}
 use Rattle.plan_project.specs.Verdicts.{AreTheProject, Files, HaveTheFault}
 use Rattle.plan_project.specs.declared.compiling.CompileFault.TheVariants.{Refused}
 use Rattle.plan_project.specs.declared.fault.ProjectFault.{ProjectFault}
@@ -11,7 +11,7 @@ use Rattle.relay_machine.specs.Bulk.{bulk_document, bulk_output, bulk_refusals, 
 use Rattle.relay_machine.specs.Machine.{Project}
 use Rattle.relay_machine.specs.Printed.{summary_line}
 use Rattle.relay_run.specs.Projects.{project_shown}
-use Rattle.schema_tables.specs.Types.{Text, Defs}
+use Rattle.plan_ir.specs.schema_tables.Types.{Text, Defs}
 
 module _ (files : Files) (schema document : Text) (same : files ≡ (schema, bulk_schema) ∷ (document, bulk_document) ∷ []) where
   pub project_is : (parts : Defs × List (Placed Document)) → AreTheProject files parts.0 parts.1 → project_shown parts ≡ bulk_project

@@ -1,12 +1,12 @@
 -- What is written for the lines of a script, one after the other.
 use Rattle.std.proofs.Common.{◌≡◌, ℕ, ◌+◌, List, [], ◌∷◌, ◌++◌, length, take, drop, Bool, true, false, ◌||◌, refl, sym, ap, subst, inl, inr, ◌∙◌, arith, append_assoc}
 use Rattle.std.proofs.lemmas.List.{append-nil, take-append-drop}
-use Rattle.gql_plain.specs.Limits.{max_line}
+use Rattle.plan_ir.specs.gql_plain.Limits.{max_line}
 use Rattle.relay_engine.specs.Steps.{written}
 use Rattle.relay_machine.specs.Machine.{Project, State, step, output_from, refused_from}
 use Rattle.relay_machine.specs.Script.{lines_of, cut}
 use Rattle.relay_run.specs.Answers.{EndsLine}
-use Rattle.schema_tables.specs.Types.{Text}
+use Rattle.plan_ir.specs.schema_tables.Types.{Text}
 
 -- ---- whole lines
 

@@ -3,7 +3,7 @@ use Rattle.std.specs.Prelude.{◌≡◌, ◌⊎◌, ◌↔◌, ℕ, ◌+◌, ◌
 use Rattle.std.specs.Io.KnownBytes.{IsAtEnd}
 use Rattle.bulk_laws.specs.BulkProject.{bulk_project}
 use Rattle.relay_io.specs.Streams.{append, prepend}
-use Rattle.schema_tables.specs.Types.{Text}
+use Rattle.plan_ir.specs.schema_tables.Types.{Text}
 use Rattle.relay_machine.specs.Bulk.{bulk_summary}
 use Rattle.relay_machine.specs.Machine.{Project}
 use Rattle.relay_machine.specs.Printed.{project_fault}

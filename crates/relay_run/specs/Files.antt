@@ -2,7 +2,7 @@
 use Rattle.std.specs.Prelude.{◌≡◌, ℕ, ◌-◌, ◌^◌, List, [], ◌∷◌, ◌++◌, length, min, codes, cond, nat_le, slice_index_or, Option, Some, None}
 use Rattle.plan_project.specs.Projects.{IsFirstFault}
 use Rattle.relay_io.specs.Files.{file_of}
-use Rattle.schema_tables.specs.Types.{Text}
+use Rattle.plan_ir.specs.schema_tables.Types.{Text}
 use Rattle.relay_machine.specs.Machine.{Project}
 use Rattle.relay_run.specs.Projects.{IsProjectOf}
 use Rattle.relay_run.specs.Rules.{rule_text}

@@ -1,14 +1,14 @@
 -- What is written: by a run the answers of the lines of its script, and where a project is compiled its artifact lines.
 use Rattle.std.specs.Prelude.{◌≡◌, ℕ, ◌^◌, List, [], ◌∷◌, ◌++◌, Bool, true, Option}
-use Rattle.gql_ast.specs.declared.document.Document.{Document}
-use Rattle.gql_ast.specs.declared.place.Placed.{Placed}
-use Rattle.gql_graph.specs.Rules.{each}
+use Rattle.plan_ir.specs.gql_ast.declared.document.Document.{Document}
+use Rattle.plan_ir.specs.gql_ast.declared.place.Placed.{Placed}
+use Rattle.plan_ir.specs.gql_graph.Rules.{each}
 use Rattle.plan_project.specs.Expansions.{artifact_lines}
 use Rattle.relay_io.specs.Streams.{append}
-use Rattle.schema_tables.specs.Types.{Text}
+use Rattle.plan_ir.specs.schema_tables.Types.{Text}
 use Rattle.relay_machine.specs.Machine as machine
 use Rattle.relay_machine.specs.Script.{lines_of, cut}
-use Rattle.schema_tables.specs.Types.{Defs}
+use Rattle.plan_ir.specs.schema_tables.Types.{Defs}
 
 -- a script has at most 1 GiB
 abbrev pub max_script : ℕ

@@ -1,10 +1,10 @@
 -- The project that texts are: a script is run against it, or it is compiled.
 use Rattle.std.specs.Prelude.{List}
-use Rattle.gql_ast.specs.declared.document.Document.{Document}
-use Rattle.gql_ast.specs.declared.place.Placed.{Placed}
+use Rattle.plan_ir.specs.gql_ast.declared.document.Document.{Document}
+use Rattle.plan_ir.specs.gql_ast.declared.place.Placed.{Placed}
 use Rattle.plan_project.specs.Projects.{IsAccepted}
 use Rattle.relay_machine.specs.Machine.{Project}
-use Rattle.schema_tables.specs.Types.{Text, Defs}
+use Rattle.plan_ir.specs.schema_tables.Types.{Text, Defs}
 
 -- the texts are a schema and documents that meet all rules
 abbrev pub IsProjectOf : (schema : Text) → (texts : List Text) → Project → Type 0

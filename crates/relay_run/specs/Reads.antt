@@ -2,7 +2,7 @@
 use Rattle.std.specs.Prelude.{◌≡◌, ◌⊎◌, ℕ, ◌+◌, ◌-◌, List, [], ◌∷◌, length, min, codes, Option, Some, None, ⊤}
 use Rattle.plan_project.specs.Verdicts as plan
 use Rattle.relay_io.specs.Files.{IsAbsent, IsTooLong}
-use Rattle.schema_tables.specs.Types.{Text}
+use Rattle.plan_ir.specs.schema_tables.Types.{Text}
 use Rattle.relay_run.specs.Answers.{IsTheFaultOf}
 use Rattle.relay_run.specs.Files.{Files, Contents, absent, too_long, readable, contents_under, documents_from, max_all, max_file, name_of, IsFirstAbsent}
 use Rattle.relay_run.specs.Rules.{rule_text}

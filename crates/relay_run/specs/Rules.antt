@@ -1,8 +1,8 @@
 -- The names of rules, as they are printed.
 use Rattle.std.specs.Prelude.{codes}
-use Rattle.schema_tables.specs.Types.{Text}
-use Rattle.schema_rules.specs.declared.fault.Rule.{Rule}
-use Rattle.schema_rules.specs.declared.fault.Rule.TheVariants as R
+use Rattle.plan_ir.specs.schema_tables.Types.{Text}
+use Rattle.plan_ir.specs.schema_rules.declared.fault.Rule.{Rule}
+use Rattle.plan_ir.specs.schema_rules.declared.fault.Rule.TheVariants as R
 
 abbrev pub rule_text : Rule → Text
 rule_text R.F1 = codes "F1"

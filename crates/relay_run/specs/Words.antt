@@ -1,7 +1,7 @@
 -- The forms of the program's words.
 use Rattle.std.specs.Prelude.{ℕ, length, ◌≤◌, ◌<◌, ◌+◌, ◌-◌, ◌*◌, ◌^◌, List, [], ◌∷◌, Bool, true, false, ◌&&◌, ◌||◌, ◌==◌, not, cond, codes, bytes_eq, nat_le, nat_lt, Option, Some, None, fold}
 use Rattle.std.specs.List.{list_all}
-use Rattle.schema_tables.specs.Types.{Text}
+use Rattle.plan_ir.specs.schema_tables.Types.{Text}
 
 abbrev pub is_digit : ℕ → Bool
 is_digit b = nat_le 48 b && nat_le b 57

@@ -1,10 +1,9 @@
 //! The large script that is drawn from a number.
 ghost use Rattle.std.specs.Prelude.{◌≡◌, ◌<◌, ◌/◌, ◌%◌, ◌^◌, false, IfOk, OnErr};
 ghost use Rattle.relay_machine.specs.Bulk as model;
-ghost use Rattle.relay_machine.specs.Bulk.{age_of, begun, kind_of, line_of_kind, next_bulk, next_line, next_number};
 ghost use Rattle.relay_run.specs.BulkShown.{bulk_shown};
 
-use gql_plain::NoMemory;
+use plan_ir::NoMemory;
 use std::alloc::Global;
 
 /// Which line comes next.
@@ -45,7 +44,7 @@ const LAYERING: u64 = 2;
 impl Bulk {
     /// The script of this seed, at its first line.
     pub fn new(seed: u64) -> Bulk
-        ensures { bulk_shown result ≡ begun seed }
+        ensures { bulk_shown result ≡ model.begun seed }
     {
         Bulk {
             stage: Stage::Retaining,
@@ -56,8 +55,8 @@ impl Bulk {
 
     /// The next line, without a line end.
     pub fn line(&mut self, alloc: Global) -> Result<Vec<u8>, NoMemory>
-        ensures line { IfOk result (λ line. line.items ≡ next_line (bulk_shown self.old)) }
-        ensures next { IfOk result (λ _. bulk_shown self.new ≡ next_bulk (bulk_shown self.old)) }
+        ensures line { IfOk result (λ line. line.items ≡ model.next_line (bulk_shown self.old)) }
+        ensures next { IfOk result (λ _. bulk_shown self.new ≡ model.next_bulk (bulk_shown self.old)) }
         ensures err { OnErr result (self.new ≡ self.old) }
     {
         match self.stage {
@@ -78,8 +77,8 @@ impl Bulk {
     /// The next line that is drawn.
     fn draw(&mut self, alloc: Global) -> Result<Vec<u8>, NoMemory>
         requires { self.old.stage ≡ Stage.Drawing }
-        ensures line { IfOk result (λ line. line.items ≡ line_of_kind (kind_of (next_number self.old.drawn)) (age_of (next_number self.old.drawn)) self.old.live) }
-        ensures next { IfOk result (λ _. bulk_shown self.new ≡ model.draw (next_number self.old.drawn) self.old.live) }
+        ensures line { IfOk result (λ line. line.items ≡ model.line_of_kind (model.kind_of (model.next_number self.old.drawn)) (model.age_of (model.next_number self.old.drawn)) self.old.live) }
+        ensures next { IfOk result (λ _. bulk_shown self.new ≡ model.draw (model.next_number self.old.drawn) self.old.live) }
         ensures err { OnErr result (self.new ≡ self.old) }
     {
         let drawn = next_number(self.drawn);
@@ -95,7 +94,7 @@ impl Bulk {
 
 /// The number that is drawn after another one.
 fn next_number(number: u64) -> u64
-    ensures { result ≡ next_number number }
+    ensures { result ≡ model.next_number number }
 {
     number
         .wrapping_mul(6_364_136_223_846_793_005)
@@ -104,21 +103,21 @@ fn next_number(number: u64) -> u64
 
 /// The kind of line that a number gives: 0 to 3.
 fn kind_of(number: u64) -> u64
-    ensures { result ≡ kind_of number }
+    ensures { result ≡ model.kind_of number }
 {
     (number >> 33) / 1_000 % 4
 }
 
 /// The age that a number gives: 0 to 999.
 fn age_of(number: u64) -> u64
-    ensures { result ≡ age_of number }
+    ensures { result ≡ model.age_of number }
 {
     (number >> 33) % 1_000
 }
 
 /// The line of a kind.
 fn line_of_kind(alloc: Global, kind: u64, age: u64, live: bool) -> Result<String, NoMemory>
-    ensures { IfOk result (λ line. line.bytes.items ≡ line_of_kind kind age live) }
+    ensures { IfOk result (λ line. line.bytes.items ≡ model.line_of_kind kind age live) }
 {
     match kind {
         0 => Ok(format!(in alloc;

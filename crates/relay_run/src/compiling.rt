@@ -8,7 +8,7 @@ ghost use Rattle.relay_run.specs.Output.{artifacts_text, text_of_lines};
 
 use crate::put::{Stop, put_line};
 use crate::status::Status;
-use gql_plain::NoMemory;
+use plan_ir::NoMemory;
 use plan_project::{Artifacts, Project};
 use relay_io::Sink;
 use std::alloc::Global;

@@ -1,16 +1,15 @@
 //! The project of files.
 ghost use Rattle.std.specs.Prelude.{◌≡◌, ◌≤◌, ◌+◌, ◌-◌, ◌∷◌, map, min, length, IfOk, IfErr};
-ghost use Rattle.gql_plain.specs.Counted.{next_count};
+ghost use Rattle.plan_ir.specs.gql_plain.Counted.{next_count};
 ghost use Rattle.relay_io.specs.Causes.{Rose};
 ghost use Rattle.relay_io.specs.Files.{GivesFile};
 ghost use Rattle.relay_run.specs.Answers.{IsTheProjectOf};
 ghost use Rattle.relay_run.specs.Files.{max_all, max_file, name_under};
 ghost use Rattle.relay_run.specs.Projects.{project_shown};
-ghost use Rattle.relay_run.specs.Reads.{AreRead, AreUnreadBy, GivesFiles, IsClosedBy, AreClosedBy, IsFileClosedBy};
+ghost use Rattle.relay_run.specs.Reads as reads;
 ghost use Rattle.relay_run.specs.Words as forms;
-ghost use Rattle.relay_run.specs.Words.{file_names, max_documents};
 
-use gql_plain::{NoMemory, Words};
+use plan_ir::{NoMemory, Words};
 use plan_project::{CompileFault, Project, ProjectFault, ProjectFile, compile};
 use relay_io::{Vault, VaultFault};
 use std::alloc::Global;
@@ -41,12 +40,12 @@ pub fn open_project<'a, V: Vault>(
     documents: &[&'a str],
 ) -> Result<Project, Closed<'a>>
     requires least { 1 ≤ length documents.now }
-    requires most { length documents.now ≤ max_documents }
+    requires most { length documents.now ≤ forms.max_documents }
     ensures same { V.files vault.new ≡ V.files vault.old }
-    ensures project { IfOk result (λ p. (form : forms.Form) → file_names form ≡ schema.now ∷ map (λ w. w.now) documents.now
+    ensures project { IfOk result (λ p. (form : forms.Form) → forms.file_names form ≡ schema.now ∷ map (λ w. w.now) documents.now
         → IsTheProjectOf (V.files vault.old) form (project_shown p)) }
-    ensures closed { IfErr result (λ closed. (form : forms.Form) → file_names form ≡ schema.now ∷ map (λ w. w.now) documents.now
-        → IsClosedBy (V.files vault.old) form closed (Rose (V.faults vault.old) (V.faults vault.new))) }
+    ensures closed { IfErr result (λ closed. (form : forms.Form) → forms.file_names form ≡ schema.now ∷ map (λ w. w.now) documents.now
+        → reads.IsClosedBy (V.files vault.old) form closed (Rose (V.faults vault.old) (V.faults vault.new))) }
     ensures later { V.faults vault.old ≤ V.faults vault.new }
     ensures calls { V.calls vault.new ≤ V.calls vault.old + (length documents.now + 1) }
 {
@@ -69,8 +68,8 @@ fn read_files<'a, V: Vault>(
     documents: &[&'a str],
 ) -> Result<Vec<ProjectFile>, Closed<'a>>
     ensures same { V.files vault.new ≡ V.files vault.old }
-    ensures files { IfOk result (λ files. AreRead (V.files vault.old) (schema.now ∷ map (λ w. w.now) documents.now) files.items) }
-    ensures closed { IfErr result (λ closed. AreUnreadBy (V.files vault.old) (schema.now ∷ map (λ w. w.now) documents.now) closed
+    ensures files { IfOk result (λ files. reads.AreRead (V.files vault.old) (schema.now ∷ map (λ w. w.now) documents.now) files.items) }
+    ensures closed { IfErr result (λ closed. reads.AreUnreadBy (V.files vault.old) (schema.now ∷ map (λ w. w.now) documents.now) closed
         (Rose (V.faults vault.old) (V.faults vault.new))) }
     ensures later { V.faults vault.old ≤ V.faults vault.new }
     ensures calls { V.calls vault.new ≤ V.calls vault.old + (length documents.now + 1) }
@@ -94,8 +93,8 @@ fn read_documents<'a, V: Vault>(
 ) -> Result<Vec<ProjectFile>, Closed<'a>>
     requires { length schema.1 ≤ max_file }
     ensures same { V.files vault.new ≡ V.files vault.old }
-    ensures files { IfOk result (λ files. GivesFiles (V.files vault.old) schema (map (λ w. w.now) names.now) files.items) }
-    ensures closed { IfErr result (λ closed. AreClosedBy (V.files vault.old) (max_all - length schema.1) (map (λ w. w.now) names.now) closed
+    ensures files { IfOk result (λ files. reads.GivesFiles (V.files vault.old) schema (map (λ w. w.now) names.now) files.items) }
+    ensures closed { IfErr result (λ closed. reads.AreClosedBy (V.files vault.old) (max_all - length schema.1) (map (λ w. w.now) names.now) closed
         (Rose (V.faults vault.old) (V.faults vault.new))) }
     ensures later { V.faults vault.old ≤ V.faults vault.new }
     ensures calls { V.calls vault.new ≤ V.calls vault.old + length names.now }
@@ -128,7 +127,7 @@ fn read_file<'a, V: Vault>(
 ) -> Result<ProjectFile, Closed<'a>>
     ensures same { V.files vault.new ≡ V.files vault.old }
     ensures bytes { IfOk result (λ file. GivesFile (V.files vault.old) name.now file.1 × (length file.1 ≤ min max_file left)) }
-    ensures closed { IfErr result (λ closed. IsFileClosedBy (V.files vault.old) left name.now closed (Rose (V.faults vault.old) (V.faults vault.new))) }
+    ensures closed { IfErr result (λ closed. reads.IsFileClosedBy (V.files vault.old) left name.now closed (Rose (V.faults vault.old) (V.faults vault.new))) }
     ensures later { V.faults vault.old ≤ V.faults vault.new }
     ensures counted { V.calls vault.new ≡ next_count (V.calls vault.old) }
 {

@@ -4,7 +4,7 @@ ghost use Rattle.std.specs.Prelude.{None};
 
 use crate::status::Status;
 use crate::top::relay_top;
-use gql_plain::{Counts, Words};
+use plan_ir::{Counts, Words};
 use relay_io::{Failed, MemSink, MemSource, MemVault, Source};
 use std::alloc::Global;
 use std::test::Fail;

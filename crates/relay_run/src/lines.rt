@@ -1,12 +1,11 @@
 //! Answering the lines of a script.
 ghost use Rattle.std.specs.Prelude.{◌≡◌, ◌⊎◌, ◌↔◌, ◌≤◌, ◌<◌, ◌+◌, ◌^◌, ◌++◌, ◌∷◌, ◌==◌, [], ℕ, List, true, length, take, IfOk, IfErr, IsTrue};
 ghost use Rattle.std.specs.List.{position};
-ghost use Rattle.gql_plain.specs.Limits.{max_line};
+ghost use Rattle.plan_ir.specs.gql_plain.Limits.{max_line};
 ghost use Rattle.relay_engine.specs.Stands.{StandsFor};
 ghost use Rattle.relay_io.specs.Causes.{Rose};
 ghost use Rattle.relay_io.specs.Streams.{append};
 ghost use Rattle.relay_machine.specs.Machine as machine;
-ghost use Rattle.relay_machine.specs.Machine.{State};
 ghost use Rattle.relay_machine.specs.Script.{lines_of};
 ghost use Rattle.relay_run.specs.Answers.{EndsLine};
 ghost use Rattle.relay_run.specs.Output.{max_script, output_text, has_refusal};
@@ -15,12 +14,11 @@ ghost use Rattle.relay_run.specs.Statuses.{IsDone};
 
 use crate::put::{Stop, put_lines};
 use crate::status::Status;
-use gql_plain::{Counts, MAX_LINE};
+use plan_ir::{Counts, MAX_LINE};
 use plan_project::Project;
-use relay_engine::Engine;
+use relay_engine::{Engine, Versions};
 use relay_io::Sink;
 use std::alloc::Global;
-use store_source::Versions;
 
 /// Answers the lines of a script one after the other, and puts each answer as one piece.
 pub fn answer_lines<K: Sink>(
@@ -76,11 +74,11 @@ fn answer_line<K: Sink>(
     steps: &mut Counts,
 ) -> Result<bool, Stop>
     requires { n < 2 ^ 63 }
-    ensures ok { IfOk result (λ refused. (p : machine.Project) (buffer : ℕ) (s : State) → engine.old.buffer ≡ buffer → StandsFor engine.old p s
+    ensures ok { IfOk result (λ refused. (p : machine.Project) (buffer : ℕ) (s : machine.State) → engine.old.buffer ≡ buffer → StandsFor engine.old p s
         → let step = machine.step p buffer s n (take (max_line + 1) line.now) in
         (engine.new.buffer ≡ buffer) × (refused ≡ step.refused) × StandsFor engine.new p step.state × EndsLine step.text
         × (K.contents out.new ≡ append (K.contents out.old) step.text) × (K.calls out.new ≤ K.calls out.old + length step.text)) }
-    ensures err { IfErr result (λ stop. (p : machine.Project) (buffer : ℕ) (s : State) → engine.old.buffer ≡ buffer → StandsFor engine.old p s
+    ensures err { IfErr result (λ stop. (p : machine.Project) (buffer : ℕ) (s : machine.State) → engine.old.buffer ≡ buffer → StandsFor engine.old p s
         → let step = machine.step p buffer s n (take (max_line + 1) line.now) in
         (k : ℕ) × (k ≤ length step.text) × (K.contents out.new ≡ append (K.contents out.old) (take k step.text))
         × (K.calls out.new ≤ K.calls out.old + k + 1) × (stop ≡ Stop.NoMemory → k ≡ 0)) }

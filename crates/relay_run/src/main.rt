@@ -22,7 +22,7 @@ mod tests;
 mod top;
 mod words;
 
-use gql_plain::Counts;
+use plan_ir::Counts;
 use relay_io::{FileVault, StdSink, StdSource};
 use status::{Status, exit_of};
 use std::process::ExitCode;

@@ -7,8 +7,8 @@ ghost use Rattle.relay_run.specs.Answers.{EndsLine};
 
 use crate::put::{Stop, put_line};
 use crate::status::Status;
+use relay_engine::fault_line;
 use relay_io::Sink;
-use relay_lines::fault_line;
 use std::alloc::Global;
 
 /// Puts the line of a project that is refused: the file at fault with the line and the column, and

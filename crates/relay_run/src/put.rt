@@ -4,7 +4,7 @@ ghost use Rattle.relay_engine.specs.Steps.{written};
 ghost use Rattle.relay_io.specs.Causes.{Rose};
 ghost use Rattle.relay_io.specs.Streams.{append};
 
-use gql_plain::{NoMemory, Words};
+use plan_ir::{NoMemory, Words};
 use relay_io::{Failed, Sink};
 use std::alloc::Global;
 

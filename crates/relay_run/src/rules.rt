@@ -2,7 +2,7 @@
 ghost use Rattle.std.specs.Prelude.{◌≡◌};
 ghost use Rattle.relay_run.specs.Rules.{rule_text};
 
-use schema_types::Rule;
+use plan_ir::Rule;
 
 /// The name of a rule, as it is printed; takes no memory.
 pub fn rule_text(rule: Rule) -> &'static str

@@ -1,13 +1,13 @@
 //! Reading the script.
 ghost use Rattle.std.specs.Prelude.{◌≡◌, ◌⊎◌, ◌≤◌, ◌<◌, ◌+◌, ◌++◌, ℕ, List, [], length, IfOk, OnErr, vec_len};
 ghost use Rattle.std.specs.Io.KnownBytes.{IsAtEnd};
-ghost use Rattle.gql_plain.specs.Counted.{next_count};
+ghost use Rattle.plan_ir.specs.gql_plain.Counted.{next_count};
 ghost use Rattle.relay_io.specs.Causes.{Rose};
 ghost use Rattle.relay_io.specs.Streams.{prepend};
 ghost use Rattle.relay_run.specs.Answers.{Gives};
 ghost use Rattle.relay_run.specs.Output.{max_script};
 
-use gql_plain::NoMemory;
+use plan_ir::NoMemory;
 use relay_io::Source;
 use std::alloc::Global;
 

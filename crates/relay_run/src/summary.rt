@@ -3,9 +3,8 @@ ghost use Rattle.std.specs.Prelude.{◌≡◌, ◌≤◌, ◌<◌, ◌+◌, ◌-
 ghost use Rattle.bulk_laws.specs.BulkProject.{bulk_project};
 ghost use Rattle.relay_engine.specs.Stands.{StandsFor};
 ghost use Rattle.relay_io.specs.Causes.{Rose};
-ghost use Rattle.relay_machine.specs.Bulk.{bulk_buffer, bulk_document, bulk_output, bulk_refusals, bulk_schema, bulk_summary, line_count};
+ghost use Rattle.relay_machine.specs.Bulk as model;
 ghost use Rattle.relay_machine.specs.Machine as machine;
-ghost use Rattle.relay_machine.specs.Machine.{State};
 ghost use Rattle.relay_machine.specs.Printed.{summary_line};
 ghost use Rattle.relay_run.specs.Answers.{AnsweringBulk, Wrote};
 ghost use Rattle.relay_run.specs.Projects.{project_shown};
@@ -14,13 +13,11 @@ ghost use Rattle.relay_run.specs.Words.{max_lines};
 use crate::bulk::Bulk;
 use crate::put::{Stop, bytes_of, put_line};
 use crate::status::Status;
-use gql_plain::{Counts, NoMemory, Words};
+use plan_ir::{Counts, NoMemory, Words};
 use plan_project::{CompileFault, Project, ProjectFile, compile};
-use relay_engine::Engine;
+use relay_engine::{Engine, Versions, summary_line};
 use relay_io::Sink;
-use relay_lines::summary_line;
 use std::alloc::Global;
-use store_source::Versions;
 
 const SCHEMA: &str = "type Query{me:User} type User{id:ID! age:Int friend:User}";
 
@@ -48,7 +45,7 @@ pub fn put_summary<K: Sink>(
 ) -> Status
     requires { count ≤ max_lines }
     ensures answers { AnsweringBulk result (Rose (K.faults out.old) (K.faults out.new)) }
-    ensures wrote { Wrote (bulk_summary bulk_project seed count) result (K.contents out.old) (K.contents out.new) (K.calls out.old) (K.calls out.new) }
+    ensures wrote { Wrote (model.bulk_summary bulk_project seed count) result (K.contents out.old) (K.contents out.new) (K.calls out.old) (K.calls out.new) }
 {
     let Ok(project) = bulk_project(alloc) else {
         return Status::NoMemory;
@@ -73,7 +70,7 @@ fn bulk_project(alloc: Global) -> Result<Project, NoMemory>
 
 /// The files of the project.
 fn bulk_files(alloc: Global) -> Result<Vec<ProjectFile>, NoMemory>
-    ensures { IfOk result (λ files. (schema : List ℕ) × (document : List ℕ) × (files.items ≡ (schema, bulk_schema) ∷ (document, bulk_document) ∷ [])) }
+    ensures { IfOk result (λ files. (schema : List ℕ) × (document : List ℕ) × (files.items ≡ (schema, model.bulk_schema) ∷ (document, model.bulk_document) ∷ [])) }
 {
     let mut files = Vec::new(alloc);
     files.push(file_of(alloc, "schema", SCHEMA)?)?;
@@ -100,9 +97,9 @@ fn tally_script(
     steps: &mut Counts,
 ) -> Result<Tally, NoMemory>
     requires { count ≤ max_lines }
-    ensures bytes { IfOk result (λ tally. tally.bytes ≡ length (bulk_output (project_shown project) seed count)) }
-    ensures lines { IfOk result (λ tally. tally.lines ≡ line_count (bulk_output (project_shown project) seed count)) }
-    ensures refused { IfOk result (λ tally. tally.refused ≡ bulk_refusals (project_shown project) seed count) }
+    ensures bytes { IfOk result (λ tally. tally.bytes ≡ length (model.bulk_output (project_shown project) seed count)) }
+    ensures lines { IfOk result (λ tally. tally.lines ≡ model.line_count (model.bulk_output (project_shown project) seed count)) }
+    ensures refused { IfOk result (λ tally. tally.refused ≡ model.bulk_refusals (project_shown project) seed count) }
 {
     let mut engine = Engine::new(alloc, project, BUFFER, Versions::new(alloc))?;
     let mut script = Bulk::new(seed);
@@ -128,10 +125,10 @@ fn tally_line(
     steps: &mut Counts,
 ) -> Result<Tally, NoMemory>
     requires { n < 2 ^ 63 }
-    ensures { IfOk result (λ sum. (p : machine.Project) (buffer : ℕ) (s : State) → engine.old.buffer ≡ buffer → StandsFor engine.old p s
+    ensures { IfOk result (λ sum. (p : machine.Project) (buffer : ℕ) (s : machine.State) → engine.old.buffer ≡ buffer → StandsFor engine.old p s
         → let step = machine.step p buffer s n line.now in
         (engine.new.buffer ≡ buffer) × StandsFor engine.new p step.state
-        × (sum.bytes ≡ tally.bytes + length step.text) × (sum.lines ≡ tally.lines + line_count step.text)
+        × (sum.bytes ≡ tally.bytes + length step.text) × (sum.lines ≡ tally.lines + model.line_count step.text)
         × (sum.refused ≡ tally.refused + cond step.refused 1 0)) }
 {
     let lines = engine.step(line, n, steps)?;
@@ -148,7 +145,7 @@ fn tally_line(
 
 /// How many lines a text has, each of which LF ends.
 fn line_count(text: &[u8]) -> u64
-    ensures { result ≡ line_count text.now }
+    ensures { result ≡ model.line_count text.now }
 {
     text.iter().filter(|byte| **byte == b'\n').count() as u64
 }

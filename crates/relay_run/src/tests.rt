@@ -2,7 +2,7 @@
 use crate::rows::{DONE, REFUSED, WATCH};
 use crate::status::Status;
 use crate::top::relay_top;
-use gql_plain::{Counts, Words};
+use plan_ir::{Counts, Words};
 use relay_io::{MemSink, MemSource, MemVault};
 use std::alloc::Global;
 use std::test::Fail;

@@ -1,7 +1,7 @@
 //! The words of the program.
 ghost use Rattle.std.specs.Prelude.{◌≡◌, true, map, option_map, IfSome};
 ghost use Rattle.relay_run.specs.FormShown.{asked_shown};
-ghost use Rattle.relay_run.specs.Words.{asked_by, run_form, compile_form, bulk_form, is_buffer, is_plain, are_documents, decimal, decimal_in, seed_in, count_in, IsAskedWithin};
+ghost use Rattle.relay_run.specs.Words as forms;
 
 /// The most documents of a project.
 const MAX_DOCUMENTS: usize = 1_000;
@@ -38,8 +38,8 @@ pub enum Asked<'a, 'b> {
 /// with 1 to 1,000 documents, or `bulk SEED COUNT`, with a SEED below 2^64 and a COUNT of 1 to
 /// 1,000,000. None where they are no form; takes no memory.
 pub fn asked_by<'a, 'b>(words: &'b [&'a str]) -> Option<Asked<'a, 'b>>
-    ensures asked { option_map asked_shown result ≡ asked_by (map (λ w. w.now) words.now) }
-    ensures within { IfSome result (λ a. IsAskedWithin (asked_shown a)) }
+    ensures asked { option_map asked_shown result ≡ forms.asked_by (map (λ w. w.now) words.now) }
+    ensures within { IfSome result (λ a. forms.IsAskedWithin (asked_shown a)) }
 {
     match words {
         [first, words @ ..] if *first == "run" => run_form(words),
@@ -51,8 +51,8 @@ pub fn asked_by<'a, 'b>(words: &'b [&'a str]) -> Option<Asked<'a, 'b>>
 
 /// What the words after `run` ask for.
 fn run_form<'a, 'b>(words: &'b [&'a str]) -> Option<Asked<'a, 'b>>
-    ensures asked { option_map asked_shown result ≡ run_form (map (λ w. w.now) words.now) }
-    ensures within { IfSome result (λ a. IsAskedWithin (asked_shown a)) }
+    ensures asked { option_map asked_shown result ≡ forms.run_form (map (λ w. w.now) words.now) }
+    ensures within { IfSome result (λ a. forms.IsAskedWithin (asked_shown a)) }
 {
     match words {
         [word, schema, documents @ ..] if is_buffer(word) && are_documents(documents) => {
@@ -69,8 +69,8 @@ fn run_form<'a, 'b>(words: &'b [&'a str]) -> Option<Asked<'a, 'b>>
 
 /// What the words after `compile` ask for.
 fn compile_form<'a, 'b>(words: &'b [&'a str]) -> Option<Asked<'a, 'b>>
-    ensures asked { option_map asked_shown result ≡ compile_form (map (λ w. w.now) words.now) }
-    ensures within { IfSome result (λ a. IsAskedWithin (asked_shown a)) }
+    ensures asked { option_map asked_shown result ≡ forms.compile_form (map (λ w. w.now) words.now) }
+    ensures within { IfSome result (λ a. forms.IsAskedWithin (asked_shown a)) }
 {
     match words {
         [schema, documents @ ..] if are_documents(documents) => {
@@ -82,8 +82,8 @@ fn compile_form<'a, 'b>(words: &'b [&'a str]) -> Option<Asked<'a, 'b>>
 
 /// What the words after `bulk` ask for.
 fn bulk_form<'a, 'b>(words: &'b [&'a str]) -> Option<Asked<'a, 'b>>
-    ensures asked { option_map asked_shown result ≡ bulk_form (map (λ w. w.now) words.now) }
-    ensures within { IfSome result (λ a. IsAskedWithin (asked_shown a)) }
+    ensures asked { option_map asked_shown result ≡ forms.bulk_form (map (λ w. w.now) words.now) }
+    ensures within { IfSome result (λ a. forms.IsAskedWithin (asked_shown a)) }
 {
     match words {
         [seed, count] => {
@@ -97,14 +97,14 @@ fn bulk_form<'a, 'b>(words: &'b [&'a str]) -> Option<Asked<'a, 'b>>
 
 /// Whether there are 1 to 1,000 names.
 fn are_documents(names: &[&str]) -> bool
-    ensures { result ≡ are_documents (map (λ w. w.now) names.now) }
+    ensures { result ≡ forms.are_documents (map (λ w. w.now) names.now) }
 {
     1 <= names.len() && names.len() <= MAX_DOCUMENTS
 }
 
 /// Whether the word is a number of 1 to 100: decimal digits without a sign and without a zero in front.
 fn is_buffer(word: &str) -> bool
-    ensures { result ≡ is_buffer word.now }
+    ensures { result ≡ forms.is_buffer word.now }
 {
     match word.as_bytes() {
         [ones] => matches!(ones, b'1'..=b'9'),
@@ -116,8 +116,8 @@ fn is_buffer(word: &str) -> bool
 
 /// The number of 1 to 100 that the word is.
 fn number(word: &str) -> u64
-    requires { is_buffer word.now ≡ true }
-    ensures { result ≡ decimal word.now }
+    requires { forms.is_buffer word.now ≡ true }
+    ensures { result ≡ forms.decimal word.now }
 {
     match word.as_bytes() {
         [ones] => (ones - b'0') as u64,
@@ -130,7 +130,7 @@ fn number(word: &str) -> u64
 /// The number of 1 to 1,000,000 that the word is: decimal digits without a sign and without a zero in
 /// front.
 fn count_of(word: &str) -> Option<u64>
-    ensures { result ≡ count_in word.now }
+    ensures { result ≡ forms.count_in word.now }
 {
     let count = seed_of(word)?;
     if 1 <= count && count <= MAX_LINES {
@@ -142,7 +142,7 @@ fn count_of(word: &str) -> Option<u64>
 
 /// The number below 2^64 that the word is: decimal digits without a sign and without a zero in front.
 fn seed_of(word: &str) -> Option<u64>
-    ensures { result ≡ seed_in word.now }
+    ensures { result ≡ forms.seed_in word.now }
 {
     let digits = word.as_bytes();
     if !is_plain(digits) {
@@ -153,7 +153,7 @@ fn seed_of(word: &str) -> Option<u64>
 
 /// Whether there is something, and no zero in front of more.
 fn is_plain(digits: &[u8]) -> bool
-    ensures { result ≡ is_plain digits.now }
+    ensures { result ≡ forms.is_plain digits.now }
 {
     match digits {
         [] => false,
@@ -164,7 +164,7 @@ fn is_plain(digits: &[u8]) -> bool
 
 /// The number below 2^64 that these digits write.
 fn decimal_of(digits: &[u8]) -> Option<u64>
-    ensures { result ≡ decimal_in digits.now }
+    ensures { result ≡ forms.decimal_in digits.now }
 {
     let mut number = 0u64;
     'digits: for digit in digits {

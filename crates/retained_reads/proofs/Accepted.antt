@@ -1,13 +1,13 @@
 -- What is known of the fragments and the operations of an accepted project.
 use Rattle.std.proofs.Common.{◌≡◌, ◌+◌, ℕ, List, [], length, Some, sym, subst}
 use Rattle.std.specs.List.{AllByRecursion}
-use Rattle.gql_ast.specs.declared.document.Definition.TheVariants as D
-use Rattle.gql_ast.specs.declared.document.Document.{Document}
-use Rattle.gql_ast.specs.declared.document.Operation.{Operation}
-use Rattle.gql_ast.specs.declared.place.Placed.{Placed}
-use Rattle.gql_graph.specs.Rules.{each}
-use Rattle.plan_expand.specs.Answers.{definitions_in, project}
-use Rattle.plan_expand.specs.Places.{place_in}
+use Rattle.plan_ir.specs.gql_ast.declared.document.Definition.TheVariants as D
+use Rattle.plan_ir.specs.gql_ast.declared.document.Document.{Document}
+use Rattle.plan_ir.specs.gql_ast.declared.document.Operation.{Operation}
+use Rattle.plan_ir.specs.gql_ast.declared.place.Placed.{Placed}
+use Rattle.plan_ir.specs.gql_graph.Rules.{each}
+use Rattle.relay_machine.specs.plan_expand.Answers.{definitions_in, project}
+use Rattle.relay_machine.specs.plan_expand.Places.{place_in}
 use Rattle.plan_ir.specs.Expansion.{Project, operation_named}
 use Rattle.plan_project.proofs.ReadTrees.{ReadAt, ReadDefinition, ReadOperation, all_read}
 use Rattle.plan_project.proofs.SoundNodes.{SoundFragment}
@@ -15,13 +15,13 @@ use Rattle.plan_project.proofs.SoundProjects.{fragments_meet, fragments_sound, o
 use Rattle.plan_project.proofs.SoundTrees.{SoundSelections}
 use Rattle.plan_project.proofs.SpreadChains.{Bounded, Meets, all_bounded, all_found, names_of}
 use Rattle.plan_project.specs.Projects.{IsAcceptedProject}
-use Rattle.plan_read.proofs.ConstantLocals.{locals_are_constant}
+use Rattle.plan_project.proofs.plan_read_laws.ConstantLocals.{locals_are_constant}
 use Rattle.retained_reads.proofs.MaskedItems.{AreKnown}
-use Rattle.schema_tables.specs.Types.{Defs, Text, root}
-use Rattle.schema_trees.specs.Located.{directives_nodes}
-use Rattle.schema_types.specs.DocumentRules.{places_of}
-use Rattle.schema_types.specs.NameRules.{fragments, not_there, operations, spreads_in}
-use Rattle.schema_types.specs.Sites.{DefinitionAt, OperationAt, operation_at, optional_name_nodes, variables_nodes}
+use Rattle.plan_ir.specs.schema_tables.Types.{Defs, Text, root}
+use Rattle.plan_ir.specs.schema_trees.Located.{directives_nodes}
+use Rattle.plan_ir.specs.schema_types.DocumentRules.{places_of}
+use Rattle.plan_ir.specs.schema_types.NameRules.{fragments, not_there, operations, spreads_in}
+use Rattle.plan_ir.specs.schema_types.Sites.{DefinitionAt, OperationAt, operation_at, optional_name_nodes, variables_nodes}
 
 -- the names of an operation's selections are Names, and all their spreads may be entered
 pub record IsKnownOperation (p : Project) (o : OperationAt) : Type 0 where

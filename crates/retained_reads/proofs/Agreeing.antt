@@ -2,23 +2,23 @@
 use Rattle.std.proofs.Common.{◌≡◌, not, ◌&&◌, ◌||◌, cond, List, [], ◌∷◌, codes, Option, Some, None, bytes_eq, refl, sym, ap, ◌∙◌}
 use Rattle.std.specs.List.{AllByRecursion}
 use Rattle.std.specs.Option.{IfSome}
-use Rattle.gql_ast.specs.Value as v
-use Rattle.gql_ast.specs.Value.{Val, Vals, Members, members_of}
-use Rattle.gql_ast.specs.declared.directive.Directive.{Directive}
-use Rattle.gql_graph.specs.Rules.{each}
-use Rattle.gql_plain.specs.Order.{member_at}
-use Rattle.gql_plain.specs.Tree as t
-use Rattle.gql_syntax.specs.Words.{IsName}
+use Rattle.plan_ir.specs.gql_ast.Value as v
+use Rattle.plan_ir.specs.gql_ast.Value.{Val, Vals, Members, members_of}
+use Rattle.plan_ir.specs.gql_ast.declared.directive.Directive.{Directive}
+use Rattle.plan_ir.specs.gql_graph.Rules.{each}
+use Rattle.plan_ir.specs.gql_plain.Order.{member_at}
+use Rattle.plan_ir.specs.gql_plain.Tree as t
+use Rattle.plan_ir.specs.gql_syntax.Words.{IsName}
 use Rattle.plan_ir.specs.Substitution.{Arguments, arguments_in}
 use Rattle.plan_project.proofs.SoundNodes.{SoundLocal, given_in, value_found}
 use Rattle.plan_project.proofs.SoundTrees.{SoundArguments, SoundDirective, SoundDirectives, SoundMembers, SoundValue, SoundValues}
-use Rattle.plan_text.proofs.Evaluating.{found-with_pair}
-use Rattle.plan_text.specs.Collecting.{environment_inside, is_left_out, leaves_out, local_value, with_locals}
-use Rattle.relay_dirs.specs.Connections.{value_of_name}
-use Rattle.relay_dirs.specs.Locals.{Local, locals_of}
-use Rattle.schema_tables.specs.Types.{Text}
-use Rattle.schema_types.specs.Environments.{Values, arguments_in_environment, evaluation, is_true, items_evaluated, or_null, pairs_evaluated, value_in, with_new_pair, with_pair}
-use Rattle.schema_types.specs.Sites.{FragmentAt}
+use Rattle.relay_machine.proofs.plan_text_laws.Evaluating.{found-with_pair}
+use Rattle.relay_machine.specs.plan_text.Collecting.{environment_inside, is_left_out, leaves_out, local_value, with_locals}
+use Rattle.plan_ir.specs.relay_dirs.Connections.{value_of_name}
+use Rattle.plan_ir.specs.relay_dirs.Locals.{Local, locals_of}
+use Rattle.plan_ir.specs.schema_tables.Types.{Text}
+use Rattle.plan_ir.specs.schema_types.Environments.{Values, arguments_in_environment, evaluation, is_true, items_evaluated, or_null, pairs_evaluated, value_in, with_new_pair, with_pair}
+use Rattle.plan_ir.specs.schema_types.Sites.{FragmentAt}
 
 -- the same value under each Name
 abbrev pub Agree : (env other : Values) → Type 0

@@ -1,19 +1,19 @@
 -- Parts that the masked and the whole form of collection see at once: the selections as they are written, and those that are added, which the
 -- whole form alone has.
 use Rattle.std.proofs.Common.{ℕ, zero, suc, ◌||◌, cond, List, [], ◌∷◌, ◌++◌, map, Option, Some, None}
-use Rattle.gql_ast.specs.Sels as sels
-use Rattle.gql_ast.specs.Sels.{Sels, sels_append}
-use Rattle.gql_ast.specs.declared.directive.Directive.{Directive}
+use Rattle.plan_ir.specs.gql_ast.Sels as sels
+use Rattle.plan_ir.specs.gql_ast.Sels.{Sels, sels_append}
+use Rattle.plan_ir.specs.gql_ast.declared.directive.Directive.{Directive}
 use Rattle.plan_ir.specs.Expansion.{Project}
-use Rattle.plan_text.specs.Collecting.{applies, environment_inside, field_additions, is_left_out, with_additions}
-use Rattle.relay_model.specs.Collection.{Part, Setting, ask_of, collect_in, is_inline, is_open, scope_inside}
-use Rattle.relay_model.specs.Readings.{masked_setting, no_place}
-use Rattle.relay_model.specs.Responses.{whole_setting}
-use Rattle.schema_tables.specs.Types.{Text, Defs}
-use Rattle.schema_types.specs.Environments.{Values}
-use Rattle.schema_types.specs.NameRules.{fragment_named}
-use Rattle.schema_types.specs.Sites.{FragmentAt, below, condition_or}
-use Rattle.store_model.specs.Items.{Collect, Item, Pointer, asked, pointed}
+use Rattle.relay_machine.specs.plan_text.Collecting.{applies, environment_inside, field_additions, is_left_out, with_additions}
+use Rattle.relay_machine.specs.relay_model.Collection.{Part, Setting, ask_of, collect_in, is_inline, is_open, scope_inside}
+use Rattle.relay_machine.specs.relay_model.Readings.{masked_setting, no_place}
+use Rattle.relay_machine.specs.relay_model.Responses.{whole_setting}
+use Rattle.plan_ir.specs.schema_tables.Types.{Text, Defs}
+use Rattle.plan_ir.specs.schema_types.Environments.{Values}
+use Rattle.plan_ir.specs.schema_types.NameRules.{fragment_named}
+use Rattle.plan_ir.specs.schema_types.Sites.{FragmentAt, below, condition_or}
+use Rattle.plan_ir.specs.store_model.Items.{Collect, Item, Pointer, asked, pointed}
 
 -- selections with the type around them, and what is added behind them, in an environment; so many spreads may still be entered, one in another
 pub record Both : Type 0 where

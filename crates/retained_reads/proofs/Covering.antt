@@ -1,30 +1,30 @@
 -- Each field that the masked form gives is one of the whole form, and so is each field that a pointer's body gives.
 use Rattle.std.proofs.Common.{◌≡◌, ℕ, zero, suc, ◌+◌, ◌≤◌, Bool, true, false, cond, List, [], ◌∷◌, ◌++◌, map, Option, Some, None, refl, sym, ap, subst, ◌∙◌, arith, inl}
 use Rattle.std.proofs.lemmas.List.{append-nil}
-use Rattle.gql_ast.specs.Sels as sels
-use Rattle.gql_ast.specs.Sels.{Sels}
-use Rattle.gql_ast.specs.declared.directive.Directive.{Directive}
-use Rattle.plan_build.proofs.PartDepths.{as_deep, left_below, less_below, right_below}
+use Rattle.plan_ir.specs.gql_ast.Sels as sels
+use Rattle.plan_ir.specs.gql_ast.Sels.{Sels}
+use Rattle.plan_ir.specs.gql_ast.declared.directive.Directive.{Directive}
+use Rattle.plan_project.proofs.plan_build_laws.PartDepths.{as_deep, left_below, less_below, right_below}
 use Rattle.plan_ir.specs.Expansion.{Project}
 use Rattle.plan_project.proofs.SoundTrees.{SoundSelections}
 use Rattle.plan_project.proofs.SpreadChains.{AllSpreads, Bounded}
-use Rattle.plan_text.specs.Collecting.{applies, environment_inside, is_left_out}
-use Rattle.relay_model.specs.Collection.{ask_of, collect_in, is_open}
-use Rattle.relay_model.specs.Readings.{depth_inside, depth_of, depth_with, masked_setting, no_place, shadowed_by, with_marked}
-use Rattle.relay_model.specs.Responses.{whole_setting}
+use Rattle.relay_machine.specs.plan_text.Collecting.{applies, environment_inside, is_left_out}
+use Rattle.relay_machine.specs.relay_model.Collection.{ask_of, collect_in, is_open}
+use Rattle.relay_machine.specs.relay_model.Readings.{depth_inside, depth_of, depth_with, masked_setting, no_place, shadowed_by, with_marked}
+use Rattle.relay_machine.specs.relay_model.Responses.{whole_setting}
 use Rattle.retained_reads.proofs.Agreeing.{Agree}
 use Rattle.retained_reads.proofs.Both.{Both, Entered, at_spread, below_field, both_inside, both_pointer, both_spread, both_where, gather_added, gather_in, gather_masked, gather_whole, gather_with, lifted_item}
 use Rattle.retained_reads.proofs.Marked.{alone_agrees}
 use Rattle.retained_reads.proofs.MaskedItems.{AreKnown, IsKnown}
-use Rattle.schema_tables.specs.Types.{Text}
-use Rattle.schema_types.specs.Environments.{Values}
-use Rattle.schema_types.specs.NameRules.{fragment_named}
-use Rattle.schema_types.specs.Sites.{FragmentAt, condition_or}
-use Rattle.store_model.proofs.Least.{Each, each_append, each_so}
-use Rattle.store_model.proofs.Seated.{among_left, among_right, asked_append}
-use Rattle.store_model.specs.Alike.{Among}
-use Rattle.store_model.specs.Items.{Asked, Item, Pointer, asked, pointed, asked_of}
-use Rattle.store_model.specs.Retention.{Covered, Covers}
+use Rattle.plan_ir.specs.schema_tables.Types.{Text}
+use Rattle.plan_ir.specs.schema_types.Environments.{Values}
+use Rattle.plan_ir.specs.schema_types.NameRules.{fragment_named}
+use Rattle.plan_ir.specs.schema_types.Sites.{FragmentAt, condition_or}
+use Rattle.plan_ir.proofs.store_model_laws.Least.{Each, each_append, each_so}
+use Rattle.plan_ir.proofs.store_model_laws.Seated.{among_left, among_right, asked_append}
+use Rattle.plan_ir.specs.store_model.Alike.{Among}
+use Rattle.plan_ir.specs.store_model.Items.{Asked, Item, Pointer, asked, pointed, asked_of}
+use Rattle.plan_ir.specs.store_model.Retention.{Covered, Covers}
 
 -- ---- numbers
 

@@ -1,13 +1,13 @@
 -- Where all spreads may be entered, how deep a set is does not depend on how many more may be.
 use Rattle.std.proofs.Common.{◌≡◌, ℕ, zero, suc, ◌+◌, max, Some, refl, sym, ap, subst, ◌∙◌}
-use Rattle.gql_ast.specs.Sels as sels
-use Rattle.gql_ast.specs.Sels.{Sels}
+use Rattle.plan_ir.specs.gql_ast.Sels as sels
+use Rattle.plan_ir.specs.gql_ast.Sels.{Sels}
 use Rattle.plan_ir.specs.Expansion.{Project}
 use Rattle.plan_project.proofs.SpreadChains.{AllSpreads, Bounded}
-use Rattle.relay_model.specs.Readings.{depth_inside, depth_of, depth_with}
-use Rattle.schema_tables.specs.Types.{Text}
-use Rattle.schema_types.specs.NameRules.{fragment_named}
-use Rattle.schema_types.specs.Sites.{FragmentAt}
+use Rattle.relay_machine.specs.relay_model.Readings.{depth_inside, depth_of, depth_with}
+use Rattle.plan_ir.specs.schema_tables.Types.{Text}
+use Rattle.plan_ir.specs.schema_types.NameRules.{fragment_named}
+use Rattle.plan_ir.specs.schema_types.Sites.{FragmentAt}
 
 module _ (P Q : Text → Type 0) (deep other : Text → ℕ) (same : (n : Text) → P n → Q n → deep n ≡ other n) where
   same_with : (s : Sels) → AllSpreads P s → AllSpreads Q s → depth_with deep s ≡ depth_with other s

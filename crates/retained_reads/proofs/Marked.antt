@@ -2,25 +2,25 @@
 -- is entered.
 use Rattle.std.proofs.Common.{◌≡◌, Bool, true, false, true≢false, cond, List, [], ◌∷◌, ◌++◌, codes, Option, Some, None, bytes_eq, refl, sym, ap, ◌∙◌}
 use Rattle.std.proofs.lemmas.Slice.Eq.{bytes_eq-Decides}
-use Rattle.gql_ast.specs.Value.{Val}
-use Rattle.gql_ast.specs.declared.directive.Directive.{Directive}
-use Rattle.gql_graph.specs.Rules.{each}
-use Rattle.gql_plain.specs.Names.{is_name}
-use Rattle.gql_plain.specs.Order.{member_at}
-use Rattle.gql_plain.specs.Tree.{Tree}
-use Rattle.gql_syntax.specs.Words.{IsName}
+use Rattle.plan_ir.specs.gql_ast.Value.{Val}
+use Rattle.plan_ir.specs.gql_ast.declared.directive.Directive.{Directive}
+use Rattle.plan_ir.specs.gql_graph.Rules.{each}
+use Rattle.plan_ir.specs.gql_plain.Names.{is_name}
+use Rattle.plan_ir.specs.gql_plain.Order.{member_at}
+use Rattle.plan_ir.specs.gql_plain.Tree.{Tree}
+use Rattle.plan_ir.specs.gql_syntax.Words.{IsName}
 use Rattle.plan_ir.specs.Substitution.{Arguments, arguments_in}
-use Rattle.plan_read.proofs.KnownDocuments.{HaveConstants, IsConstant}
-use Rattle.plan_text.proofs.Evaluating.{found-with_pair}
-use Rattle.plan_text.specs.Collecting.{environment_inside, local_value, with_locals}
-use Rattle.relay_dirs.specs.Connections.{value_of_name}
-use Rattle.relay_dirs.specs.Locals.{Local, locals_of}
-use Rattle.relay_model.specs.Readings.{shadowed_by, with_marked}
+use Rattle.plan_project.proofs.plan_read_laws.KnownDocuments.{HaveConstants, IsConstant}
+use Rattle.relay_machine.proofs.plan_text_laws.Evaluating.{found-with_pair}
+use Rattle.relay_machine.specs.plan_text.Collecting.{environment_inside, local_value, with_locals}
+use Rattle.plan_ir.specs.relay_dirs.Connections.{value_of_name}
+use Rattle.plan_ir.specs.relay_dirs.Locals.{Local, locals_of}
+use Rattle.relay_machine.specs.relay_model.Readings.{shadowed_by, with_marked}
 use Rattle.retained_reads.proofs.Agreeing.{Agree}
-use Rattle.schema_tables.specs.Types.{Text}
-use Rattle.schema_types.specs.Environments.{Values}
-use Rattle.schema_types.specs.Sites.{FragmentAt}
-use Rattle.schema_values.proofs.ConstantValues.{constant_value}
+use Rattle.plan_ir.specs.schema_tables.Types.{Text}
+use Rattle.plan_ir.specs.schema_types.Environments.{Values}
+use Rattle.plan_ir.specs.schema_types.Sites.{FragmentAt}
+use Rattle.plan_ir.proofs.schema_values_laws.ConstantValues.{constant_value}
 
 -- ---- names
 

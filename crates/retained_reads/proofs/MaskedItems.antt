@@ -2,30 +2,30 @@
 -- that gives the same to each Name, where other spreads may still be entered, but enough of them.
 use Rattle.std.proofs.Common.{◌≡◌, ℕ, zero, suc, cond, List, [], ◌∷◌, length, Option, Some, None, option_map, refl, sym, ap, subst}
 use Rattle.std.specs.List.{AllByRecursion, AllZip}
-use Rattle.gql_ast.specs.Sels as sels
-use Rattle.gql_ast.specs.Sels.{Sels}
-use Rattle.gql_ast.specs.declared.directive.Directive.{Directive}
+use Rattle.plan_ir.specs.gql_ast.Sels as sels
+use Rattle.plan_ir.specs.gql_ast.Sels.{Sels}
+use Rattle.plan_ir.specs.gql_ast.declared.directive.Directive.{Directive}
 use Rattle.plan_ir.specs.Expansion.{Project, response_key}
 use Rattle.plan_ir.specs.Substitution.{Arguments}
 use Rattle.plan_project.proofs.SoundNodes.{SoundLocal}
 use Rattle.plan_project.proofs.SoundTrees.{SoundArguments, SoundDirectives, SoundSelections}
 use Rattle.plan_project.proofs.SpreadChains.{AllSpreads, Bounded}
-use Rattle.plan_read.proofs.KnownDocuments.{HaveConstants}
-use Rattle.plan_read.proofs.Zips.{zip_kept, zip_where}
-use Rattle.plan_text.specs.Collecting.{applies, environment_inside, is_left_out}
-use Rattle.relay_dirs.specs.Connections.{connection_among}
-use Rattle.relay_dirs.specs.Locals.{locals_of}
-use Rattle.relay_model.specs.Collection.{Part, ask_of, collect, collect_in, collect_with, connection_asked, enter_where, form_on, is_open, part_inside, pointer_to, spread_items}
-use Rattle.relay_model.specs.Readings.{masked_setting}
+use Rattle.plan_project.proofs.plan_read_laws.KnownDocuments.{HaveConstants}
+use Rattle.plan_project.proofs.plan_read_laws.Zips.{zip_kept, zip_where}
+use Rattle.relay_machine.specs.plan_text.Collecting.{applies, environment_inside, is_left_out}
+use Rattle.plan_ir.specs.relay_dirs.Connections.{connection_among}
+use Rattle.plan_ir.specs.relay_dirs.Locals.{locals_of}
+use Rattle.relay_machine.specs.relay_model.Collection.{Part, ask_of, collect, collect_in, collect_with, connection_asked, enter_where, form_on, is_open, part_inside, pointer_to, spread_items}
+use Rattle.relay_machine.specs.relay_model.Readings.{masked_setting}
 use Rattle.retained_reads.proofs.Agreeing.{Agree, arguments_same, inside_agree, left_same, scope_same}
 use Rattle.retained_reads.proofs.Both.{Both, Entered, at_spread, below_field, both_inside, both_pointer, both_spread, both_where, gather_in, gather_masked, gather_with}
-use Rattle.schema_tables.specs.Types.{Text, Defs}
-use Rattle.schema_types.specs.Environments.{Values}
-use Rattle.schema_types.specs.NameRules.{fragment_named}
-use Rattle.schema_types.specs.Sites.{FragmentAt, condition_or}
-use Rattle.store_model.proofs.ItemReads.{GivesItems}
-use Rattle.store_model.proofs.SameItems.{AlikeItem, zip_either}
-use Rattle.store_model.specs.Items.{Item, asked, pointed}
+use Rattle.plan_ir.specs.schema_tables.Types.{Text, Defs}
+use Rattle.plan_ir.specs.schema_types.Environments.{Values}
+use Rattle.plan_ir.specs.schema_types.NameRules.{fragment_named}
+use Rattle.plan_ir.specs.schema_types.Sites.{FragmentAt, condition_or}
+use Rattle.plan_ir.proofs.store_model_laws.ItemReads.{GivesItems}
+use Rattle.plan_ir.proofs.store_model_laws.SameItems.{AlikeItem, zip_either}
+use Rattle.plan_ir.specs.store_model.Items.{Item, asked, pointed}
 
 -- what is known of a fragment that is found under a name
 pub record IsKnown (p : Project) (n : Text) (f : FragmentAt) : Type 0 where

@@ -1,20 +1,20 @@
 -- Where the slots stay at all ids that an operation reaches, what it shows stays, and what each pointer shows that it gives, and in turn each that
 -- those give.
 use Rattle.std.proofs.Common.{◌≡◌, ℕ, zero, suc, ◌+◌, ◌≤◌, true, List, [], ◌∷◌, max, Option, Some, None, refl, sym, ap, subst, ◌∙◌, arith}
-use Rattle.gql_ast.specs.Sels as sels
-use Rattle.gql_ast.specs.Sels.{Sels}
-use Rattle.gql_plain.specs.Order.{has_text}
-use Rattle.plan_build.proofs.PartDepths.{selections_enough}
+use Rattle.plan_ir.specs.gql_ast.Sels as sels
+use Rattle.plan_ir.specs.gql_ast.Sels.{Sels}
+use Rattle.plan_ir.specs.gql_plain.Order.{has_text}
+use Rattle.plan_project.proofs.plan_build_laws.PartDepths.{selections_enough}
 use Rattle.plan_ir.specs.Expansion as plans
 use Rattle.plan_ir.specs.Expansion.{name_or, spreads_in}
 use Rattle.plan_project.proofs.SpreadChains.{Bounded}
-use Rattle.plan_text.proofs.Collects.{sels_append-end}
-use Rattle.plan_text.specs.Collecting.{with_additions}
+use Rattle.relay_machine.proofs.plan_text_laws.Collects.{sels_append-end}
+use Rattle.relay_machine.specs.plan_text.Collecting.{with_additions}
 use Rattle.relay_machine.specs.Machine.{Project, Retained, documents_of, slots_of}
-use Rattle.relay_model.specs.Collection.{Part, collect, part_of}
-use Rattle.relay_model.specs.Reaches.{operation_reaches, whole_depth}
-use Rattle.relay_model.specs.Readings.{depth_of, fragment_part, masked_setting, no_place, with_marked}
-use Rattle.relay_model.specs.Responses.{whole_setting}
+use Rattle.relay_machine.specs.relay_model.Collection.{Part, collect, part_of}
+use Rattle.relay_machine.specs.relay_model.Reaches.{operation_reaches, whole_depth}
+use Rattle.relay_machine.specs.relay_model.Readings.{depth_of, fragment_part, masked_setting, no_place, with_marked}
+use Rattle.relay_machine.specs.relay_model.Responses.{whole_setting}
 use Rattle.retained_reads.proofs.Accepted.{IsKnownOperation}
 use Rattle.retained_reads.proofs.Both.{Both, as_part, gather_masked, gather_whole}
 use Rattle.retained_reads.proofs.Covering.{Deep, Tied, covers}
@@ -23,23 +23,23 @@ use Rattle.retained_reads.proofs.Marked.{marked_agrees}
 use Rattle.retained_reads.proofs.MaskedItems.{AreKnown, Follows, masked_items}
 use Rattle.retained_reads.proofs.WholeItems.{whole_items}
 use Rattle.retained_reads.specs.Reads.{StaysRead, fragment_found, operation_found, pointer_found, pointers_given}
-use Rattle.schema_tables.specs.Types.{Text, possible, root}
-use Rattle.schema_types.specs.Environments.{Values}
-use Rattle.schema_types.specs.NameRules.{fragment_named}
-use Rattle.schema_types.specs.Sites.{FragmentAt}
-use Rattle.store_model.proofs.Deep.{LessDeep, read_deep}
-use Rattle.store_model.proofs.ItemReaches.{reach_items}
-use Rattle.store_model.proofs.ItemReads.{read_items}
-use Rattle.store_model.proofs.Kept.{Holds, Issues, SubAt, kept}
-use Rattle.store_model.proofs.Least.{Each, each_append, each_so}
-use Rattle.store_model.proofs.SameSlots.{read_same_seen}
-use Rattle.store_model.proofs.Seated.{among_all, each_among}
-use Rattle.store_model.specs.Items.{Item, Pointer, asked, pointed}
-use Rattle.store_model.specs.Records.{Records}
-use Rattle.store_model.specs.Reaches.{reach_at}
-use Rattle.store_model.specs.Retention.{Covered}
-use Rattle.store_model.specs.Walks.{Found, Issued, Standing, absent, gone, lives, pointers_in_turn, pointers_of_reads, read_at, type_of_record}
-use Rattle.store_record.specs.Keys as keys
+use Rattle.plan_ir.specs.schema_tables.Types.{Text, possible, root}
+use Rattle.plan_ir.specs.schema_types.Environments.{Values}
+use Rattle.plan_ir.specs.schema_types.NameRules.{fragment_named}
+use Rattle.plan_ir.specs.schema_types.Sites.{FragmentAt}
+use Rattle.plan_ir.proofs.store_model_laws.Deep.{LessDeep, read_deep}
+use Rattle.plan_ir.proofs.store_model_laws.ItemReaches.{reach_items}
+use Rattle.plan_ir.proofs.store_model_laws.ItemReads.{read_items}
+use Rattle.plan_ir.proofs.store_model_laws.Kept.{Holds, Issues, SubAt, kept}
+use Rattle.plan_ir.proofs.store_model_laws.Least.{Each, each_append, each_so}
+use Rattle.plan_ir.proofs.store_model_laws.SameSlots.{read_same_seen}
+use Rattle.plan_ir.proofs.store_model_laws.Seated.{among_all, each_among}
+use Rattle.plan_ir.specs.store_model.Items.{Item, Pointer, asked, pointed}
+use Rattle.plan_ir.specs.store_model.Records.{Records}
+use Rattle.plan_ir.specs.store_model.Reaches.{reach_at}
+use Rattle.plan_ir.specs.store_model.Retention.{Covered}
+use Rattle.plan_ir.specs.store_model.Walks.{Found, Issued, Standing, absent, gone, lives, pointers_in_turn, pointers_of_reads, read_at, type_of_record}
+use Rattle.plan_ir.specs.store_record.Keys as keys
 
 first_fits : (a b : ℕ) → a + 1 ≤ max a b + 1
 first_fits a b = omega arith

@@ -1,22 +1,22 @@
 -- A sweep keeps the slots of all ids that one of its operations reaches.
 use Rattle.std.proofs.Common.{◌≡◌, Bool, true, cond, ◌||◌, List, [], ◌∷◌, None, sym, ap, ◌∙◌}
 use Rattle.std.specs.List.{AllByRecursion}
-use Rattle.gql_plain.proofs.Booleans.{or_true}
-use Rattle.gql_plain.specs.Order.{has_text}
+use Rattle.plan_ir.proofs.gql_plain_laws.Booleans.{or_true}
+use Rattle.plan_ir.specs.gql_plain.Order.{has_text}
 use Rattle.plan_project.specs.Projects.{IsAcceptedProject}
 use Rattle.relay_machine.proofs.Sweeps.{slot_at-sweep}
 use Rattle.relay_machine.specs.Machine.{Project, Retained, documents_of, is_reached, slots_of, sweep_of}
-use Rattle.relay_model.specs.Reaches.{operation_reaches}
-use Rattle.relay_model.specs.Readings.{no_place}
+use Rattle.relay_machine.specs.relay_model.Reaches.{operation_reaches}
+use Rattle.relay_machine.specs.relay_model.Readings.{no_place}
 use Rattle.retained_reads.proofs.Accepted.{fragments_known, operation_known}
 use Rattle.retained_reads.proofs.Retaining.{stays_read}
 use Rattle.retained_reads.specs.Laws.{SweepsKeepReads}
 use Rattle.retained_reads.specs.Reads.{IsOfDocuments, StaysRead}
-use Rattle.schema_tables.specs.Types.{Text}
-use Rattle.store_model.proofs.Least.{each_from}
-use Rattle.store_model.specs.Records.{Records, slot_at}
-use Rattle.store_model.specs.Sweeps.{sweep}
-use Rattle.store_record.specs.Keys as keys
+use Rattle.plan_ir.specs.schema_tables.Types.{Text}
+use Rattle.plan_ir.proofs.store_model_laws.Least.{each_from}
+use Rattle.plan_ir.specs.store_model.Records.{Records, slot_at}
+use Rattle.plan_ir.specs.store_model.Sweeps.{sweep}
+use Rattle.plan_ir.specs.store_record.Keys as keys
 
 slot_stays : (keep : Text → Bool) (m : Records) (id : Text) → keep id ≡ true → slots_of m id ≡ slots_of (sweep keep m) id
 slot_stays keep m id e = sym (slot_at-sweep keep m id ∙ ap (λ b. cond b (slot_at id m) None) e)

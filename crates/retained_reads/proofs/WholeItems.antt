@@ -1,23 +1,23 @@
 -- By the whole form, what parts are seen by both forms give is what the selections with their additions give, one by one.
 use Rattle.std.proofs.Common.{◌≡◌, ℕ, zero, suc, cond, List, [], ◌∷◌, ◌++◌, map, Option, Some, None, refl, sym, ap, subst, ◌∙◌, append_assoc}
 use Rattle.std.specs.List.{AllZip}
-use Rattle.gql_ast.specs.Sels as sels
-use Rattle.gql_ast.specs.Sels.{Sels, sels_append}
-use Rattle.gql_ast.specs.declared.directive.Directive.{Directive}
+use Rattle.plan_ir.specs.gql_ast.Sels as sels
+use Rattle.plan_ir.specs.gql_ast.Sels.{Sels, sels_append}
+use Rattle.plan_ir.specs.gql_ast.declared.directive.Directive.{Directive}
 use Rattle.plan_ir.specs.Expansion.{Project}
-use Rattle.plan_read.proofs.Zips.{zip_kept, zip_where}
-use Rattle.plan_text.specs.Collecting.{applies, environment_inside, field_additions, is_left_out, with_additions}
-use Rattle.relay_model.specs.Collection.{Part, Setting, ask_of, collect, collect_in, collect_with, enter_where, spread_items}
-use Rattle.relay_model.specs.Readings.{no_place}
-use Rattle.relay_model.specs.Responses.{whole_setting}
+use Rattle.plan_project.proofs.plan_read_laws.Zips.{zip_kept, zip_where}
+use Rattle.relay_machine.specs.plan_text.Collecting.{applies, environment_inside, field_additions, is_left_out, with_additions}
+use Rattle.relay_machine.specs.relay_model.Collection.{Part, Setting, ask_of, collect, collect_in, collect_with, enter_where, spread_items}
+use Rattle.relay_machine.specs.relay_model.Readings.{no_place}
+use Rattle.relay_machine.specs.relay_model.Responses.{whole_setting}
 use Rattle.retained_reads.proofs.Both.{Both, Entered, as_part, at_spread, below_field, both_spread, both_where, gather_added, gather_in, gather_whole, gather_with, lifted_item}
-use Rattle.schema_tables.specs.Types.{Text, Defs}
-use Rattle.schema_types.specs.Environments.{Values}
-use Rattle.schema_types.specs.NameRules.{fragment_named}
-use Rattle.schema_types.specs.Sites.{FragmentAt, below, condition_or}
-use Rattle.store_model.proofs.ItemReads.{GivesItems}
-use Rattle.store_model.proofs.SameItems.{AlikeItem, zip_append}
-use Rattle.store_model.specs.Items.{Item, asked, pointed}
+use Rattle.plan_ir.specs.schema_tables.Types.{Text, Defs}
+use Rattle.plan_ir.specs.schema_types.Environments.{Values}
+use Rattle.plan_ir.specs.schema_types.NameRules.{fragment_named}
+use Rattle.plan_ir.specs.schema_types.Sites.{FragmentAt, below, condition_or}
+use Rattle.plan_ir.proofs.store_model_laws.ItemReads.{GivesItems}
+use Rattle.plan_ir.proofs.store_model_laws.SameItems.{AlikeItem, zip_append}
+use Rattle.plan_ir.specs.store_model.Items.{Item, asked, pointed}
 
 -- ---- one set behind another
 

@@ -4,8 +4,8 @@ use Rattle.std.specs.List.{AllByRecursion}
 use Rattle.plan_project.specs.Projects.{IsAcceptedProject}
 use Rattle.relay_machine.specs.Machine.{Project, Retained, sweep_of}
 use Rattle.retained_reads.specs.Reads.{IsOfDocuments, StaysRead}
-use Rattle.schema_tables.specs.Types.{Text}
-use Rattle.store_model.specs.Records.{Records}
+use Rattle.plan_ir.specs.schema_tables.Types.{Text}
+use Rattle.plan_ir.specs.store_model.Records.{Records}
 
 -- for operations of an accepted project, in all records and for every owner
 abbrev pub SweepsKeepReads : Type 0

@@ -3,13 +3,13 @@ use Rattle.std.specs.Prelude.{◌≡◌, ℕ, List, Option, Some, None}
 use Rattle.std.specs.List.{AllByRecursion}
 use Rattle.plan_ir.specs.Expansion.{name_or, operation_named}
 use Rattle.relay_machine.specs.Machine.{Project, Retained, definitions_in, documents_of, slots_of}
-use Rattle.relay_model.specs.Readings.{fragment_reads, operation_reads}
-use Rattle.schema_tables.specs.Types.{Text, root}
-use Rattle.schema_types.specs.NameRules.{fragment_named, fragments, operations}
-use Rattle.schema_types.specs.Sites.{FragmentAt}
-use Rattle.store_model.specs.Records.{Records}
-use Rattle.store_model.specs.Walks.{Found, Issued, pointers_in_turn, still}
-use Rattle.store_record.specs.Keys as keys
+use Rattle.relay_machine.specs.relay_model.Readings.{fragment_reads, operation_reads}
+use Rattle.plan_ir.specs.schema_tables.Types.{Text, root}
+use Rattle.plan_ir.specs.schema_types.NameRules.{fragment_named, fragments, operations}
+use Rattle.plan_ir.specs.schema_types.Sites.{FragmentAt}
+use Rattle.plan_ir.specs.store_model.Records.{Records}
+use Rattle.plan_ir.specs.store_model.Walks.{Found, Issued, pointers_in_turn, still}
+use Rattle.plan_ir.specs.store_record.Keys as keys
 
 -- what the operation shows in records, the pointers that it gives being of this owner
 abbrev pub operation_found : Project → (owner : Text) → Retained → Records → Found

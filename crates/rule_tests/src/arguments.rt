@@ -1,7 +1,7 @@
 //! The rules on arguments, directives and variables hold. That each of them is kept is shown by the
 //! rows.
 use crate::texts::{documents, schema};
-use doc_args::check_args;
+use plan_project::check_args;
 use std::test::Fail;
 
 #[test]

@@ -1,8 +1,6 @@
 //! What the directives after Relay say: the local variables of fragments, and connections.
 use crate::texts::{documents, schema};
-use gql_ast::{Definition, Selection};
-use gql_plain::{Conn, Words};
-use relay_dirs::{check_relay, connection, locals};
+use plan_ir::{Conn, Definition, Selection, Words, check_relay, connection, locals};
 use std::alloc::Global;
 use std::process::Abort;
 use std::test::Fail;

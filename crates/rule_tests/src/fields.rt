@@ -1,6 +1,6 @@
 //! The rules on fields hold. That each of them is kept is shown by the rows.
 use crate::texts::{documents, schema};
-use doc_fields::check_fields;
+use plan_project::check_fields;
 use std::test::Fail;
 
 const SCHEMA: &str = "type Query { me: User thing: Thing } type User { name: String }\n\

@@ -1,6 +1,6 @@
 //! The rules on names hold. That each of them is kept is shown by the rows.
 use crate::texts::{documents, schema};
-use doc_names::check_names;
+use plan_project::check_names;
 use std::test::Fail;
 
 const SCHEMA: &str = "type Query { me: User } type User { name: Int }";

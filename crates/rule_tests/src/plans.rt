@@ -1,11 +1,8 @@
 //! Copies with ample memory: of guards, nodes, operations and plans, in each of their forms.
-use gql_ast::{
-    Argument, Arguments, Directives, FilePlace, Kind, TypeTree, ValueTree, VariableDefs,
-};
-use gql_plain::{Conn, Ids, NoMemory, Words};
 use plan_ir::{
-    Condition, Conditions, Expanded, Guard, Node, Nodes, NormalPlan, NormalStep, NormalSteps,
-    ReaderPlan, ReaderStep, ReaderSteps,
+    Argument, Arguments, Condition, Conditions, Conn, Directives, Expanded, FilePlace, Guard, Ids,
+    Kind, NoMemory, Node, Nodes, NormalPlan, NormalStep, NormalSteps, ReaderPlan, ReaderStep,
+    ReaderSteps, TypeTree, ValueTree, VariableDefs, Words,
 };
 use std::alloc::Global;
 use std::test::Fail;

@@ -1,8 +1,7 @@
 //! Projects of a schema and two documents. What is wanted is worked out by hand; the rules stand in
 //! `docs/LANGUAGE.md`.
 use crate::texts::{file, text_of_fault};
-use gql_ast::{Definition, Document, Placed};
-use gql_plain::Name;
+use plan_ir::{Definition, Document, Name, Placed};
 use plan_project::{Artifacts, CompileFault, Project, ProjectFile, compile};
 use std::alloc::Global;
 use std::test::Fail;

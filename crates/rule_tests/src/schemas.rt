@@ -1,11 +1,8 @@
 //! What a schema says of its types. That each rule on schemas and each look-up of a rule is kept is
 //! shown over whole projects.
 use crate::texts::{schema, short, text_of_fault};
-use gql_ast::{FilePlaces, Kind};
-use gql_plain::Ids;
-use gql_sdl::parse_schema;
-use plan_project::ProjectFault;
-use schema_types::{NodeFault, RuleFault, Schema, TypeKind};
+use plan_ir::{FilePlaces, Ids, Kind, NodeFault, RuleFault, Schema, TypeKind};
+use plan_project::{ProjectFault, parse_schema};
 use std::alloc::Global;
 use std::test::Fail;
 

@@ -1,8 +1,7 @@
 //! What stands in documents, with the type around it and the numbers of its nodes.
 use crate::texts::{documents, schema};
-use doc_sites::{ArgumentAt, DirectiveAt, Site, definitions_at};
-use gql_plain::NoMemory;
-use schema_trees::located::NameAt;
+use plan_ir::located::NameAt;
+use plan_ir::{ArgumentAt, DirectiveAt, NoMemory, Site, definitions_at};
 use std::alloc::Global;
 use std::test::Fail;
 

@@ -1,13 +1,10 @@
 //! What texts are read as, and faults as texts.
 ghost use Rattle.std.specs.Prelude.{◌<◌, length};
 
-use gql_ast::{Documents, TypeTree, ValueTree};
-use gql_parse::parse_document;
-use gql_plain::Words;
-use gql_sdl::parse_schema;
-use gql_syntax::{Cursor, NESTING_LIMIT, read_type, read_value};
-use plan_project::{ProjectFault, ProjectFile};
-use schema_types::Schema;
+use plan_ir::{
+    Cursor, Documents, NESTING_LIMIT, Schema, TypeTree, ValueTree, Words, read_type, read_value,
+};
+use plan_project::{ProjectFault, ProjectFile, parse_document, parse_schema};
 use std::alloc::Global;
 use std::test::Fail;
 

@@ -2,10 +2,10 @@
 //! are those of GraphQL (October 2021, sections 3.4 to 3.12 and 6.1.2), with the profile of this
 //! project.
 use crate::texts::{documents, schema, type_of, value_of};
-use gql_ast::{Definition, Documents, VariableDefs};
-use gql_plain::{NoMemory, Pairs, Plain, Words, plain_of, text_of};
-use schema_types::Schema;
-use schema_values::{Env, VarFault, evaluate, fits, variables};
+use plan_ir::{
+    Definition, Documents, Env, NoMemory, Pairs, Plain, Schema, VarFault, VariableDefs, Words,
+    evaluate, fits, plain_of, text_of, variables,
+};
 use serde_json::Value;
 use std::alloc::Global;
 use std::process::Abort;

@@ -1,16 +1,16 @@
 -- The elements at the places of names.
 use Rattle.std.proofs.Common.{◌≡◌, ℕ, ◌<◌, zero, suc, Bool, true, false, cond, List, [], ◌∷◌, map, length, get_or, Option, Some, None, option_copied, option_map, is_some, bytes_eq, refl, ap, sym, ◌∙◌, arith}
-use Rattle.gql_ast.specs.declared.member.InputTree.{InputTree}
+use Rattle.schema_trees.specs.gql_ast.declared.member.InputTree.{InputTree}
 use Rattle.schema_trees.specs.Located.{InputAt, FieldAt}
 use Rattle.schema_trees.specs.LocatedView.{input_of, input_text, field_of, field_text}
 use Rattle.schema_trees.specs.declared.located.FieldAt as field_code
 use Rattle.schema_trees.specs.declared.located.InputAt as input_code
 use Rattle.schema_rules.specs.NamedAt.{field_place}
-use Rattle.schema_tables.specs.Indexes.{is_named}
-use Rattle.schema_tables.specs.Places.{first_at, first_that}
+use Rattle.schema_trees.specs.schema_tables.Indexes.{is_named}
+use Rattle.schema_trees.specs.schema_tables.Places.{first_at, first_that}
 use Rattle.schema_rules.specs.Rules.{field_found, input_found}
-use Rattle.schema_tables.specs.Types.{Text, input_named}
-use Rattle.schema_tables.proofs.Finding.{first_at-map}
+use Rattle.schema_trees.specs.schema_tables.Types.{Text, input_named}
+use Rattle.schema_trees.proofs.schema_tables_laws.Finding.{first_at-map}
 use denote.Ref.{Bor}
 
 pub get_or_of : {X A : Type 0} (view : X → A) (xs : List X) (i : ℕ) (d : X) → get_or (map view xs) i (view d) ≡ view (get_or xs i d)

@@ -6,12 +6,12 @@ use Rattle.std.proofs.lemmas.List.{drop_all}
 use Rattle.std.specs.BTreeSet.{BTreeSet}
 use Rattle.std.specs.List.{list_any}
 use Rattle.std.specs.Str.{bytes_eq}
-use Rattle.gql_plain.specs.Order.{has_text}
+use Rattle.gql_graph.specs.gql_plain.Order.{has_text}
 use Rattle.gql_graph.proofs.TextSteps.{same_text}
 use Rattle.gql_graph.specs.Seen.{Knows}
 use Rattle.schema_rules.specs.Inherited.{HasNone, is_open}
 use Rattle.schema_rules.specs.Rules.{leaves_out, names_of}
-use Rattle.schema_tables.specs.Types.{Text, Defs, interfaces_named, type_named}
+use Rattle.schema_trees.specs.schema_tables.Types.{Text, Defs, interfaces_named, type_named}
 use Rattle.schema_trees.specs.LocatedView.{name_of}
 use Rattle.schema_trees.specs.declared.located.NameAt.{NameAt}
 use denote.Ref.{Bor}

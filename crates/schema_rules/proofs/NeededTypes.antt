@@ -1,12 +1,12 @@
 -- What types need, by the definitions that define them.
 use Rattle.std.proofs.Common.{◌≡◌, Bool, true, false, cond, List, [], ◌∷◌, Option, Some, unwrap_or, bytes_eq, refl}
 use Rattle.std.specs.Option.{option_and_then}
-use Rattle.gql_ast.specs.declared.schema.SchemaDef.{SchemaDef}
-use Rattle.gql_ast.specs.declared.schema.SchemaDef.TheVariants as S
+use Rattle.schema_trees.specs.gql_ast.declared.schema.SchemaDef.{SchemaDef}
+use Rattle.schema_trees.specs.gql_ast.declared.schema.SchemaDef.TheVariants as S
 use Rattle.gql_graph.specs.Graphs.{next_in}
 use Rattle.schema_rules.specs.Needing.{needing}
 use Rattle.schema_rules.specs.Rules.{each, needs, needs_of}
-use Rattle.schema_tables.specs.Types.{Text, Defs, input_fields_of}
+use Rattle.schema_trees.specs.schema_tables.Types.{Text, Defs, input_fields_of}
 
 first_or : (b : Bool) (d : SchemaDef) (ns : List Text) (rest : Option (List Text)) (more : Option SchemaDef) → ns ≡ needs_of (input_fields_of d) → unwrap_or rest [] ≡ needs_of (option_and_then input_fields_of more)
     → unwrap_or (cond b (Some ns) rest) [] ≡ needs_of (option_and_then input_fields_of (cond b (Some d) more))

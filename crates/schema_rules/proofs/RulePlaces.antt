@@ -1,17 +1,17 @@
 -- Each place where a rule of schemas does not hold is that of a node of the schema.
 use Rattle.std.proofs.Common.{◌≡◌, ℕ, ◌<◌, Bool, true, false, cond, not, List, [], ◌∷◌, Option, Some, None, is_some, bytes_eq, filter, arith}
 use Rattle.std.specs.List.{AllByRecursion, filter_map, list_any}
-use Rattle.gql_ast.specs.TypeView.{ty_of}
-use Rattle.gql_ast.specs.Value.{Val}
-use Rattle.gql_ast.specs.declared.document.Kind.{Kind}
-use Rattle.gql_ast.specs.declared.document.Kind.TheVariants.{Query}
-use Rattle.gql_ast.specs.declared.member.FieldTree.{FieldTree}
-use Rattle.gql_ast.specs.declared.member.InputTree.{InputTree}
+use Rattle.schema_trees.specs.gql_ast.TypeView.{ty_of}
+use Rattle.schema_trees.specs.gql_ast.Value.{Val}
+use Rattle.schema_trees.specs.gql_ast.declared.document.Kind.{Kind}
+use Rattle.schema_trees.specs.gql_ast.declared.document.Kind.TheVariants.{Query}
+use Rattle.schema_trees.specs.gql_ast.declared.member.FieldTree.{FieldTree}
+use Rattle.schema_trees.specs.gql_ast.declared.member.InputTree.{InputTree}
 use Rattle.schema_rules.specs.declared.fault.Rule.{Rule}
 use Rattle.schema_rules.specs.Checked.{first_fault}
 use Rattle.schema_rules.specs.Rules as rule
 use Rattle.schema_rules.specs.Rules.{each, names_of, wrong, named_at, repeated_names, type_name_of, directive_name_of, fields_in, interfaces_in, union_members_in, enum_values_in, input_fields_in, inputs_in, roots_in, input_names, field_names, root_names, defined_name, has_effect}
-use Rattle.schema_tables.specs.Types.{Text, Defs, type_named, fields_named, default_root, is_output_kind, is_input_kind, is_empty, built_in_scalars}
+use Rattle.schema_trees.specs.schema_tables.Types.{Text, Defs, type_named, fields_named, default_root, is_output_kind, is_input_kind, is_empty, built_in_scalars}
 use Rattle.schema_trees.proofs.BelowSteps.{IfThere, all_append, all_each, all_map, all_filter, all_filter_map, below_append, below_wrong, below_each, below_every, below_repeats, below_first}
 use Rattle.schema_trees.proofs.NumberLaws.{located_below}
 use Rattle.schema_trees.specs.Located.{Located, InputAt, FieldAt, RootAt, DefAt, schema, scalar, object, interface, union, enum, input, directive, locate}

@@ -1,16 +1,16 @@
 -- Worked rows of the rules, computed from the definitions.
 use Rattle.std.proofs.Common.{◌≡◌, refl, List, [], ◌∷◌, Some, None, codes, true}
 use Rattle.std.specs.Prelude.{pos}
-use Rattle.gql_ast.specs.Ty as ty
-use Rattle.gql_ast.specs.Value as v
-use Rattle.gql_ast.specs.declared.member.FieldTree.{FieldTree}
-use Rattle.gql_ast.specs.declared.schema.SchemaDef.{SchemaDef}
-use Rattle.gql_ast.specs.declared.schema.SchemaDef.TheVariants as S
-use Rattle.gql_ast.specs.declared.type_tree.TypeTree.{TypeTree}
-use Rattle.gql_ast.specs.declared.type_tree.TypeTree.TheVariants as T
+use Rattle.schema_trees.specs.gql_ast.Ty as ty
+use Rattle.schema_trees.specs.gql_ast.Value as v
+use Rattle.schema_trees.specs.gql_ast.declared.member.FieldTree.{FieldTree}
+use Rattle.schema_trees.specs.gql_ast.declared.schema.SchemaDef.{SchemaDef}
+use Rattle.schema_trees.specs.gql_ast.declared.schema.SchemaDef.TheVariants as S
+use Rattle.schema_trees.specs.gql_ast.declared.type_tree.TypeTree.{TypeTree}
+use Rattle.schema_trees.specs.gql_ast.declared.type_tree.TypeTree.TheVariants as T
 use Rattle.schema_rules.specs.declared.fault.Rule.TheVariants as R
 use Rattle.schema_rules.specs.Checked.{first_fault}
-use Rattle.schema_tables.specs.Fits.{literal_fits}
+use Rattle.schema_trees.specs.schema_tables.Fits.{literal_fits}
 use Rattle.gql_graph.specs.Texts.{Text}
 
 abbrev field : Text → TypeTree → FieldTree

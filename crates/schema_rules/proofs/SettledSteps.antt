@@ -2,14 +2,14 @@
 use Rattle.std.proofs.Common.{◌≡◌, ℕ, ◌+◌, ◌<◌, Bool, true, false, cond, not, ◌&&◌, is_some, List, [], ◌∷◌, ◌++◌, map, length, drop, get_or, Option, Some, None, IfSome, bytes_eq, refl, ap, sym, subst, ◌∙◌, add-one}
 use Rattle.std.proofs.Math.Seq.{drop-cons}
 use Rattle.std.specs.List.{AllByRecursion}
-use Rattle.gql_ast.specs.declared.member.InputTree.{InputTree}
-use Rattle.gql_ast.specs.TypeView.{ty_of}
+use Rattle.schema_trees.specs.gql_ast.declared.member.InputTree.{InputTree}
+use Rattle.schema_trees.specs.gql_ast.TypeView.{ty_of}
 use Rattle.gql_graph.specs.Leasts.{least_from}
 use Rattle.gql_graph.specs.Rules.{each, wrong}
 use Rattle.gql_graph.proofs.LeastSteps.{noted-append, kept_least}
 use Rattle.schema_trees.specs.Located.{InputAt, FieldAt}
 use Rattle.schema_rules.specs.Rules.{argument_differs, arguments_lack, further_argument, input_found, is_required_at, same_type}
-use Rattle.schema_tables.specs.Types.{Text, input_named}
+use Rattle.schema_trees.specs.schema_tables.Types.{Text, input_named}
 
 -- what holds of each argument holds of the one that is found
 found_too : (P : InputAt → Type 0) (is : List InputAt) (n : Text) → AllByRecursion P is → IfSome (input_found is n) P

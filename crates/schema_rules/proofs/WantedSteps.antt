@@ -3,7 +3,7 @@ use Rattle.std.proofs.Common.{◌≡◌, ℕ, zero, suc, ◌+◌, ◌<◌, ◌�
 use Rattle.std.proofs.lemmas.List.{take_more, take_all, length-take-le}
 use Rattle.std.proofs.lemmas.List.Sums.{count_by-le-length, sum_by-cons}
 use Rattle.std.specs.List.{AllByRecursion, IsDistinct, list_any}
-use Rattle.gql_ast.specs.declared.member.FieldTree.{FieldTree}
+use Rattle.schema_trees.specs.gql_ast.declared.member.FieldTree.{FieldTree}
 use Rattle.gql_graph.specs.Leasts.{lower, least_from}
 use Rattle.gql_graph.specs.Rules.{each, wrong}
 use Rattle.gql_graph.proofs.LeastSteps.{noted-append}
@@ -12,9 +12,9 @@ use Rattle.schema_trees.specs.Located.{FieldAt}
 use Rattle.schema_rules.specs.NamedAt.{field_place}
 use Rattle.schema_rules.proofs.FoundAt.{placed_is_there, field_found-first}
 use Rattle.schema_rules.specs.Rules.{field_found, field_differs}
-use Rattle.schema_tables.specs.Places.{first_at}
-use Rattle.schema_tables.specs.Types.{Text, Defs, field_named}
-use Rattle.schema_tables.proofs.Finding.{within, first_here, suc_of}
+use Rattle.schema_trees.specs.schema_tables.Places.{first_at}
+use Rattle.schema_trees.specs.schema_tables.Types.{Text, Defs, field_named}
+use Rattle.schema_trees.proofs.schema_tables_laws.Finding.{within, first_here, suc_of}
 
 -- ---- places are noted in any order
 

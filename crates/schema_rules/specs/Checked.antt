@@ -6,7 +6,7 @@ use Rattle.schema_rules.specs.declared.fault.RuleFault.{RuleFault}
 use Rattle.schema_rules.specs.declared.fault.RuleFault.TheVariants as F
 use Rattle.schema_trees.specs.Located.{locate}
 use Rattle.schema_rules.specs.Rules.{has_effect, rules, first_broken}
-use Rattle.schema_tables.specs.Types.{Defs}
+use Rattle.schema_trees.specs.schema_tables.Types.{Defs}
 
 -- the first rule that does not hold, and the number of the node where it does not
 abbrev pub first_fault : Defs → Option (Rule × ℕ)

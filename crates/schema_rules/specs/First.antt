@@ -2,7 +2,7 @@
 use Rattle.std.specs.Prelude.{ℕ, List, [], ◌∷◌}
 use Rattle.schema_trees.specs.Located.{DefAt}
 use Rattle.schema_rules.specs.Rules.{names_not_unique, types_not_defined, root_types_wrong, names_reserved, members_not_unique, kinds_wrong, interfaces_wrong, interfaces_not_implemented, members_missing, inputs_need_themselves, defaults_wrong, composites_in_lists}
-use Rattle.schema_tables.specs.Types.{Defs}
+use Rattle.schema_trees.specs.schema_tables.Types.{Defs}
 use Rattle.schema_rules.specs.declared.fault.Rule.{Rule}
 use Rattle.schema_rules.specs.declared.fault.Rule.TheVariants as R
 

@@ -4,7 +4,7 @@ use Rattle.std.specs.BTreeSet.{BTreeSet}
 use Rattle.std.specs.List.{list_any}
 use Rattle.gql_graph.specs.Seen.{Knows}
 use Rattle.schema_rules.specs.Rules.{leaves_out}
-use Rattle.schema_tables.specs.Types.{Text, Defs, interfaces_named, type_named}
+use Rattle.schema_trees.specs.schema_tables.Types.{Text, Defs, interfaces_named, type_named}
 use denote.Ref.{Bor}
 
 -- whether a type leaves out an interface that one of its own implements

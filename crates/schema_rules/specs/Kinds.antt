@@ -1,7 +1,7 @@
 -- Kinds of operations that are kept by three marks.
 use Rattle.std.specs.Prelude.{◌≡◌, List}
-use Rattle.gql_ast.specs.declared.document.Kind.{Kind}
-use Rattle.gql_ast.specs.declared.document.Kind.TheVariants.{Query, Mutation, Subscription}
+use Rattle.schema_trees.specs.gql_ast.declared.document.Kind.{Kind}
+use Rattle.schema_trees.specs.gql_ast.declared.document.Kind.TheVariants.{Query, Mutation, Subscription}
 use Rattle.schema_rules.specs.declared.rules.roots.Kinds.{Kinds}
 use Rattle.schema_rules.specs.Rules.{has_kind}
 

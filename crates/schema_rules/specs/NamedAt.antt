@@ -1,7 +1,7 @@
 -- The places of names in lists.
 use Rattle.std.specs.Prelude.{ℕ, List, Option, bytes_eq}
 use Rattle.schema_trees.specs.Located.{FieldAt}
-use Rattle.schema_tables.specs.Places.{first_at}
+use Rattle.schema_trees.specs.schema_tables.Places.{first_at}
 use Rattle.gql_graph.specs.Texts.{Text}
 
 -- the place of the first field of a name

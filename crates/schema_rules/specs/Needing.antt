@@ -1,7 +1,7 @@
 -- What the type that a definition defines needs, with its name.
 use Rattle.std.specs.Prelude.{List, [], ◌∷◌, Some}
-use Rattle.gql_ast.specs.declared.schema.SchemaDef.{SchemaDef}
-use Rattle.gql_ast.specs.declared.schema.SchemaDef.TheVariants as S
+use Rattle.schema_trees.specs.gql_ast.declared.schema.SchemaDef.{SchemaDef}
+use Rattle.schema_trees.specs.gql_ast.declared.schema.SchemaDef.TheVariants as S
 use Rattle.schema_rules.specs.Rules.{needs_of}
 use Rattle.gql_graph.specs.Texts.{Text}
 

@@ -3,25 +3,25 @@
 -- that lacks it.
 use Rattle.std.specs.Prelude.{ℕ, ◌+◌, Bool, true, false, cond, not, ◌&&◌, ◌||◌, nat_lt, List, [], ◌∷◌, ◌++◌, map, length, take, codes, Option, Some, None, is_some, bytes_eq}
 use Rattle.std.specs.List.{list_any, filter_map}
-use Rattle.gql_plain.specs.Order.{has_text}
-use Rattle.gql_ast.specs.Ty.{Ty}
-use Rattle.gql_ast.specs.Ty as ty
-use Rattle.gql_ast.specs.TypeView.{ty_of}
-use Rattle.gql_ast.specs.Value.{Val}
-use Rattle.gql_ast.specs.declared.document.Kind.{Kind}
-use Rattle.gql_ast.specs.declared.document.Kind.TheVariants.{Query, Mutation, Subscription}
-use Rattle.gql_ast.specs.declared.member.FieldTree.{FieldTree}
-use Rattle.gql_ast.specs.declared.member.InputTree.{InputTree}
+use Rattle.gql_graph.specs.gql_plain.Order.{has_text}
+use Rattle.schema_trees.specs.gql_ast.Ty.{Ty}
+use Rattle.schema_trees.specs.gql_ast.Ty as ty
+use Rattle.schema_trees.specs.gql_ast.TypeView.{ty_of}
+use Rattle.schema_trees.specs.gql_ast.Value.{Val}
+use Rattle.schema_trees.specs.gql_ast.declared.document.Kind.{Kind}
+use Rattle.schema_trees.specs.gql_ast.declared.document.Kind.TheVariants.{Query, Mutation, Subscription}
+use Rattle.schema_trees.specs.gql_ast.declared.member.FieldTree.{FieldTree}
+use Rattle.schema_trees.specs.gql_ast.declared.member.InputTree.{InputTree}
 use Rattle.schema_rules.specs.declared.fault.Rule.{Rule}
 use Rattle.schema_rules.specs.declared.fault.Rule.TheVariants as R
-use Rattle.schema_tables.specs.declared.kind.TypeKind.{TypeKind}
-use Rattle.schema_tables.specs.BuiltIn.{is_built_in_directive}
-use Rattle.schema_tables.specs.Fits.{is_non_null, literal_fits}
+use Rattle.schema_trees.specs.schema_tables.declared.kind.TypeKind.{TypeKind}
+use Rattle.schema_trees.specs.schema_tables.BuiltIn.{is_built_in_directive}
+use Rattle.schema_trees.specs.schema_tables.Fits.{is_non_null, literal_fits}
 use Rattle.schema_trees.specs.Located.{Located, TypeAt, InputAt, FieldAt, RootAt, DefAt, schema, scalar, object, interface, union, enum, input, directive}
 use Rattle.gql_graph.specs.Reached.{any_leads}
 pub use Rattle.gql_graph.specs.Rules.{each, wrong, first_broken}
 pub use Rattle.schema_trees.specs.DefinitionParts.{repeats, repeated_names, names_of, type_name_of, directive_name_of, fields_in, interfaces_in, union_members_in, enum_values_in, input_fields_in, inputs_in, roots_in, input_names, field_names, root_names, defined_name}
-use Rattle.schema_tables.specs.Types.{Text, Defs, built_in_scalars, is_built_in_scalar, type_named, kind_of, is_kind, is_input_kind, is_output_kind, is_object_kind, is_interface_kind, is_composite, base_of, implements, applies, interfaces_named, fields_named, input_named, inputs_of, same_kind, default_root, is_empty}
+use Rattle.schema_trees.specs.schema_tables.Types.{Text, Defs, built_in_scalars, is_built_in_scalar, type_named, kind_of, is_kind, is_input_kind, is_output_kind, is_object_kind, is_interface_kind, is_composite, base_of, implements, applies, interfaces_named, fields_named, input_named, inputs_of, same_kind, default_root, is_empty}
 
 abbrev pub begins_with_underscores : Text → Bool
 begins_with_underscores n = bytes_eq (take 2 n) (codes "__")

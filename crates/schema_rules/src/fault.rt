@@ -1,5 +1,5 @@
 //! The rules of projects, and why a check of them fails.
-use gql_plain::NoMemory;
+use gql_graph::gql_plain::NoMemory;
 use std::alloc::{AllocError, AllocFailed};
 
 /// A rule of projects, by the code that is printed for it. The codes are this project's own.

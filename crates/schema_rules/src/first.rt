@@ -15,12 +15,12 @@ use crate::rules::needs::inputs_need_themselves;
 use crate::rules::roots::{names_not_unique, root_types_wrong};
 use crate::rules::types::{composites_in_lists, kinds_wrong, types_not_defined};
 use gql_graph::first::First;
+use gql_graph::gql_plain::NoMemory;
 use gql_graph::least::Least;
-use gql_plain::NoMemory;
-use schema_tables::built_in::is_built_in_directive;
-use schema_tables::tables::Tables;
-use schema_tables::type_forms::is_built_in_scalar;
 use schema_trees::located::{DefAt, locate};
+use schema_trees::schema_tables::built_in::is_built_in_directive;
+use schema_trees::schema_tables::tables::Tables;
+use schema_trees::schema_tables::type_forms::is_built_in_scalar;
 use std::alloc::Global;
 
 /// The first rule that a schema does not meet, and the number of the node where it does not.

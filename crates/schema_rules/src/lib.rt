@@ -6,4 +6,8 @@ pub mod fault;
 pub mod first;
 mod rules;
 
+pub use gql_graph;
+pub use gql_graph::gql_plain;
 pub use rules::fields::same_type;
+pub use schema_trees;
+pub use schema_trees::{gql_ast, schema_tables};

@@ -13,9 +13,9 @@ use Rattle.gql_ast.specs.ValueView.{argument_of}
 use Rattle.gql_ast.specs.declared.value.Argument.{Argument}
 use Rattle.gql_graph.specs.Rules.{each}
 use Rattle.gql_graph.specs.Texts.{Text}
-use Rattle.gql_plain.proofs.Booleans.{both_ways}
-use Rattle.gql_plain.proofs.SortedTexts.{AreInOrder-sorted_texts}
-use Rattle.gql_plain.specs.Order.{AreInOrder, has_text, with_text, sorted_texts}
+use Rattle.gql_ast.proofs.gql_plain_laws.Booleans.{both_ways}
+use Rattle.gql_ast.proofs.gql_plain_laws.SortedTexts.{AreInOrder-sorted_texts}
+use Rattle.gql_graph.specs.gql_plain.Order.{AreInOrder, has_text, with_text, sorted_texts}
 use Rattle.schema_tables.specs.Views.{InputDef}
 use Rattle.schema_tables.specs.Fits.{has_member}
 use Rattle.schema_tables.specs.Given.{gives_each}

@@ -2,7 +2,7 @@
 use Rattle.std.proofs.Common.{◌≡◌, ℕ, zero, suc, ◌<◌, Bool, true, false, true≢false, cond, List, [], ◌∷◌, ◌++◌, length, get_or, slice_get, Option, Some, None, option_map, bytes_eq, refl, ap, sym, subst, ◌∙◌, arith}
 use Rattle.gql_ast.specs.declared.member.FieldTree.{FieldTree}
 use Rattle.gql_ast.specs.declared.member.InputTree.{InputTree}
-use Rattle.gql_plain.proofs.InOrder.{AreInOrder-none}
+use Rattle.gql_ast.proofs.gql_plain_laws.InOrder.{AreInOrder-none}
 use Rattle.schema_tables.proofs.Finding.{finds, missing}
 use Rattle.schema_tables.specs.declared.places.InputPlaces as kept
 use Rattle.schema_tables.specs.InputPlaces.{ArePlaced}

@@ -3,9 +3,9 @@ use Rattle.std.proofs.Common.{◌≡◌, ℕ, zero, suc, nat_eq, ◌+◌, ◌<�
 use Rattle.std.proofs.lemmas.Bool.{cases_lt}
 use Rattle.std.proofs.lemmas.Slice.Eq.{bytes_eq-Decides}
 use Rattle.std.specs.List.{filter, filter_map, cons_option, list_any}
-use Rattle.gql_plain.proofs.Booleans.{and_false}
-use Rattle.gql_plain.proofs.SortedTexts.{same_texts, AreInOrder-sorted_texts, has_text-sorted_texts}
-use Rattle.gql_plain.specs.Order.{has_text, sorted_texts}
+use Rattle.gql_ast.proofs.gql_plain_laws.Booleans.{and_false}
+use Rattle.gql_ast.proofs.gql_plain_laws.SortedTexts.{same_texts, AreInOrder-sorted_texts, has_text-sorted_texts}
+use Rattle.gql_graph.specs.gql_plain.Order.{has_text, sorted_texts}
 use Rattle.gql_ast.specs.declared.schema.SchemaDef.{SchemaDef}
 use Rattle.gql_ast.specs.declared.schema.SchemaDef.TheVariants as S
 use Rattle.schema_tables.proofs.Finding.{finds, found_passes, missing, suc_of}

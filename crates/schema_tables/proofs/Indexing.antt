@@ -9,8 +9,8 @@ use Rattle.std.specs.List.Sorted.{IsStrictlySortedBy, IsStableBy, IsSortedBy, Is
 use Rattle.std.proofs.lemmas.Cmp.{tied_itself}
 use Rattle.std.proofs.lemmas.List.{length-map}
 use Rattle.std.specs.Ordering.{is_lt, ordering_reverse}
-use Rattle.gql_plain.proofs.InOrder.{below_at}
-use Rattle.gql_plain.specs.Order.{AreInOrder}
+use Rattle.gql_ast.proofs.gql_plain_laws.InOrder.{below_at}
+use Rattle.gql_graph.specs.gql_plain.Order.{AreInOrder}
 use Rattle.schema_tables.proofs.Counting.{eq_swap}
 use Rattle.schema_tables.proofs.Finding.{suc_of}
 use Rattle.schema_tables.specs.Indexes.{IsIndexOf, IsSortedFrom, name_at, name_or_none, place_among, place_of}

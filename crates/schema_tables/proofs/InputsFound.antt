@@ -3,8 +3,8 @@ use Rattle.std.proofs.Common.{◌≡◌, ℕ, suc, Bool, true, false, cond, ◌&
 use Rattle.std.proofs.lemmas.List.{length-map}
 use Rattle.gql_ast.specs.declared.member.InputTree.{InputTree}
 use Rattle.gql_graph.specs.Rules.{each}
-use Rattle.gql_plain.proofs.SortedTexts.{same_texts, AreInOrder-sorted_texts, has_text-sorted_texts}
-use Rattle.gql_plain.specs.Order.{has_text}
+use Rattle.gql_ast.proofs.gql_plain_laws.SortedTexts.{same_texts, AreInOrder-sorted_texts, has_text-sorted_texts}
+use Rattle.gql_graph.specs.gql_plain.Order.{has_text}
 use Rattle.schema_tables.proofs.Finding.{finds, missing}
 use Rattle.schema_tables.specs.Indexes.{name_at, place_of}
 use Rattle.schema_tables.specs.InputPlaces.{ArePlaced, input_name, is_named, is_needed}

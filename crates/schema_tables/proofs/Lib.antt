@@ -1,3 +1,5 @@
+pub use Rattle.gql_graph.proofs as gql_graph_laws
+pub use Rattle.gql_ast.proofs.gql_plain_laws
 pub mod Finding
 pub mod Named
 pub mod Literals

@@ -12,8 +12,8 @@ use Rattle.schema_tables.specs.Fits.{literal_fits, members_fit, meaning_of, take
 use Rattle.schema_tables.specs.Given.{gives_each}
 use Rattle.schema_tables.specs.Members.{input_among}
 use Rattle.schema_tables.specs.Types.{Text, Defs, base_of, input_def, input_named}
-use Rattle.gql_plain.proofs.Booleans.{and_false}
-use Rattle.gql_plain.specs.Order.{has_text}
+use Rattle.gql_ast.proofs.gql_plain_laws.Booleans.{and_false}
+use Rattle.gql_graph.specs.gql_plain.Order.{has_text}
 use Rattle.schema_tables.proofs.Counting.{has_member-names, stands_once}
 use Rattle.schema_tables.proofs.Named.{input_among-defs}
 use Rattle.schema_tables.specs.Required.{all_differ, member_names}

@@ -2,8 +2,8 @@
 use Rattle.std.proofs.Common.{◌≡◌, Bool, true, false, true≢false, cond, ◌||◌, List, [], ◌∷◌, map, Option, Some, None, option_map, is_some, bytes_eq, refl, ap, sym, ◌∙◌}
 use Rattle.std.proofs.lemmas.Slice.Eq.{bytes_eq-Decides}
 use Rattle.std.specs.Option.{option_and_then}
-use Rattle.gql_plain.proofs.SortedTexts.{has_text-sorted_texts}
-use Rattle.gql_plain.specs.Order.{has_text, sorted_texts}
+use Rattle.gql_ast.proofs.gql_plain_laws.SortedTexts.{has_text-sorted_texts}
+use Rattle.gql_graph.specs.gql_plain.Order.{has_text, sorted_texts}
 use Rattle.gql_ast.specs.declared.member.FieldTree.{FieldTree}
 use Rattle.gql_ast.specs.declared.member.InputTree.{InputTree}
 use Rattle.gql_ast.specs.declared.directive.Directive.{Directive}

@@ -10,7 +10,7 @@ use Rattle.std.specs.Cmp.{IsEquivalence}
 use Rattle.std.specs.Cmp.Lexicographic.{slice_cmp}
 use Rattle.std.specs.List.{IsDistinct, list_any}
 use Rattle.std.specs.Set.{distinct_count, is_member}
-use Rattle.gql_plain.specs.Order.{AreInOrder, has_text}
+use Rattle.gql_graph.specs.gql_plain.Order.{AreInOrder, has_text}
 use Rattle.schema_tables.proofs.Counting.{eq_swap}
 use Rattle.schema_tables.proofs.Finding.{first_at-map}
 use Rattle.schema_tables.proofs.InputsFound.{has_name, names_there}

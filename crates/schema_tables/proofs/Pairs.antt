@@ -5,7 +5,7 @@ use Rattle.std.specs.Cmp.Lexicographic.{slice_cmp}
 use Rattle.std.specs.List.{dedup}
 use Rattle.std.specs.List.Sorted.{IsStableBy, IsSortedBy}
 use Rattle.std.specs.Ordering.{is_lt}
-use Rattle.gql_plain.specs.Order.{AreInOrder}
+use Rattle.gql_graph.specs.gql_plain.Order.{AreInOrder}
 use Rattle.schema_tables.proofs.Indexing.{first_kept, first_of_kept, kept_in_order, placed_more}
 use Rattle.schema_tables.specs.declared.index.NamePlace.{NamePlace}
 use Rattle.schema_tables.specs.Indexes.{IsSortedFrom, pair_of, place_among}

@@ -7,7 +7,7 @@ use Rattle.gql_ast.specs.declared.member.FieldTree.{FieldTree}
 use Rattle.gql_ast.specs.declared.member.InputTree.{InputTree}
 use Rattle.gql_ast.specs.declared.schema.SchemaDef.{SchemaDef}
 use Rattle.gql_ast.specs.declared.schema.SchemaDef.TheVariants as S
-use Rattle.gql_plain.specs.Order.{sorted_texts}
+use Rattle.gql_graph.specs.gql_plain.Order.{sorted_texts}
 use Rattle.std.specs.Option.{option_map}
 use Rattle.schema_tables.specs.declared.index.Index.{Index}
 use Rattle.schema_tables.specs.declared.members.FieldTable.{FieldTable}

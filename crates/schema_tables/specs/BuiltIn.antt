@@ -1,7 +1,7 @@
 -- The directives that are known beside those of the schema: of the specification (GraphQL, October 2021, section 3.13), and of this
 -- project after Relay. The arguments of `@arguments` and `@argumentDefinitions` are free.
 use Rattle.std.specs.Prelude.{Bool, false, cond, List, [], ◌∷◌, map, codes, Option, Some, None, bytes_eq}
-use Rattle.gql_plain.specs.Order.{has_text}
+use Rattle.gql_graph.specs.gql_plain.Order.{has_text}
 use Rattle.gql_ast.specs.Ty as ty
 use Rattle.gql_ast.specs.declared.location.Location.{Location}
 use Rattle.gql_ast.specs.declared.location.Location.TheVariants as L

@@ -1,6 +1,6 @@
 -- Which literals fit a type, and which uses of a variable are allowed (GraphQL, October 2021, sections 3.4 to 3.12, 5.6, 5.8.5).
 use Rattle.std.specs.Prelude.{◌^◌, ◌-◌, Bool, true, false, cond, not, ◌&&◌, ◌||◌, List, [], ◌∷◌, codes, Option, Some, None, is_some, bytes_eq, ℤ, int_le, neg_ℤ, pos}
-use Rattle.gql_plain.specs.Order.{has_text}
+use Rattle.gql_graph.specs.gql_plain.Order.{has_text}
 use Rattle.gql_ast.specs.Ty.{Ty}
 use Rattle.gql_ast.specs.Ty as ty
 use Rattle.gql_ast.specs.TypeView.{ty_of}

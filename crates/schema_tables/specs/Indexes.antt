@@ -1,6 +1,6 @@
 -- The places of names in lists.
 use Rattle.std.specs.Prelude.{◌≡◌, ℕ, Bool, List, [], map, Option, Some, None, option_map, slice_get, bytes_eq}
-use Rattle.gql_plain.specs.Order.{AreInOrder}
+use Rattle.gql_graph.specs.gql_plain.Order.{AreInOrder}
 use Rattle.gql_graph.specs.Texts.{Text}
 use Rattle.gql_ast.specs.declared.member.FieldTree.{FieldTree}
 use Rattle.gql_ast.specs.declared.member.InputTree.{InputTree}

@@ -1,3 +1,6 @@
+pub use Rattle.gql_ast.specs as gql_ast
+pub use Rattle.gql_graph.specs as gql_graph
+pub use Rattle.gql_graph.specs.gql_plain
 pub mod TypeForms
 pub mod Views
 pub mod Inputs

@@ -1,6 +1,6 @@
 -- What a named type takes, as look-ups tell it.
 use Rattle.std.specs.Prelude.{◌≡◌, List, map}
-use Rattle.gql_plain.specs.Order.{sorted_texts}
+use Rattle.gql_graph.specs.gql_plain.Order.{sorted_texts}
 use Rattle.gql_ast.specs.declared.member.InputTree.{InputTree}
 use Rattle.schema_tables.specs.declared.fits.Meaning.{Meaning}
 use Rattle.schema_tables.specs.declared.fits.Meaning.TheVariants as M

@@ -3,7 +3,7 @@ use Rattle.std.specs.Prelude.{ℕ, ◌+◌, Bool, true, false, cond, not, ◌&&�
 use Rattle.gql_ast.specs.Value.{Val}
 use Rattle.gql_graph.specs.Rules.{each}
 use Rattle.gql_graph.specs.Texts.{Text}
-use Rattle.gql_plain.specs.Order.{has_text, sorted_texts}
+use Rattle.gql_graph.specs.gql_plain.Order.{has_text, sorted_texts}
 use Rattle.schema_tables.specs.Views.{InputDef}
 use Rattle.schema_tables.specs.Inputs.{must_be_given}
 

@@ -1,6 +1,6 @@
 -- What the tables keep of a definition.
 use Rattle.std.specs.Prelude.{◌≡◌, ℕ, Bool, true, false, List, [], ◌∷◌, ◌++◌, map, Option, Some, None, slice_get, bytes_eq}
-use Rattle.gql_plain.specs.Order.{sorted_texts}
+use Rattle.gql_graph.specs.gql_plain.Order.{sorted_texts}
 use Rattle.gql_ast.specs.declared.member.EnumValue.{EnumValue}
 use Rattle.gql_ast.specs.declared.member.FieldTree.{FieldTree}
 use Rattle.gql_ast.specs.declared.member.InputTree.{InputTree}

@@ -1,7 +1,7 @@
 -- What a schema says (GraphQL, October 2021, section 3), from its definitions. Where several define one name, the first counts.
 use Rattle.std.specs.Prelude.{Bool, true, false, cond, ◌&&◌, ◌||◌, List, [], ◌∷◌, map, codes, Option, Some, None, option_map, option_and_then, is_some, bytes_eq}
 use Rattle.std.specs.List.{filter, filter_map}
-use Rattle.gql_plain.specs.Order.{has_text, sorted_texts}
+use Rattle.gql_graph.specs.gql_plain.Order.{has_text, sorted_texts}
 use Rattle.gql_ast.specs.Ty.{Ty, named, list, non_null}
 use Rattle.gql_ast.specs.TypeView.{ty_of}
 use Rattle.gql_ast.specs.declared.document.Kind.{Kind}

@@ -5,10 +5,10 @@ ghost use Rattle.gql_ast.specs.declared.location.Location.TheVariants as L;
 ghost use Rattle.schema_tables.specs.BuiltIn as known;
 ghost use Rattle.schema_tables.specs.Known as single;
 
+use gql_ast::gql_plain::{NoMemory, Words};
 use gql_ast::{
     Directives, InputTree, InputTrees, Location, Locations, SchemaDef, TypeBox, TypeTree, ValueTree,
 };
-use gql_plain::{NoMemory, Words};
 use std::alloc::Global;
 
 /// The known directives.

@@ -1,7 +1,7 @@
 //! What a schema says of fields, inputs and directives, as views of its trees.
 ghost use Rattle.std.specs.Prelude.{◌≡◌, [], length, map, option_copied, bytes_eq, Decides};
 ghost use Rattle.std.specs.List.{IsDistinct};
-ghost use Rattle.gql_plain.specs.Order.{has_text};
+ghost use Rattle.gql_graph.specs.gql_plain.Order.{has_text};
 ghost use Rattle.schema_tables.specs.Indexes.{field_name};
 ghost use Rattle.schema_tables.specs.Inputs.{input_among, must_be_given};
 ghost use Rattle.schema_tables.specs.Required.{required_names};
@@ -9,8 +9,8 @@ ghost use Rattle.schema_tables.specs.Types.{field_named, input_def};
 
 use crate::index::find_place;
 use crate::type_forms::is_non_null;
+use gql_ast::gql_plain::Name;
 use gql_ast::{FieldTree, InputTree, Locations, TypeTree, ValueTree};
-use gql_plain::Name;
 use std::marker::Model;
 
 /// An argument or an input field.

@@ -5,7 +5,7 @@ ghost use Rattle.gql_ast.specs.TypeView.{ty_of};
 ghost use Rattle.gql_ast.specs.Value.{vals_of, members_of};
 ghost use Rattle.gql_ast.specs.ValueView.{value_of, argument_of};
 ghost use Rattle.gql_ast.specs.declared.member.InputTree.{InputTree};
-ghost use Rattle.gql_plain.specs.Order.{sorted_texts};
+ghost use Rattle.gql_graph.specs.gql_plain.Order.{sorted_texts};
 ghost use Rattle.schema_tables.specs.Fits as fits;
 ghost use Rattle.schema_tables.specs.Given.{gives_each};
 ghost use Rattle.schema_tables.specs.Means.{Means};
@@ -15,9 +15,9 @@ ghost use Rattle.schema_tables.specs.Types as types;
 use crate::definitions::InputDefs;
 use crate::tables::Tables;
 use crate::type_forms::{base_of, is_built_in_scalar, is_non_null, item_of};
+use gql_ast::gql_plain::{Ids, NoMemory};
 use gql_ast::{Argument, Arguments, TypeTree, ValueTree, ValueTrees, VariableDef};
 use gql_graph::seen::Seen;
-use gql_plain::{Ids, NoMemory};
 use std::alloc::Global;
 
 /// What a named type takes.

@@ -1,11 +1,11 @@
 //! The places of names in lists.
 ghost use Rattle.std.specs.Prelude.{◌≡◌, ℕ, List, map, bytes_eq, option_copied, IfOk, OnOk};
-ghost use Rattle.gql_plain.specs.Order.{AreInOrder};
+ghost use Rattle.gql_graph.specs.gql_plain.Order.{AreInOrder};
 ghost use Rattle.schema_tables.specs.Indexes.{IsNameIndex, IsSortedFrom, is_named, name_at, pair_of, place_among, place_of};
 ghost use Rattle.schema_tables.specs.Places.{first_at, first_place, first_that};
 
+use gql_ast::gql_plain::{Name, NoMemory};
 use gql_ast::{EnumValue, FieldTree, InputTree, SchemaDef};
-use gql_plain::{Name, NoMemory};
 use std::alloc::Global;
 
 /// A part of a schema that has a name.

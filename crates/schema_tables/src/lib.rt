@@ -14,3 +14,7 @@ mod places;
 mod possible;
 pub mod tables;
 pub mod type_forms;
+
+pub use gql_ast;
+pub use gql_ast::gql_plain;
+pub use gql_graph;

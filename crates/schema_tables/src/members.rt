@@ -7,7 +7,7 @@ use crate::definitions::FieldDef;
 use crate::index::{Index, find_place};
 use crate::places::{InputPlaces, places_of_inputs};
 use gql_ast::FieldTree;
-use gql_plain::NoMemory;
+use gql_ast::gql_plain::NoMemory;
 use std::alloc::Global;
 
 /// The places of the names of fields and of their arguments.

@@ -1,7 +1,7 @@
 //! What is kept of a definition for look-ups.
 ghost use Rattle.std.specs.Prelude.{◌≡◌, map, option_copied, option_map, IfOk};
 ghost use Rattle.gql_ast.specs.declared.member.EnumValue.{EnumValue};
-ghost use Rattle.gql_plain.specs.Order.{has_text, sorted_texts};
+ghost use Rattle.gql_graph.specs.gql_plain.Order.{has_text, sorted_texts};
 ghost use Rattle.schema_tables.specs.BuiltIn.{defined_directive};
 ghost use Rattle.schema_tables.specs.TableParts.{AreFields, AreParts, IsPartOf};
 ghost use Rattle.schema_tables.specs.Types as types;
@@ -10,8 +10,8 @@ use crate::definitions::{DirectiveDef, FieldDef, InputDefs, TypeFields};
 use crate::index::{Index, find_place};
 use crate::members::FieldTable;
 use crate::places::{InputPlaces, places_of_inputs};
+use gql_ast::gql_plain::{Ids, Name, NoMemory};
 use gql_ast::{EnumValue, FieldTree, SchemaDef};
-use gql_plain::{Ids, Name, NoMemory};
 use std::alloc::Global;
 
 /// What is kept of a definition.

@@ -9,8 +9,8 @@ ghost use Rattle.schema_tables.specs.Places.{first_at, first_place};
 use crate::definitions::is_required;
 use crate::index::{Index, NamePlace, find_place, put};
 use crate::tables::type_name;
+use gql_ast::gql_plain::NoMemory;
 use gql_ast::{InputTree, SchemaDef};
-use gql_plain::NoMemory;
 use std::alloc::Global;
 
 /// The places of the names of inputs, and of those that have to be given.

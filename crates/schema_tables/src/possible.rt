@@ -1,7 +1,7 @@
 //! The object types that each type may be.
 ghost use Rattle.std.specs.Prelude.{◌≡◌, ℕ, List, ◌<◌, ◌&&◌, ◌||◌, ◌++◌, [], ◌∷◌, length, slice_index_or, nat_eq, Some, is_some, IfOk, OnOk, bytes_eq};
 ghost use Rattle.std.specs.List.{filter, list_any};
-ghost use Rattle.gql_plain.specs.Order.{has_text, sorted_texts};
+ghost use Rattle.gql_graph.specs.gql_plain.Order.{has_text, sorted_texts};
 ghost use Rattle.schema_tables.specs.Objects.{adds, reaches, is_among, is_place, names_object};
 ghost use Rattle.schema_tables.specs.Parts.{is_type};
 ghost use Rattle.schema_tables.specs.Indexes.{IsIndexOf, definition_name};
@@ -11,8 +11,8 @@ ghost use Rattle.schema_tables.specs.Types as says;
 use crate::index::Index;
 use crate::part::interfaces_of;
 use crate::places::{find_type, is_object_type, places_of_objects};
+use gql_ast::gql_plain::{Ids, Name, NoMemory};
 use gql_ast::{Names, SchemaDef};
-use gql_plain::{Ids, Name, NoMemory};
 use std::alloc::Global;
 
 /// The object types that the type of each definition may be, where it is the first of its name.

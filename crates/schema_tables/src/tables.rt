@@ -1,7 +1,7 @@
 //! Definitions with the tables that their look-ups need.
 ghost use Rattle.std.specs.Prelude.{◌≡◌, ◌&&◌, ℕ, List, map, true, Some, None, option_map, option_and_then, option_copied, IfOk, IfSome};
 ghost use Rattle.gql_ast.specs.TypeView.{ty_of};
-ghost use Rattle.gql_plain.specs.Order.{has_text, sorted_texts};
+ghost use Rattle.gql_graph.specs.gql_plain.Order.{has_text, sorted_texts};
 ghost use Rattle.schema_tables.specs.Types as types;
 ghost use Rattle.schema_tables.specs.declared.kind.TypeKind.{TypeKind};
 ghost use Rattle.schema_tables.specs.BuiltIn as known;
@@ -21,8 +21,8 @@ use crate::part::{
 use crate::places::{find_directive, find_type, places_of_directives, places_of_types};
 use crate::possible::possible_of;
 use crate::type_forms::is_built_in_scalar;
+use gql_ast::gql_plain::{Ids, Name, NoMemory};
 use gql_ast::{Kind, Root, SchemaDef, SchemaDefs, TypeTree};
-use gql_plain::{Ids, Name, NoMemory};
 use std::alloc::Global;
 use std::marker::Model;
 

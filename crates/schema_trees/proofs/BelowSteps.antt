@@ -1,9 +1,9 @@
 -- Where all numbers of the parts are below a number, so are those of lists of places that are made of the parts.
 use Rattle.std.proofs.Common.{◌≡◌, ℕ, ◌<◌, Bool, true, false, cond, List, [], ◌∷◌, ◌++◌, map, Option, Some, None, option_map, filter, subst, refl, arith}
 use Rattle.std.specs.List.{AllByRecursion, filter_map, cons_option}
-use Rattle.gql_plain.specs.Order.{has_text}
-use Rattle.gql_graph.specs.Rules.{each, wrong, least, first_broken}
-use Rattle.gql_graph.specs.Texts.{Text}
+use Rattle.schema_tables.specs.gql_plain.Order.{has_text}
+use Rattle.schema_tables.specs.gql_graph.Rules.{each, wrong, least, first_broken}
+use Rattle.schema_tables.specs.gql_graph.Texts.{Text}
 use Rattle.schema_trees.specs.DefinitionParts.{repeats}
 use Rattle.schema_trees.specs.Located.{Located}
 use Rattle.schema_trees.specs.Numbers.{Below}

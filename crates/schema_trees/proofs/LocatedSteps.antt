@@ -1,13 +1,13 @@
 -- Steps of the walk that numbers the nodes of a schema.
 use Rattle.std.proofs.Common.{◌≡◌, ℕ, zero, suc, ◌+◌, ◌-◌, ◌<◌, ◌≤◌, List, [], ◌∷◌, map, length, get_or, ap, arith}
-use Rattle.gql_ast.specs.Ty.{Ty}
-use Rattle.gql_ast.specs.Ty as ty
-use Rattle.gql_ast.specs.TypeView.{ty_of}
-use Rattle.gql_ast.specs.Value.{Val, vals_of, members_of, val_depth, vals_depth, members_depth}
-use Rattle.gql_ast.specs.ValueView.{value_of, argument_of}
-use Rattle.gql_ast.specs.declared.type_tree.TypeTree.{TypeTree}
-use Rattle.gql_ast.specs.declared.value.Argument.{Argument}
-use Rattle.gql_ast.specs.declared.value.ValueTree.{ValueTree}
+use Rattle.schema_tables.specs.gql_ast.Ty.{Ty}
+use Rattle.schema_tables.specs.gql_ast.Ty as ty
+use Rattle.schema_tables.specs.gql_ast.TypeView.{ty_of}
+use Rattle.schema_tables.specs.gql_ast.Value.{Val, vals_of, members_of, val_depth, vals_depth, members_depth}
+use Rattle.schema_tables.specs.gql_ast.ValueView.{value_of, argument_of}
+use Rattle.schema_tables.specs.gql_ast.declared.type_tree.TypeTree.{TypeTree}
+use Rattle.schema_tables.specs.gql_ast.declared.value.Argument.{Argument}
+use Rattle.schema_tables.specs.gql_ast.declared.value.ValueTree.{ValueTree}
 use Rattle.schema_trees.specs.Located.{type_at, type_nodes}
 use Rattle.schema_trees.specs.Located as spec
 

@@ -1,15 +1,15 @@
 -- Each number in the definitions of a schema is below the number of its nodes.
 use Rattle.std.proofs.Common.{ℕ, ◌+◌, ◌<◌, ◌≤◌, List, [], ◌∷◌, arith}
 use Rattle.std.specs.List.{AllByRecursion}
-use Rattle.gql_ast.specs.Ty.{Ty}
-use Rattle.gql_ast.specs.TypeView.{ty_of}
-use Rattle.gql_ast.specs.declared.member.EnumValue.{EnumValue}
-use Rattle.gql_ast.specs.declared.member.FieldTree.{FieldTree}
-use Rattle.gql_ast.specs.declared.member.InputTree.{InputTree}
-use Rattle.gql_ast.specs.declared.schema.Root.{Root}
-use Rattle.gql_ast.specs.declared.schema.SchemaDef.{SchemaDef}
-use Rattle.gql_ast.specs.declared.schema.SchemaDef.TheVariants as S
-use Rattle.gql_graph.specs.Texts.{Text}
+use Rattle.schema_tables.specs.gql_ast.Ty.{Ty}
+use Rattle.schema_tables.specs.gql_ast.TypeView.{ty_of}
+use Rattle.schema_tables.specs.gql_ast.declared.member.EnumValue.{EnumValue}
+use Rattle.schema_tables.specs.gql_ast.declared.member.FieldTree.{FieldTree}
+use Rattle.schema_tables.specs.gql_ast.declared.member.InputTree.{InputTree}
+use Rattle.schema_tables.specs.gql_ast.declared.schema.Root.{Root}
+use Rattle.schema_tables.specs.gql_ast.declared.schema.SchemaDef.{SchemaDef}
+use Rattle.schema_tables.specs.gql_ast.declared.schema.SchemaDef.TheVariants as S
+use Rattle.schema_tables.specs.gql_graph.Texts.{Text}
 use Rattle.schema_trees.specs.Located.{type_at, input_at, inputs_at, field_at, fields_at, names_at, enum_values_at, roots_at, def_at, defs_at, locate, type_nodes, directives_nodes, input_nodes, inputs_nodes, field_nodes, fields_nodes, names_nodes, enum_values_nodes, roots_nodes, def_nodes}
 use Rattle.schema_trees.specs.Numbers.{HoldsName, HoldsInput, HoldsField, HoldsRoot, DefBelow, DefsBelow, defs_nodes, schema_nodes}
 use Rattle.schema_trees.proofs.LocatedSteps.{type_end}

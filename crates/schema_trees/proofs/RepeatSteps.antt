@@ -4,14 +4,14 @@ use Rattle.std.proofs.Math.Seq.{drop-cons}
 use Rattle.std.proofs.lemmas.List.{drop_all}
 use Rattle.std.specs.BTreeSet.{BTreeSet}
 use Rattle.std.specs.Str.{bytes_eq}
-use Rattle.gql_plain.proofs.Booleans.{or_false, or_swap, or_rotate}
-use Rattle.gql_plain.specs.Order.{has_text}
-use Rattle.gql_graph.proofs.Listing.{has_either}
-use Rattle.gql_graph.proofs.TextSteps.{same_text}
-use Rattle.gql_graph.specs.Leasts.{least_from}
-use Rattle.gql_graph.specs.Rules.{wrong}
-use Rattle.gql_graph.specs.Seen.{Knows}
-use Rattle.gql_graph.specs.Texts.{Text}
+use Rattle.schema_tables.proofs.gql_plain_laws.Booleans.{or_false, or_swap, or_rotate}
+use Rattle.schema_tables.specs.gql_plain.Order.{has_text}
+use Rattle.schema_tables.proofs.gql_graph_laws.Listing.{has_either}
+use Rattle.schema_tables.proofs.gql_graph_laws.TextSteps.{same_text}
+use Rattle.schema_tables.specs.gql_graph.Leasts.{least_from}
+use Rattle.schema_tables.specs.gql_graph.Rules.{wrong}
+use Rattle.schema_tables.specs.gql_graph.Seen.{Knows}
+use Rattle.schema_tables.specs.gql_graph.Texts.{Text}
 use Rattle.schema_trees.specs.DefinitionParts.{repeats, names_of}
 use Rattle.schema_trees.specs.Located.{Located}
 use Rattle.schema_trees.specs.LocatedView.{name_of}

@@ -1,8 +1,8 @@
 -- The parts of definitions, each name with its place.
 use Rattle.std.specs.Prelude.{ℕ, cond, List, [], ◌∷◌, map, Option, Some, None}
-use Rattle.gql_plain.specs.Order.{has_text}
-use Rattle.gql_graph.specs.Rules.{each}
-use Rattle.gql_graph.specs.Texts.{Text}
+use Rattle.schema_tables.specs.gql_plain.Order.{has_text}
+use Rattle.schema_tables.specs.gql_graph.Rules.{each}
+use Rattle.schema_tables.specs.gql_graph.Texts.{Text}
 use Rattle.schema_trees.specs.Located.{Located, InputAt, FieldAt, RootAt, DefAt, schema, scalar, object, interface, union, enum, input, directive}
 
 -- names that stand in the list already

@@ -1,21 +1,21 @@
 -- The definitions of a schema with the places of the names in them: a place is told by its number among the nodes of the tree in
 -- text order, from 0.
 use Rattle.std.specs.Prelude.{ℕ, ◌+◌, List, [], ◌∷◌, Option, Some, None}
-use Rattle.gql_ast.specs.Ty.{Ty, named, list, non_null}
-use Rattle.gql_ast.specs.TypeView.{ty_of}
-use Rattle.gql_ast.specs.Value.{Val, Vals, Members, no_vals, val, no_members, member, members_of}
-use Rattle.gql_ast.specs.Value as v
-use Rattle.gql_ast.specs.ValueView.{value_of}
-use Rattle.gql_ast.specs.declared.directive.Directive.{Directive}
-use Rattle.gql_ast.specs.declared.document.Kind.{Kind}
-use Rattle.gql_ast.specs.declared.member.EnumValue.{EnumValue}
-use Rattle.gql_ast.specs.declared.member.FieldTree.{FieldTree}
-use Rattle.gql_ast.specs.declared.member.InputTree.{InputTree}
-use Rattle.gql_ast.specs.declared.schema.Root.{Root}
-use Rattle.gql_ast.specs.declared.schema.SchemaDef.{SchemaDef}
-use Rattle.gql_ast.specs.declared.schema.SchemaDef.TheVariants as S
-use Rattle.gql_ast.specs.declared.value.ValueTree.{ValueTree}
-use Rattle.gql_graph.specs.Texts.{Text}
+use Rattle.schema_tables.specs.gql_ast.Ty.{Ty, named, list, non_null}
+use Rattle.schema_tables.specs.gql_ast.TypeView.{ty_of}
+use Rattle.schema_tables.specs.gql_ast.Value.{Val, Vals, Members, no_vals, val, no_members, member, members_of}
+use Rattle.schema_tables.specs.gql_ast.Value as v
+use Rattle.schema_tables.specs.gql_ast.ValueView.{value_of}
+use Rattle.schema_tables.specs.gql_ast.declared.directive.Directive.{Directive}
+use Rattle.schema_tables.specs.gql_ast.declared.document.Kind.{Kind}
+use Rattle.schema_tables.specs.gql_ast.declared.member.EnumValue.{EnumValue}
+use Rattle.schema_tables.specs.gql_ast.declared.member.FieldTree.{FieldTree}
+use Rattle.schema_tables.specs.gql_ast.declared.member.InputTree.{InputTree}
+use Rattle.schema_tables.specs.gql_ast.declared.schema.Root.{Root}
+use Rattle.schema_tables.specs.gql_ast.declared.schema.SchemaDef.{SchemaDef}
+use Rattle.schema_tables.specs.gql_ast.declared.schema.SchemaDef.TheVariants as S
+use Rattle.schema_tables.specs.gql_ast.declared.value.ValueTree.{ValueTree}
+use Rattle.schema_tables.specs.gql_graph.Texts.{Text}
 
 -- ---- how many nodes a tree has
 

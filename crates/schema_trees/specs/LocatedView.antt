@@ -1,7 +1,7 @@
 -- What the located definitions of the code stand for.
 use Rattle.std.specs.Prelude.{map}
-use Rattle.gql_ast.specs.TypeView.{ty_of}
-use Rattle.gql_graph.specs.Texts.{Text}
+use Rattle.schema_tables.specs.gql_ast.TypeView.{ty_of}
+use Rattle.schema_tables.specs.gql_graph.Texts.{Text}
 use Rattle.schema_trees.specs.Located.{Located, default_of, schema, scalar, object, interface, union, enum, input, directive}
 use Rattle.schema_trees.specs.Located as spec
 use Rattle.schema_trees.specs.declared.located.NameAt.{NameAt}

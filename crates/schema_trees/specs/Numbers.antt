@@ -1,9 +1,9 @@
 -- How many nodes a schema has, by the counts of its parts; and what holds of each number in definitions with places.
 use Rattle.std.specs.Prelude.{ℕ, ◌+◌, ◌<◌, List, [], ◌∷◌}
 use Rattle.std.specs.List.{AllByRecursion}
-use Rattle.gql_ast.specs.Ty.{Ty}
-use Rattle.gql_ast.specs.declared.schema.SchemaDef.{SchemaDef}
-use Rattle.gql_graph.specs.Texts.{Text}
+use Rattle.schema_tables.specs.gql_ast.Ty.{Ty}
+use Rattle.schema_tables.specs.gql_ast.declared.schema.SchemaDef.{SchemaDef}
+use Rattle.schema_tables.specs.gql_graph.Texts.{Text}
 use Rattle.schema_trees.specs.Located.{Located, TypeAt, InputAt, FieldAt, RootAt, DefAt, schema, scalar, object, interface, union, enum, input, directive, def_nodes}
 
 abbrev pub defs_nodes : List SchemaDef → ℕ

@@ -6,3 +6,6 @@ pub mod located;
 mod named;
 pub mod parts_at;
 pub mod repeats;
+
+pub use schema_tables;
+pub use schema_tables::gql_ast;

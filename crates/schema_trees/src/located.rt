@@ -1,19 +1,19 @@
 //! The definitions of a schema with the numbers of the nodes of their names. The nodes of a tree are
 //! numbered in text order, from 0, as its places are; the schema itself is the first one.
 ghost use Rattle.std.specs.Prelude.{◌≡◌, ◌+◌, map, IfOk, OnOk};
-ghost use Rattle.gql_ast.specs.TypeView.{ty_of};
-ghost use Rattle.gql_ast.specs.Value.{members_of, vals_of};
-ghost use Rattle.gql_ast.specs.ValueView.{value_of};
-ghost use Rattle.gql_ast.specs.declared.schema.SchemaDef.TheVariants as S;
+ghost use Rattle.schema_tables.specs.gql_ast.TypeView.{ty_of};
+ghost use Rattle.schema_tables.specs.gql_ast.Value.{members_of, vals_of};
+ghost use Rattle.schema_tables.specs.gql_ast.ValueView.{value_of};
+ghost use Rattle.schema_tables.specs.gql_ast.declared.schema.SchemaDef.TheVariants as S;
 ghost use Rattle.schema_trees.specs.Located.{locate, default_nodes, def_at, def_nodes, defs_at, directives_nodes, enum_values_at, enum_values_nodes, field_at, field_nodes, fields_at, fields_nodes, input_at, input_nodes, inputs_at, inputs_nodes, members_nodes, name_at, names_at, names_nodes, roots_at, roots_nodes, type_at, type_nodes, value_nodes, values_nodes};
 ghost use Rattle.schema_trees.specs.LocatedView.{name_of, type_of, input_of, field_of, root_of, def_of};
 
-use gql_ast::document::Kind;
-use gql_ast::{
+use schema_tables::gql_ast::document::Kind;
+use schema_tables::gql_ast::{
     Arguments, Directives, EnumValues, FieldTree, FieldTrees, InputTree, InputTrees, Names, Roots,
     SchemaDef, TypeTree, ValueTree, ValueTrees,
 };
-use gql_plain::{Name, NoMemory};
+use schema_tables::gql_plain::{Name, NoMemory};
 use std::alloc::Global;
 
 /// A name and the number of its node.

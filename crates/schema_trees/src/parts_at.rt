@@ -2,10 +2,10 @@
 ghost use Rattle.std.specs.Prelude.{◌≡◌, [], ◌∷◌, map, IfOk, MatchOption, option_map};
 ghost use Rattle.schema_trees.specs.LocatedView.{name_of, input_of, field_of, root_of, def_of};
 ghost use Rattle.schema_trees.specs.DefinitionParts as parts;
-ghost use Rattle.gql_graph.specs.Rules.{each};
+ghost use Rattle.schema_tables.specs.gql_graph.Rules.{each};
 
 use crate::located::{DefAt, FieldAt, InputAt, NameAt, RootAt};
-use gql_plain::NoMemory;
+use schema_tables::gql_plain::NoMemory;
 use std::alloc::Global;
 
 impl<'a> DefAt<'a> {

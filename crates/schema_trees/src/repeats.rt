@@ -1,15 +1,15 @@
 //! Names that stand in a list before.
 ghost use Rattle.std.specs.Prelude.{◌≡◌, ◌++◌, map, IfOk, OnOk, List};
-ghost use Rattle.gql_graph.specs.Leasts.{least_from};
-ghost use Rattle.gql_graph.specs.Seen.{Knows};
-ghost use Rattle.gql_graph.specs.Texts.{Text};
+ghost use Rattle.schema_tables.specs.gql_graph.Leasts.{least_from};
+ghost use Rattle.schema_tables.specs.gql_graph.Seen.{Knows};
+ghost use Rattle.schema_tables.specs.gql_graph.Texts.{Text};
 ghost use Rattle.schema_trees.specs.DefinitionParts.{repeats, repeated_names, names_of};
 ghost use Rattle.schema_trees.specs.LocatedView.{name_of};
 
 use crate::located::NameAt;
-use gql_graph::least::Least;
-use gql_graph::seen::Seen;
-use gql_plain::NoMemory;
+use schema_tables::gql_graph::least::Least;
+use schema_tables::gql_graph::seen::Seen;
+use schema_tables::gql_plain::NoMemory;
 use std::alloc::Global;
 
 /// The names of a list.

@@ -1,31 +1,31 @@
 -- Worked rows of the rules on documents, computed from the definitions.
 use Rattle.std.proofs.Common.{◌≡◌, refl, List, [], ◌∷◌, Option, Some, None, codes}
 use Rattle.std.specs.Prelude.{pos}
-use Rattle.gql_ast.specs.Sels.{Sels, end, field, spread, inline}
-use Rattle.gql_ast.specs.Ty as ty
-use Rattle.gql_ast.specs.Value as v
-use Rattle.gql_ast.specs.Value.{Val, variable, int, null, list, object, vals_of}
-use Rattle.gql_ast.specs.declared.directive.Directive.{Directive}
-use Rattle.gql_ast.specs.declared.document.Definition.{Definition}
-use Rattle.gql_ast.specs.declared.document.Definition.TheVariants as D
-use Rattle.gql_ast.specs.declared.document.Document.{Document}
-use Rattle.gql_ast.specs.declared.document.Kind.{Kind}
-use Rattle.gql_ast.specs.declared.document.Kind.TheVariants.{Query, Mutation, Subscription}
-use Rattle.gql_ast.specs.declared.member.FieldTree.{FieldTree}
-use Rattle.gql_ast.specs.declared.member.InputTree.{InputTree}
-use Rattle.gql_ast.specs.declared.schema.SchemaDef.TheVariants as S
-use Rattle.gql_ast.specs.declared.type_tree.TypeTree.{TypeTree}
-use Rattle.gql_ast.specs.declared.type_tree.TypeTree.TheVariants as T
-use Rattle.gql_ast.specs.declared.value.ValueTree.{ValueTree}
-use Rattle.gql_ast.specs.declared.value.ValueTree.TheVariants as V
-use Rattle.gql_ast.specs.declared.variable.VariableDef.{VariableDef}
-use Rattle.gql_plain.specs.Tree as t
+use Rattle.schema_rules.specs.gql_ast.Sels.{Sels, end, field, spread, inline}
+use Rattle.schema_rules.specs.gql_ast.Ty as ty
+use Rattle.schema_rules.specs.gql_ast.Value as v
+use Rattle.schema_rules.specs.gql_ast.Value.{Val, variable, int, null, list, object, vals_of}
+use Rattle.schema_rules.specs.gql_ast.declared.directive.Directive.{Directive}
+use Rattle.schema_rules.specs.gql_ast.declared.document.Definition.{Definition}
+use Rattle.schema_rules.specs.gql_ast.declared.document.Definition.TheVariants as D
+use Rattle.schema_rules.specs.gql_ast.declared.document.Document.{Document}
+use Rattle.schema_rules.specs.gql_ast.declared.document.Kind.{Kind}
+use Rattle.schema_rules.specs.gql_ast.declared.document.Kind.TheVariants.{Query, Mutation, Subscription}
+use Rattle.schema_rules.specs.gql_ast.declared.member.FieldTree.{FieldTree}
+use Rattle.schema_rules.specs.gql_ast.declared.member.InputTree.{InputTree}
+use Rattle.schema_rules.specs.gql_ast.declared.schema.SchemaDef.TheVariants as S
+use Rattle.schema_rules.specs.gql_ast.declared.type_tree.TypeTree.{TypeTree}
+use Rattle.schema_rules.specs.gql_ast.declared.type_tree.TypeTree.TheVariants as T
+use Rattle.schema_rules.specs.gql_ast.declared.value.ValueTree.{ValueTree}
+use Rattle.schema_rules.specs.gql_ast.declared.value.ValueTree.TheVariants as V
+use Rattle.schema_rules.specs.gql_ast.declared.variable.VariableDef.{VariableDef}
+use Rattle.schema_rules.specs.gql_plain.Tree as t
 use Rattle.schema_rules.specs.declared.fault.Rule.TheVariants as R
 use Rattle.schema_types.specs.DocumentRules.{name_rules, field_rules, argument_rules}
 use Rattle.schema_types.specs.Environments.{environment, first_failure, missing, unfit, evaluation}
-use Rattle.gql_graph.specs.Rules.{first_broken}
+use Rattle.schema_rules.specs.gql_graph.Rules.{first_broken}
 use Rattle.schema_types.specs.Sites.{all_definitions}
-use Rattle.schema_tables.specs.Types.{Text, Defs}
+use Rattle.schema_rules.specs.schema_tables.Types.{Text, Defs}
 
 -- ---- a schema: `type Query{me:User team(size:Int):[User] thing:Thing} type User{name:String tag(a:Int!):Int} type Page{name:String} union Thing=Page
 -- type Subscription{tick:Int tock:Int}`

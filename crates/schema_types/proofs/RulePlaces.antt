@@ -1,20 +1,20 @@
 -- Each place where a rule of documents does not hold is that of a node of the documents.
 use Rattle.std.proofs.Common.{◌≡◌, ℕ, ◌+◌, ◌<◌, ◌≤◌, not, List, [], ◌++◌, Option, Some, None, IfSome, arith}
 use Rattle.std.specs.List.{AllByRecursion}
-use Rattle.gql_ast.specs.TypeView.{ty_of}
-use Rattle.gql_ast.specs.Value as v
-use Rattle.gql_ast.specs.Value.{Val, Vals, Members, no_vals, val, no_members, member}
-use Rattle.gql_ast.specs.Ty.{Ty}
-use Rattle.gql_ast.specs.declared.document.Document.{Document}
-use Rattle.gql_ast.specs.declared.document.Kind.TheVariants.{Subscription}
-use Rattle.gql_ast.specs.declared.member.InputTree.{InputTree}
+use Rattle.schema_rules.specs.gql_ast.TypeView.{ty_of}
+use Rattle.schema_rules.specs.gql_ast.Value as v
+use Rattle.schema_rules.specs.gql_ast.Value.{Val, Vals, Members, no_vals, val, no_members, member}
+use Rattle.schema_rules.specs.gql_ast.Ty.{Ty}
+use Rattle.schema_rules.specs.gql_ast.declared.document.Document.{Document}
+use Rattle.schema_rules.specs.gql_ast.declared.document.Kind.TheVariants.{Subscription}
+use Rattle.schema_rules.specs.gql_ast.declared.member.InputTree.{InputTree}
 use Rattle.schema_rules.specs.declared.fault.Rule.{Rule}
 use Rattle.schema_rules.specs.Rules.{each, repeated_names, first_broken}
-use Rattle.schema_tables.specs.BuiltIn as known
-use Rattle.schema_tables.specs.Types.{Text, Defs, root, same_kind}
-use Rattle.schema_trees.proofs.BelowSteps.{IfThere, all_append, all_each, all_map, all_filter, all_filter_map, below_append, below_wrong, below_cond, below_each, below_repeats, below_first}
-use Rattle.schema_trees.specs.Located.{Located, value_nodes, values_nodes, members_nodes}
-use Rattle.schema_trees.specs.Numbers.{Below}
+use Rattle.schema_rules.specs.schema_tables.BuiltIn as known
+use Rattle.schema_rules.specs.schema_tables.Types.{Text, Defs, root, same_kind}
+use Rattle.schema_rules.proofs.schema_trees_laws.BelowSteps.{IfThere, all_append, all_each, all_map, all_filter, all_filter_map, below_append, below_wrong, below_cond, below_each, below_repeats, below_first}
+use Rattle.schema_rules.specs.schema_trees.Located.{Located, value_nodes, values_nodes, members_nodes}
+use Rattle.schema_rules.specs.schema_trees.Numbers.{Below}
 use Rattle.schema_types.proofs.SiteNumberLaws.{all_below}
 use Rattle.schema_types.specs.ArgumentRules as arguments
 use Rattle.schema_types.specs.ArgumentRules.{Call, Directed, Use, Takes, inputs, free, unknown, Place}

@@ -1,20 +1,20 @@
 -- Each number of what stands in documents is below the number of their nodes.
 use Rattle.std.proofs.Common.{ℕ, ◌+◌, ◌<◌, ◌≤◌, List, [], ◌∷◌, Option, Some, None, IfSome, arith}
 use Rattle.std.specs.List.{AllByRecursion}
-use Rattle.gql_ast.specs.Sels as sels
-use Rattle.gql_ast.specs.Sels.{Sels, end}
-use Rattle.gql_ast.specs.TypeView.{ty_of}
-use Rattle.gql_ast.specs.Value.{Val}
-use Rattle.gql_ast.specs.declared.directive.Directive.{Directive}
-use Rattle.gql_ast.specs.declared.document.Definition.{Definition}
-use Rattle.gql_ast.specs.declared.document.Definition.TheVariants as D
-use Rattle.gql_ast.specs.declared.document.Document.{Document}
-use Rattle.gql_ast.specs.declared.value.ValueTree.{ValueTree}
-use Rattle.gql_ast.specs.declared.variable.VariableDef.{VariableDef}
-use Rattle.schema_tables.specs.Types.{Text, Defs, root}
-use Rattle.schema_trees.proofs.BelowSteps.{all_append}
-use Rattle.schema_trees.specs.Located.{value_nodes, type_nodes, default_nodes, directives_nodes}
-use Rattle.schema_trees.specs.Numbers.{HoldsName}
+use Rattle.schema_rules.specs.gql_ast.Sels as sels
+use Rattle.schema_rules.specs.gql_ast.Sels.{Sels, end}
+use Rattle.schema_rules.specs.gql_ast.TypeView.{ty_of}
+use Rattle.schema_rules.specs.gql_ast.Value.{Val}
+use Rattle.schema_rules.specs.gql_ast.declared.directive.Directive.{Directive}
+use Rattle.schema_rules.specs.gql_ast.declared.document.Definition.{Definition}
+use Rattle.schema_rules.specs.gql_ast.declared.document.Definition.TheVariants as D
+use Rattle.schema_rules.specs.gql_ast.declared.document.Document.{Document}
+use Rattle.schema_rules.specs.gql_ast.declared.value.ValueTree.{ValueTree}
+use Rattle.schema_rules.specs.gql_ast.declared.variable.VariableDef.{VariableDef}
+use Rattle.schema_rules.specs.schema_tables.Types.{Text, Defs, root}
+use Rattle.schema_rules.proofs.schema_trees_laws.BelowSteps.{all_append}
+use Rattle.schema_rules.specs.schema_trees.Located.{value_nodes, type_nodes, default_nodes, directives_nodes}
+use Rattle.schema_rules.specs.schema_trees.Numbers.{HoldsName}
 use Rattle.schema_types.specs.SiteNumbers.{documents_nodes, HoldsValue, HoldsArgument, HoldsDirective, HoldsVariable, HoldsSite, DefinitionBelow, DefinitionsBelow}
 use Rattle.schema_types.specs.Sites.{optional_name_nodes, arguments_nodes, head_nodes, selections_nodes, variable_nodes, variables_nodes, definition_nodes, definitions_nodes, document_nodes, arguments_at, directives_at, value_at, variable_at, variables_at, optional_name_at, below, condition_or, sites, definition_at, definitions_at, documents_at, all_definitions}
 

@@ -2,27 +2,27 @@
 -- where it does not hold.
 use Rattle.std.specs.Prelude.{ℕ, ◌+◌, Bool, true, false, not, ◌&&◌, ◌||◌, cond, List, [], ◌∷◌, ◌++◌, map, length, codes, Option, Some, None, option_map, is_some, bytes_eq}
 use Rattle.std.specs.List.{list_any, filter}
-use Rattle.gql_plain.specs.Order.{has_text}
-use Rattle.gql_ast.specs.Ty.{Ty}
-use Rattle.gql_ast.specs.TypeView.{ty_of}
-use Rattle.gql_ast.specs.Value.{Val, Vals, Members, variable, null, list, object, no_vals, val, no_members, member}
-use Rattle.gql_ast.specs.declared.document.Kind.{Kind}
-use Rattle.gql_ast.specs.declared.document.Kind.TheVariants.{Query, Mutation, Subscription}
-use Rattle.gql_ast.specs.declared.location.Location.{Location}
-use Rattle.gql_ast.specs.declared.location.Location.TheVariants as L
-use Rattle.gql_ast.specs.declared.member.FieldTree.{FieldTree}
-use Rattle.gql_ast.specs.declared.member.InputTree.{InputTree}
-use Rattle.schema_tables.specs.BuiltIn as known
-use Rattle.schema_tables.specs.Fits.{item_of, has_member, literal_fits, use_allowed}
-use Rattle.schema_tables.specs.Given.{must_be_given}
-use Rattle.schema_trees.specs.Located.{Located, value_nodes}
+use Rattle.schema_rules.specs.gql_plain.Order.{has_text}
+use Rattle.schema_rules.specs.gql_ast.Ty.{Ty}
+use Rattle.schema_rules.specs.gql_ast.TypeView.{ty_of}
+use Rattle.schema_rules.specs.gql_ast.Value.{Val, Vals, Members, variable, null, list, object, no_vals, val, no_members, member}
+use Rattle.schema_rules.specs.gql_ast.declared.document.Kind.{Kind}
+use Rattle.schema_rules.specs.gql_ast.declared.document.Kind.TheVariants.{Query, Mutation, Subscription}
+use Rattle.schema_rules.specs.gql_ast.declared.location.Location.{Location}
+use Rattle.schema_rules.specs.gql_ast.declared.location.Location.TheVariants as L
+use Rattle.schema_rules.specs.gql_ast.declared.member.FieldTree.{FieldTree}
+use Rattle.schema_rules.specs.gql_ast.declared.member.InputTree.{InputTree}
+use Rattle.schema_rules.specs.schema_tables.BuiltIn as known
+use Rattle.schema_rules.specs.schema_tables.Fits.{item_of, has_member, literal_fits, use_allowed}
+use Rattle.schema_rules.specs.schema_tables.Given.{must_be_given}
+use Rattle.schema_rules.specs.schema_trees.Located.{Located, value_nodes}
 use Rattle.schema_types.specs.NameRules.{operations, fragments, spreads_in, names_of_all, spread_by}
-use Rattle.gql_graph.specs.Reached.{any_leads}
+use Rattle.schema_rules.specs.gql_graph.Reached.{any_leads}
 use Rattle.schema_rules.specs.Rules.{each, wrong, repeated_names}
 use Rattle.schema_types.specs.Sites.{ValueAt, ArgumentAt, DirectiveAt, VariableAt, Site, field, spread, inline, OperationAt, FragmentAt, DefinitionAt, operation, fragment, typename}
-use Rattle.schema_tables.specs.Types.{Text, Defs, base_of, kind_of, is_kind, is_input_kind, field_on, inputs_of, input_named}
-use Rattle.schema_tables.specs.Views.{DirectiveDef}
-use Rattle.schema_tables.specs.Views.{InputDef}
+use Rattle.schema_rules.specs.schema_tables.Types.{Text, Defs, base_of, kind_of, is_kind, is_input_kind, field_on, inputs_of, input_named}
+use Rattle.schema_rules.specs.schema_tables.Views.{DirectiveDef}
+use Rattle.schema_rules.specs.schema_tables.Views.{InputDef}
 
 -- ---- arguments as they are given to a field or a directive, and what that takes
 

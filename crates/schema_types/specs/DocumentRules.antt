@@ -1,8 +1,8 @@
 -- The rules on documents in their order, in three groups; the first that does not hold, and the number of the least node where it does not.
 use Rattle.std.specs.Prelude.{◌≡◌, ℕ, List, [], ◌∷◌, Some, None}
-use Rattle.gql_ast.specs.declared.document.Document.{Document}
-use Rattle.gql_ast.specs.declared.place.FilePlace.{FilePlace}
-use Rattle.gql_ast.specs.declared.place.Placed.{Placed}
+use Rattle.schema_rules.specs.gql_ast.declared.document.Document.{Document}
+use Rattle.schema_rules.specs.gql_ast.declared.place.FilePlace.{FilePlace}
+use Rattle.schema_rules.specs.gql_ast.declared.place.Placed.{Placed}
 use Rattle.schema_rules.specs.declared.fault.NodeFault.{NodeFault}
 use Rattle.schema_rules.specs.declared.fault.Rule.{Rule}
 use Rattle.schema_rules.specs.declared.fault.Rule.TheVariants as R
@@ -11,9 +11,9 @@ use Rattle.schema_rules.specs.declared.fault.RuleFault.TheVariants as F
 use Rattle.schema_types.specs.ArgumentRules.{arguments_wrong, arguments_missing, literals_unfit, directives_wrong, variables_wrong}
 use Rattle.schema_types.specs.FieldRules.{fields_undefined, sets_wrong, floats_selected, conditions_never_apply, subscriptions_wrong}
 use Rattle.schema_types.specs.NameRules.{operations_not_named, fragments_not_unique, conditions_wrong, fragments_not_there, spreads_on_cycles, roots_missing}
-use Rattle.gql_graph.specs.Rules.{each, first_broken}
+use Rattle.schema_rules.specs.gql_graph.Rules.{each, first_broken}
 use Rattle.schema_types.specs.Sites.{DefinitionAt, all_definitions}
-use Rattle.schema_tables.specs.Types.{Defs}
+use Rattle.schema_rules.specs.schema_tables.Types.{Defs}
 
 abbrev pub Rules : Type 0
 Rules = List (Rule × List ℕ)

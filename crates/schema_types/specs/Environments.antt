@@ -3,19 +3,19 @@
 use Rattle.std.specs.Prelude.{Bool, true, false, not, ◌&&◌, ◌||◌, cond, List, [], ◌∷◌, codes, Option, Some, None, is_some, bytes_eq}
 use Rattle.std.specs.Cmp.Lexicographic.{slice_cmp}
 use Rattle.std.specs.Ordering.{nat_cmp, match_ordering}
-use Rattle.gql_plain.specs.Order.{has_text, member_at}
-use Rattle.gql_plain.specs.Tree.{Tree, Trees, Members, no_trees, tree, no_members, member, trees_of, members_of}
-use Rattle.gql_plain.specs.Tree as t
-use Rattle.gql_ast.specs.Ty.{Ty}
-use Rattle.gql_ast.specs.TypeView.{ty_of}
-use Rattle.gql_ast.specs.Value as v
-use Rattle.gql_ast.specs.Value.{Val, Vals}
-use Rattle.gql_ast.specs.ValueView.{value_of}
-use Rattle.gql_ast.specs.declared.member.InputTree.{InputTree}
-use Rattle.gql_ast.specs.declared.value.ValueTree.{ValueTree}
-use Rattle.gql_ast.specs.declared.variable.VariableDef.{VariableDef}
-use Rattle.schema_tables.specs.Fits.{is_non_null, item_of, is_list_type, is_in_i32, is_required, Meaning, built_in, one_of, fields, anything, meaning_of, takes_list, input_type}
-use Rattle.schema_tables.specs.Types.{Text, Defs, base_of, input_named}
+use Rattle.schema_rules.specs.gql_plain.Order.{has_text, member_at}
+use Rattle.schema_rules.specs.gql_plain.Tree.{Tree, Trees, Members, no_trees, tree, no_members, member, trees_of, members_of}
+use Rattle.schema_rules.specs.gql_plain.Tree as t
+use Rattle.schema_rules.specs.gql_ast.Ty.{Ty}
+use Rattle.schema_rules.specs.gql_ast.TypeView.{ty_of}
+use Rattle.schema_rules.specs.gql_ast.Value as v
+use Rattle.schema_rules.specs.gql_ast.Value.{Val, Vals}
+use Rattle.schema_rules.specs.gql_ast.ValueView.{value_of}
+use Rattle.schema_rules.specs.gql_ast.declared.member.InputTree.{InputTree}
+use Rattle.schema_rules.specs.gql_ast.declared.value.ValueTree.{ValueTree}
+use Rattle.schema_rules.specs.gql_ast.declared.variable.VariableDef.{VariableDef}
+use Rattle.schema_rules.specs.schema_tables.Fits.{is_non_null, item_of, is_list_type, is_in_i32, is_required, Meaning, built_in, one_of, fields, anything, meaning_of, takes_list, input_type}
+use Rattle.schema_rules.specs.schema_tables.Types.{Text, Defs, base_of, input_named}
 
 -- ---- values that are given fit (as literals do; an enum name is a text)
 

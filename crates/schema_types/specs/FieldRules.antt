@@ -2,16 +2,16 @@
 -- Where the type around a selection is not known, something is wrong further out, and nothing is said of the selection.
 use Rattle.std.specs.Prelude.{ℕ, Bool, true, false, not, ◌&&◌, cond, List, [], ◌∷◌, ◌++◌, length, codes, Option, Some, None, is_some, bytes_eq}
 use Rattle.std.specs.List.{list_any, list_all}
-use Rattle.gql_ast.specs.Sels as sels
-use Rattle.gql_ast.specs.Sels.{Sels, end}
-use Rattle.gql_ast.specs.Ty.{Ty}
-use Rattle.gql_ast.specs.declared.document.Kind.TheVariants.{Subscription}
-use Rattle.schema_trees.specs.Located.{Located}
+use Rattle.schema_rules.specs.gql_ast.Sels as sels
+use Rattle.schema_rules.specs.gql_ast.Sels.{Sels, end}
+use Rattle.schema_rules.specs.gql_ast.Ty.{Ty}
+use Rattle.schema_rules.specs.gql_ast.declared.document.Kind.TheVariants.{Subscription}
+use Rattle.schema_rules.specs.schema_trees.Located.{Located}
 use Rattle.schema_types.specs.NameRules.{operations, fragments, sites_of, fragment_named}
-use Rattle.gql_graph.specs.Reached.{any_leads}
-use Rattle.gql_graph.specs.Rules.{each, wrong}
+use Rattle.schema_rules.specs.gql_graph.Reached.{any_leads}
+use Rattle.schema_rules.specs.gql_graph.Rules.{each, wrong}
 use Rattle.schema_types.specs.Sites.{Site, field, spread, inline, OperationAt, FragmentAt, DefinitionAt, typename, field_type}
-use Rattle.schema_tables.specs.Types.{Text, Defs, base_of, is_leaf, is_composite, possible, applies, root, same_kind}
+use Rattle.schema_rules.specs.schema_tables.Types.{Text, Defs, base_of, is_leaf, is_composite, possible, applies, root, same_kind}
 
 -- ---- V7 (5.3.1): a field is defined on its type
 

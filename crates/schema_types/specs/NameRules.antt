@@ -2,12 +2,12 @@
 -- where it does not hold.
 use Rattle.std.specs.Prelude.{ℕ, not, List, [], ◌∷◌, ◌++◌, map, length, Option, Some, None, is_some, bytes_eq, cond}
 use Rattle.std.specs.List.{filter_map}
-use Rattle.gql_plain.specs.Order.{has_text}
-use Rattle.schema_trees.specs.Located.{Located}
-use Rattle.gql_graph.specs.Reached.{leads}
+use Rattle.schema_rules.specs.gql_plain.Order.{has_text}
+use Rattle.schema_rules.specs.schema_trees.Located.{Located}
+use Rattle.schema_rules.specs.gql_graph.Reached.{leads}
 use Rattle.schema_rules.specs.Rules.{each, wrong, repeated_names}
 use Rattle.schema_types.specs.Sites.{Site, field, spread, inline, OperationAt, FragmentAt, DefinitionAt, operation, fragment}
-use Rattle.schema_tables.specs.Types.{Text, Defs, is_composite, root}
+use Rattle.schema_rules.specs.schema_tables.Types.{Text, Defs, is_composite, root}
 
 abbrev pub operation_of : DefinitionAt → Option OperationAt
 operation_of (operation o) = Some o

@@ -1,11 +1,11 @@
 -- What holds of each number of what stands in documents.
 use Rattle.std.specs.Prelude.{ℕ, ◌+◌, ◌<◌, ◌≤◌, List, [], ◌∷◌, IfSome}
 use Rattle.std.specs.List.{AllByRecursion}
-use Rattle.gql_ast.specs.Value.{Val}
-use Rattle.gql_ast.specs.declared.document.Document.{Document}
-use Rattle.schema_tables.specs.Types.{Text}
-use Rattle.schema_trees.specs.Located.{value_nodes}
-use Rattle.schema_trees.specs.Numbers.{HoldsName}
+use Rattle.schema_rules.specs.gql_ast.Value.{Val}
+use Rattle.schema_rules.specs.gql_ast.declared.document.Document.{Document}
+use Rattle.schema_rules.specs.schema_tables.Types.{Text}
+use Rattle.schema_rules.specs.schema_trees.Located.{value_nodes}
+use Rattle.schema_rules.specs.schema_trees.Numbers.{HoldsName}
 use Rattle.schema_types.specs.Sites.{ValueAt, ArgumentAt, DirectiveAt, VariableAt, Site, field, spread, inline, DefinitionAt, operation, fragment, document_nodes}
 
 -- the nodes of all documents

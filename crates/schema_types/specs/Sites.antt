@@ -1,25 +1,25 @@
 -- What stands in documents, in text order, each with the type around it and with the places of its names. A place is told by its
 -- number among the nodes of all documents, from 0 (GraphQL, October 2021, sections 2.3 to 2.8, 2.10, 2.12; 5.3.1 for types).
 use Rattle.std.specs.Prelude.{ℕ, ◌+◌, Bool, true, false, cond, List, [], ◌∷◌, ◌++◌, codes, Option, Some, None, option_map, bytes_eq}
-use Rattle.gql_ast.specs.Sels as sels
-use Rattle.gql_ast.specs.Sels.{Sels, end}
-use Rattle.gql_ast.specs.Ty as ty
-use Rattle.gql_ast.specs.Ty.{Ty}
-use Rattle.gql_ast.specs.TypeView.{ty_of}
-use Rattle.gql_ast.specs.Value.{Val, members_of}
-use Rattle.gql_ast.specs.ValueView.{value_of}
-use Rattle.gql_ast.specs.declared.directive.Directive.{Directive}
-use Rattle.gql_ast.specs.declared.document.Definition.{Definition}
-use Rattle.gql_ast.specs.declared.document.Definition.TheVariants as D
-use Rattle.gql_ast.specs.declared.document.Document.{Document}
-use Rattle.gql_ast.specs.declared.document.Fragment.{Fragment}
-use Rattle.gql_ast.specs.declared.document.Kind.{Kind}
-use Rattle.gql_ast.specs.declared.document.Operation.{Operation}
-use Rattle.gql_ast.specs.declared.member.FieldTree.{FieldTree}
-use Rattle.gql_ast.specs.declared.value.ValueTree.{ValueTree}
-use Rattle.gql_ast.specs.declared.variable.VariableDef.{VariableDef}
-use Rattle.schema_trees.specs.Located.{Located, value_nodes, members_nodes, directives_nodes, type_nodes, default_nodes}
-use Rattle.schema_tables.specs.Types.{Text, Defs, base_of, field_on, is_composite, root}
+use Rattle.schema_rules.specs.gql_ast.Sels as sels
+use Rattle.schema_rules.specs.gql_ast.Sels.{Sels, end}
+use Rattle.schema_rules.specs.gql_ast.Ty as ty
+use Rattle.schema_rules.specs.gql_ast.Ty.{Ty}
+use Rattle.schema_rules.specs.gql_ast.TypeView.{ty_of}
+use Rattle.schema_rules.specs.gql_ast.Value.{Val, members_of}
+use Rattle.schema_rules.specs.gql_ast.ValueView.{value_of}
+use Rattle.schema_rules.specs.gql_ast.declared.directive.Directive.{Directive}
+use Rattle.schema_rules.specs.gql_ast.declared.document.Definition.{Definition}
+use Rattle.schema_rules.specs.gql_ast.declared.document.Definition.TheVariants as D
+use Rattle.schema_rules.specs.gql_ast.declared.document.Document.{Document}
+use Rattle.schema_rules.specs.gql_ast.declared.document.Fragment.{Fragment}
+use Rattle.schema_rules.specs.gql_ast.declared.document.Kind.{Kind}
+use Rattle.schema_rules.specs.gql_ast.declared.document.Operation.{Operation}
+use Rattle.schema_rules.specs.gql_ast.declared.member.FieldTree.{FieldTree}
+use Rattle.schema_rules.specs.gql_ast.declared.value.ValueTree.{ValueTree}
+use Rattle.schema_rules.specs.gql_ast.declared.variable.VariableDef.{VariableDef}
+use Rattle.schema_rules.specs.schema_trees.Located.{Located, value_nodes, members_nodes, directives_nodes, type_nodes, default_nodes}
+use Rattle.schema_rules.specs.schema_tables.Types.{Text, Defs, base_of, field_on, is_composite, root}
 
 -- ---- how many nodes
 

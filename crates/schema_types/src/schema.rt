@@ -1,21 +1,21 @@
 //! Schemas.
 ghost use Rattle.std.specs.Prelude.{◌≡◌, map, true, option_map, option_and_then, option_copied, IfOk, IfErr};
-ghost use Rattle.gql_plain.specs.Order.{sorted_texts};
-ghost use Rattle.gql_ast.specs.TypeView.{ty_of};
-ghost use Rattle.gql_ast.specs.ValueView.{value_of};
-ghost use Rattle.schema_tables.specs.BuiltIn as known;
+ghost use Rattle.schema_rules.specs.gql_plain.Order.{sorted_texts};
+ghost use Rattle.schema_rules.specs.gql_ast.TypeView.{ty_of};
+ghost use Rattle.schema_rules.specs.gql_ast.ValueView.{value_of};
+ghost use Rattle.schema_rules.specs.schema_tables.BuiltIn as known;
 ghost use Rattle.schema_rules.specs.Checked.{IsSound, IsRuleFault};
-ghost use Rattle.schema_tables.specs.Fits as fits;
-ghost use Rattle.schema_tables.specs.Types as types;
+ghost use Rattle.schema_rules.specs.schema_tables.Fits as fits;
+ghost use Rattle.schema_rules.specs.schema_tables.Types as types;
 
-use gql_ast::{Kind, SchemaDefs, TypeTree, ValueTree, VariableDef};
-use gql_plain::{Ids, Name, NoMemory};
 use schema_rules::fault::{NodeFault, RuleFault};
 use schema_rules::first::first_fault;
-use schema_tables::definitions::{DirectiveDef, FieldDef, InputDef, InputDefs};
-use schema_tables::fits::use_allowed;
-use schema_tables::kind::TypeKind;
-use schema_tables::tables::Tables;
+use schema_rules::gql_ast::{Kind, SchemaDefs, TypeTree, ValueTree, VariableDef};
+use schema_rules::gql_plain::{Ids, Name, NoMemory};
+use schema_rules::schema_tables::definitions::{DirectiveDef, FieldDef, InputDef, InputDefs};
+use schema_rules::schema_tables::fits::use_allowed;
+use schema_rules::schema_tables::kind::TypeKind;
+use schema_rules::schema_tables::tables::Tables;
 use std::alloc::Global;
 use std::marker::Model;
 
@@ -29,8 +29,8 @@ pub struct Schema {
 impl Model for Schema {
     ghost use Rattle.std.specs.Prelude.{List};
     ghost use Rattle.std.specs.Coded.{coded_list};
-    ghost use Rattle.gql_ast.specs.declared.schema.SchemaDef.{SchemaDef};
-    ghost use Rattle.gql_ast.specs.contracts.schema.SchemaDef as definition_row;
+    ghost use Rattle.schema_rules.specs.gql_ast.declared.schema.SchemaDef.{SchemaDef};
+    ghost use Rattle.schema_rules.specs.gql_ast.contracts.schema.SchemaDef as definition_row;
     ghost use Rattle.schema_rules.specs.Checked.{IsSound};
 
     ghost Value = { List SchemaDef };

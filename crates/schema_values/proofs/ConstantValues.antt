@@ -1,9 +1,9 @@
 -- A value in which no variable stands is the same in each environment.
 use Rattle.std.proofs.Common.{◌≡◌, true, true≢false, List, refl, ap, sym}
-use Rattle.gql_ast.specs.Value as v
-use Rattle.gql_ast.specs.Value.{Val, Vals, Members}
-use Rattle.gql_plain.specs.Tree as t
-use Rattle.schema_tables.proofs.Counting.{and_left, and_right}
+use Rattle.schema_types.specs.gql_ast.Value as v
+use Rattle.schema_types.specs.gql_ast.Value.{Val, Vals, Members}
+use Rattle.schema_types.specs.gql_plain.Tree as t
+use Rattle.schema_types.proofs.schema_tables_laws.Counting.{and_left, and_right}
 use Rattle.schema_types.specs.Environments.{Values, evaluation, items_evaluated, pairs_evaluated, with_new_pair}
 use Rattle.schema_values.specs.Fittings.{are_constant, have_constants, is_constant}
 

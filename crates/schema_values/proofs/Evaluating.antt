@@ -1,7 +1,7 @@
 -- What lists and objects are, item by item.
 use Rattle.std.proofs.Common.{◌≡◌, ℕ, List, [], ◌∷◌, map, refl, ap}
-use Rattle.gql_ast.specs.Value.{Val, vals_of, members_of}
-use Rattle.gql_plain.specs.Tree.{tree, trees_of}
+use Rattle.schema_types.specs.gql_ast.Value.{Val, vals_of, members_of}
+use Rattle.schema_types.specs.gql_plain.Tree.{tree, trees_of}
 use Rattle.schema_types.specs.Environments.{Values, evaluation, items_evaluated, pairs_evaluated, with_new_pair}
 use Rattle.schema_values.specs.Listed.{last_of_each}
 

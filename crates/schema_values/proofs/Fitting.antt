@@ -2,20 +2,20 @@
 use Rattle.std.proofs.Common.{◌≡◌, ◌<◌, ◌+◌, ℕ, suc, Bool, true, false, not, ◌&&◌, ◌||◌, ◌==◌, List, [], ◌∷◌, map, length, get_or, drop, Option, Some, None, option_map, is_some, bytes_eq, add-one, drop-cons, refl, sym, ap, ◌∙◌}
 use Rattle.std.specs.Map.{keys_of}
 use Rattle.std.specs.Option.{option_and_then}
-use Rattle.gql_ast.specs.Ty.{Ty}
-use Rattle.gql_ast.specs.TypeView.{ty_of}
-use Rattle.gql_ast.specs.declared.member.InputTree.{InputTree}
-use Rattle.gql_plain.specs.Order.{AreInOrder, has_text}
-use Rattle.gql_plain.specs.Shown.{tree_of, shown_members}
-use Rattle.gql_plain.specs.Tree.{Tree, Members, object, member, members_of}
-use Rattle.gql_plain.specs.declared.plain.Plain.{Plain}
-use Rattle.schema_tables.specs.Views.{InputDef}
+use Rattle.schema_types.specs.gql_ast.Ty.{Ty}
+use Rattle.schema_types.specs.gql_ast.TypeView.{ty_of}
+use Rattle.schema_types.specs.gql_ast.declared.member.InputTree.{InputTree}
+use Rattle.schema_types.specs.gql_plain.Order.{AreInOrder, has_text}
+use Rattle.schema_types.specs.gql_plain.Shown.{tree_of, shown_members}
+use Rattle.schema_types.specs.gql_plain.Tree.{Tree, Members, object, member, members_of}
+use Rattle.schema_types.specs.gql_plain.declared.plain.Plain.{Plain}
+use Rattle.schema_types.specs.schema_tables.Views.{InputDef}
 use Rattle.schema_types.specs.Environments.{fits, members_fit, suits_as_object, gives_each_required, has_key}
-use Rattle.schema_tables.specs.Fits.{meaning_of, is_required, input_type, fields}
-use Rattle.schema_tables.specs.Types.{Text, Defs, base_of, inputs_of, input_def, input_named}
-use Rattle.schema_tables.proofs.Counting.{count_gives, differ_sorted, gives_by}
-use Rattle.schema_tables.specs.Given.{must_be_given}
-use Rattle.schema_tables.specs.Required.{count_among, required_names}
+use Rattle.schema_types.specs.schema_tables.Fits.{meaning_of, is_required, input_type, fields}
+use Rattle.schema_types.specs.schema_tables.Types.{Text, Defs, base_of, inputs_of, input_def, input_named}
+use Rattle.schema_types.proofs.schema_tables_laws.Counting.{count_gives, differ_sorted, gives_by}
+use Rattle.schema_types.specs.schema_tables.Given.{must_be_given}
+use Rattle.schema_types.specs.schema_tables.Required.{count_among, required_names}
 use Rattle.schema_values.specs.Means.{gives_each}
 
 -- ---- objects

@@ -7,17 +7,17 @@ use Rattle.std.specs.Cmp.Lexicographic.{slice_cmp}
 use Rattle.std.specs.Ordering.{nat_cmp, is_eq, match_ordering}
 use Rattle.std.specs.declared.cmp.Ordering.{Ordering}
 use Rattle.std.specs.declared.cmp.Ordering.TheVariants.{Less, Equal, Greater}
-use Rattle.gql_ast.specs.Ty.{Ty, named, list, non_null}
-use Rattle.gql_ast.specs.Value as v
-use Rattle.gql_ast.specs.Value.{Val, Vals}
-use Rattle.gql_ast.specs.declared.member.InputTree.{InputTree}
-use Rattle.gql_plain.specs.Tree as t
-use Rattle.gql_plain.specs.Tree.{Tree, Trees, members_of}
+use Rattle.schema_types.specs.gql_ast.Ty.{Ty, named, list, non_null}
+use Rattle.schema_types.specs.gql_ast.Value as v
+use Rattle.schema_types.specs.gql_ast.Value.{Val, Vals}
+use Rattle.schema_types.specs.gql_ast.declared.member.InputTree.{InputTree}
+use Rattle.schema_types.specs.gql_plain.Tree as t
+use Rattle.schema_types.specs.gql_plain.Tree.{Tree, Trees, members_of}
 use Rattle.schema_types.specs.Environments as env
 use Rattle.schema_types.specs.Environments.{Values, evaluation, items_evaluated, pairs_evaluated, with_new_pair, suits_meaning, has_key, gives_each_required, suits_as_object}
-use Rattle.schema_tables.specs.Fits as lit
-use Rattle.schema_tables.specs.Fits.{Meaning, built_in, one_of, fields, anything, meaning_of, fits_meaning, item_of, is_list_type, is_non_null, is_required, has_member, gives_required, takes_object, takes_list, input_type, types_agree}
-use Rattle.schema_tables.specs.Types.{Text, Defs, base_of, input_named}
+use Rattle.schema_types.specs.schema_tables.Fits as lit
+use Rattle.schema_types.specs.schema_tables.Fits.{Meaning, built_in, one_of, fields, anything, meaning_of, fits_meaning, item_of, is_list_type, is_non_null, is_required, has_member, gives_required, takes_object, takes_list, input_type, types_agree}
+use Rattle.schema_types.specs.schema_tables.Types.{Text, Defs, base_of, input_named}
 use Rattle.schema_values.specs.Fittings.{is_constant, are_constant, have_constants, LiteralsFit, AgreeingTypesFit}
 
 no : {A : Type 0} → false ≡ true → A

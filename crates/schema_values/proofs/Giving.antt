@@ -1,7 +1,7 @@
 -- An environment as the list of the variables with their values.
 use Rattle.std.proofs.Common.{◌≡◌, List, [], ◌∷◌, map, refl, ap}
-use Rattle.gql_ast.specs.declared.variable.VariableDef.{VariableDef}
-use Rattle.gql_plain.specs.Order.{member_at}
+use Rattle.schema_types.specs.gql_ast.declared.variable.VariableDef.{VariableDef}
+use Rattle.schema_types.specs.gql_plain.Order.{member_at}
 use Rattle.schema_types.specs.Environments.{Values, environment, value_or_default, with_pair}
 use Rattle.schema_values.specs.Listed.{first_of_each, given_or_default}
 

@@ -9,10 +9,10 @@ use Rattle.std.specs.List.{AllByRecursion}
 use Rattle.std.specs.List.Sorted.{IsStrictlySortedBy}
 use Rattle.std.specs.Map.{keys_of, lookup}
 use Rattle.std.specs.Ordering.{match_ordering}
-use Rattle.gql_plain.specs.Order.{AreInOrder}
-use Rattle.gql_plain.specs.Shown.{tree_of, shown_members}
-use Rattle.gql_plain.specs.Tree.{Tree}
-use Rattle.gql_plain.specs.declared.plain.Plain.{Plain}
+use Rattle.schema_types.specs.gql_plain.Order.{AreInOrder}
+use Rattle.schema_types.specs.gql_plain.Shown.{tree_of, shown_members}
+use Rattle.schema_types.specs.gql_plain.Tree.{Tree}
+use Rattle.schema_types.specs.gql_plain.declared.plain.Plain.{Plain}
 use Rattle.schema_types.specs.Environments.{Values, with_pair, with_new_pair}
 use Rattle.schema_values.specs.Listed.{first_of_each, last_of_each}
 

@@ -1,8 +1,8 @@
 -- What a refusal says of the variables.
 use Rattle.std.specs.Prelude.{◌≡◌, List, Option, Some}
-use Rattle.gql_ast.specs.declared.variable.VariableDef.{VariableDef}
+use Rattle.schema_types.specs.gql_ast.declared.variable.VariableDef.{VariableDef}
 use Rattle.schema_types.specs.Environments.{Failure, Values, first_failure, missing, unfit}
-use Rattle.schema_tables.specs.Types.{Defs}
+use Rattle.schema_types.specs.schema_tables.Types.{Defs}
 use Rattle.schema_values.specs.declared.env.VarFault.{VarFault}
 use Rattle.schema_values.specs.declared.env.VarFault.TheVariants as F
 

@@ -1,11 +1,11 @@
 -- How the two fittings go together (GraphQL, October 2021, sections 3.12, 5.6.1 and 5.8.5).
 use Rattle.std.specs.Prelude.{◌≡◌, Bool, true, false, ◌&&◌}
-use Rattle.gql_ast.specs.Ty.{Ty}
-use Rattle.gql_ast.specs.Value.{Val, Vals, Members, variable, int, text, truth, null, enum, list, object, no_vals, val, no_members, member}
-use Rattle.gql_plain.specs.Tree.{Tree}
+use Rattle.schema_types.specs.gql_ast.Ty.{Ty}
+use Rattle.schema_types.specs.gql_ast.Value.{Val, Vals, Members, variable, int, text, truth, null, enum, list, object, no_vals, val, no_members, member}
+use Rattle.schema_types.specs.gql_plain.Tree.{Tree}
 use Rattle.schema_types.specs.Environments.{Values, evaluation, fits}
-use Rattle.schema_tables.specs.Fits.{literal_fits, types_agree}
-use Rattle.schema_tables.specs.Types.{Defs}
+use Rattle.schema_types.specs.schema_tables.Fits.{literal_fits, types_agree}
+use Rattle.schema_types.specs.schema_tables.Types.{Defs}
 
 -- whether no variable stands in a value
 abbrev mutual

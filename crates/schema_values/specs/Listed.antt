@@ -1,8 +1,8 @@
 -- Pairs of a list in byte order, one of each key.
 use Rattle.std.specs.Prelude.{ℕ, List, [], ◌∷◌}
-use Rattle.gql_ast.specs.declared.variable.VariableDef.{VariableDef}
-use Rattle.gql_plain.specs.Order.{member_at}
-use Rattle.gql_plain.specs.Tree.{Tree}
+use Rattle.schema_types.specs.gql_ast.declared.variable.VariableDef.{VariableDef}
+use Rattle.schema_types.specs.gql_plain.Order.{member_at}
+use Rattle.schema_types.specs.gql_plain.Tree.{Tree}
 use Rattle.schema_types.specs.Environments.{Values, with_pair, with_new_pair, value_or_default}
 
 -- the first pair of a key counts

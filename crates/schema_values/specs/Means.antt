@@ -1,13 +1,13 @@
 -- What a named type takes, as look-ups tell it.
 use Rattle.std.specs.Prelude.{◌≡◌, Bool, true, not, ◌&&◌, ◌||◌, List, [], ◌∷◌, map, Some}
-use Rattle.gql_ast.specs.declared.member.InputTree.{InputTree}
-use Rattle.gql_plain.specs.Order.{sorted_texts}
-use Rattle.gql_plain.specs.Tree.{Members}
-use Rattle.schema_tables.specs.Views.{InputDef}
+use Rattle.schema_types.specs.gql_ast.declared.member.InputTree.{InputTree}
+use Rattle.schema_types.specs.gql_plain.Order.{sorted_texts}
+use Rattle.schema_types.specs.gql_plain.Tree.{Members}
+use Rattle.schema_types.specs.schema_tables.Views.{InputDef}
 use Rattle.schema_types.specs.Environments.{has_key}
-use Rattle.schema_tables.specs.Fits.{meaning_of, built_in, one_of, fields, anything}
-use Rattle.schema_tables.specs.Given.{must_be_given}
-use Rattle.schema_tables.specs.Types.{Text, Defs, inputs_of, input_def}
+use Rattle.schema_types.specs.schema_tables.Fits.{meaning_of, built_in, one_of, fields, anything}
+use Rattle.schema_types.specs.schema_tables.Given.{must_be_given}
+use Rattle.schema_types.specs.schema_tables.Types.{Text, Defs, inputs_of, input_def}
 use Rattle.schema_values.specs.declared.suited.Meaning.{Meaning}
 use Rattle.schema_values.specs.declared.suited.Meaning.TheVariants as M
 

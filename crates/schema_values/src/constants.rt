@@ -1,13 +1,12 @@
 //! Values in which no variable stands (GraphQL, October 2021, sections 2.9 and 2.10).
 ghost use Rattle.std.specs.Prelude.{◌≡◌, [], IfOk};
-ghost use Rattle.gql_ast.specs.Value.{members_of, vals_of};
-ghost use Rattle.gql_ast.specs.ValueView.{value_of};
+ghost use Rattle.schema_types.specs.gql_ast.Value.{members_of, vals_of};
+ghost use Rattle.schema_types.specs.gql_ast.ValueView.{value_of};
 ghost use Rattle.schema_types.specs.Environments.{arguments_in_environment};
 ghost use Rattle.schema_values.specs.Fittings.{is_constant, are_constant, have_constants};
 
 use crate::evaluated::object_under;
-use gql_ast::{Arguments, ValueTree, ValueTrees};
-use gql_plain::{NoMemory, Pairs};
+use schema_types::{Arguments, NoMemory, Pairs, ValueTree, ValueTrees};
 use std::alloc::Global;
 
 /// What arguments are where no variable has a value, in byte order of their names; of several of one

@@ -1,7 +1,7 @@
 //! Environments: the values of variables under which an operation runs.
 ghost use Rattle.std.specs.Prelude.{◌≡◌, IfOk};
 
-use gql_plain::{Name, NoMemory, Pairs};
+use schema_types::{Name, NoMemory, Pairs};
 use std::marker::Model;
 
 /// The values of variables under which an operation runs, and its root type.

@@ -1,7 +1,7 @@
 //! The environment of an operation (GraphQL, October 2021, section 6.1.2).
 ghost use Rattle.std.specs.Prelude.{◌≡◌, map, None, IfOk, OnOk, IfErr};
-ghost use Rattle.gql_plain.specs.Order.{member_at};
-ghost use Rattle.gql_plain.specs.Shown.{tree_of, shown_members};
+ghost use Rattle.schema_types.specs.gql_plain.Order.{member_at};
+ghost use Rattle.schema_types.specs.gql_plain.Shown.{tree_of, shown_members};
 ghost use Rattle.schema_types.specs.Environments as environments;
 ghost use Rattle.schema_values.specs.Failures.{Tells, IsFailure};
 ghost use Rattle.schema_values.specs.Listed.{given_or_default};
@@ -10,10 +10,10 @@ use crate::env::{Env, VarFault};
 use crate::evaluated::evaluate_under;
 use crate::pairs::first_of_each;
 use crate::suited::fits;
-use gql_ast::{ValueTree, VariableDef, VariableDefs};
-use gql_plain::{Name, NoMemory, Pairs, Plain, Words};
-use schema_tables::type_forms::is_non_null;
-use schema_types::Schema;
+use schema_types::type_forms::is_non_null;
+use schema_types::{
+    Name, NoMemory, Pairs, Plain, Schema, ValueTree, VariableDef, VariableDefs, Words,
+};
 use std::alloc::Global;
 
 /// The environment of an operation with these variables: each has the value that is given, else its

@@ -1,15 +1,14 @@
 //! What a value of the language is under the values of variables (GraphQL, October 2021, section
 //! 6.4.1).
 ghost use Rattle.std.specs.Prelude.{◌≡◌, map, IfOk};
-ghost use Rattle.gql_ast.specs.Value.{members_of};
-ghost use Rattle.gql_ast.specs.ValueView.{value_of};
-ghost use Rattle.gql_plain.specs.Shown.{tree_of, shown_members};
+ghost use Rattle.schema_types.specs.gql_ast.Value.{members_of};
+ghost use Rattle.schema_types.specs.gql_ast.ValueView.{value_of};
+ghost use Rattle.schema_types.specs.gql_plain.Shown.{tree_of, shown_members};
 ghost use Rattle.schema_types.specs.Environments as environments;
 
 use crate::env::Env;
 use crate::pairs::last_of_each;
-use gql_ast::{Arguments, ValueTree, ValueTrees};
-use gql_plain::{NoMemory, Pairs, Plain, Plains, Words};
+use schema_types::{Arguments, NoMemory, Pairs, Plain, Plains, ValueTree, ValueTrees, Words};
 use std::alloc::Global;
 
 /// What a value is in an environment: a variable without a value is null, and the name of an enum's

@@ -1,12 +1,12 @@
 //! Pairs of a list in byte order, one of each key.
 ghost use Rattle.std.specs.Prelude.{◌≡◌, IfOk, OnOk};
 ghost use Rattle.std.specs.Map.{keys_of};
-ghost use Rattle.gql_plain.specs.Order.{AreInOrder};
-ghost use Rattle.gql_plain.specs.Shown.{tree_of, shown_members};
+ghost use Rattle.schema_types.specs.gql_plain.Order.{AreInOrder};
+ghost use Rattle.schema_types.specs.gql_plain.Shown.{tree_of, shown_members};
 ghost use Rattle.schema_types.specs.Environments.{with_new_pair};
 ghost use Rattle.schema_values.specs.Listed as listed;
 
-use gql_plain::{NoMemory, Pairs, Plain, Words};
+use schema_types::{NoMemory, Pairs, Plain, Words};
 use std::alloc::Global;
 use std::collections::BTreeMap;
 

@@ -1,21 +1,19 @@
 //! Which values that are given fit a type (GraphQL, October 2021, sections 3.4 to 3.12 and 6.1.2).
 ghost use Rattle.std.specs.Prelude.{◌≡◌, ℕ, List, Some};
 ghost use Rattle.std.specs.Map.{keys_of};
-ghost use Rattle.gql_ast.specs.TypeView.{ty_of};
-ghost use Rattle.gql_ast.specs.declared.member.InputTree.{InputTree};
-ghost use Rattle.gql_plain.specs.Order.{sorted_texts};
-ghost use Rattle.gql_plain.specs.Shown.{tree_of};
-ghost use Rattle.gql_plain.specs.Tree.{trees_of, members_of};
+ghost use Rattle.schema_types.specs.gql_ast.TypeView.{ty_of};
+ghost use Rattle.schema_types.specs.gql_ast.declared.member.InputTree.{InputTree};
+ghost use Rattle.schema_types.specs.gql_plain.Order.{sorted_texts};
+ghost use Rattle.schema_types.specs.gql_plain.Shown.{tree_of};
+ghost use Rattle.schema_types.specs.gql_plain.Tree.{trees_of, members_of};
 ghost use Rattle.schema_types.specs.Environments as environments;
-ghost use Rattle.schema_tables.specs.Fits.{fields, meaning_of};
-ghost use Rattle.schema_tables.specs.Required.{count_among, required_names};
-ghost use Rattle.schema_tables.specs.Types as types;
+ghost use Rattle.schema_types.specs.schema_tables.Fits.{fields, meaning_of};
+ghost use Rattle.schema_types.specs.schema_tables.Required.{count_among, required_names};
+ghost use Rattle.schema_types.specs.schema_tables.Types as types;
 ghost use Rattle.schema_values.specs.Means.{Means, gives_each};
 
-use gql_ast::TypeTree;
-use gql_plain::{Ids, Pairs, Plain, Plains, Words};
-use schema_tables::type_forms::{base_of, is_built_in_scalar, is_non_null, item_of};
-use schema_types::{InputDefs, Schema};
+use schema_types::type_forms::{base_of, is_built_in_scalar, is_non_null, item_of};
+use schema_types::{Ids, InputDefs, Pairs, Plain, Plains, Schema, TypeTree, Words};
 
 /// What a named type takes.
 #[derive(Drop)]

@@ -1,9 +1,9 @@
 //! Which plans have an order, and which it is.
 use crate::plans::{alone, leaf, leaves, of_type, spread, users, with};
 use plan_ir::{ReaderPlan, ReaderStep};
-use plan_order::ordered;
 use std::alloc::Global;
 use std::test::Fail;
+use store_show::ordered;
 
 /// The response key of a step, or of the one behind its guard; of a spread the fragment.
 #[cycle(key)]

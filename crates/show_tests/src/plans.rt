@@ -1,7 +1,7 @@
 //! Plans by which the tests read.
-use gql_ast::Arguments;
-use gql_plain::{Ids, NoMemory, Words};
-use plan_ir::{Conditions, Guard, ReaderPlan, ReaderStep, ReaderSteps};
+use plan_ir::{
+    Arguments, Conditions, Guard, Ids, NoMemory, ReaderPlan, ReaderStep, ReaderSteps, Words,
+};
 use std::alloc::Global;
 
 /// The plan of these leaves, whose response keys are their names; names are parted by one space.

@@ -1,9 +1,8 @@
 //! Records that the tests read.
-use gql_plain::{Counts, Id, NoMemory, OptIds, Plain, Words};
+use plan_ir::{Counts, Field, Id, NoMemory, OptIds, Plain, Record, Words};
 use std::alloc::Global;
 use std::rc::Rc;
-use store_record::{Field, Record};
-use store_source::{Flat, RecordSource};
+use store_show::{Flat, RecordSource};
 
 fn link(alloc: Global, id: &str) -> Result<Field, NoMemory> {
     Ok(Field::Link(Id::new(alloc, id)?))

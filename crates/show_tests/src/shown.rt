@@ -1,16 +1,11 @@
 //! What reads write, beside what reads show.
 use crate::plans::{alone, leaf, leaves, of_type, one_type, spread, users, with};
 use crate::records::records;
-use gql_plain::{Counts, Id, Pairs, Words, text_of};
 use json::Writer;
-use plan_ir::ReaderPlan;
-use plan_order::KeptReader;
-use schema_values::Env;
+use plan_ir::{Counts, Env, Id, Pairs, ReaderPlan, Words, text_of};
 use std::alloc::Global;
 use std::test::Fail;
-use store_read::read;
-use store_show::{Seen, show};
-use store_source::Flat;
+use store_show::{Flat, KeptReader, Seen, read, show};
 
 /// The root type `Query`, and no variable.
 fn env(alloc: Global) -> Result<Env, Fail> {

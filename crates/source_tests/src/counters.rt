@@ -1,12 +1,9 @@
 //! Connections whose counter of edges is at its end.
-use gql_plain::{Counts, Id, NoMemory, OptIds, Plain, Words};
 use std::alloc::Global;
 use std::rc::Rc;
 use std::test::Fail;
-use store_conn::merge_page;
-use store_model::HandleFact;
-use store_record::{Field, Record, Slot};
-use store_source::{Flat, RecordSource};
+use store_layers::{Field, Flat, HandleFact, Record, RecordSource, Slot, merge_page};
+use store_tree::gql_plain::{Counts, Id, NoMemory, OptIds, Plain, Words};
 
 const CLIENT: &str = "client:4:__K_friends_connection";
 

@@ -1,9 +1,8 @@
-use gql_plain::{Counts, Id, Name, NoMemory};
 use std::alloc::Global;
 use std::rc::Rc;
 use std::test::Fail;
-use store_record::{Record, Slot};
-use store_source::{Flat, RecordSource, Versions};
+use store_layers::{Flat, Record, RecordSource, Slot, Versions};
+use store_tree::gql_plain::{Counts, Id, Name, NoMemory};
 
 fn row(alloc: Global, type_name: &str) -> Result<Rc<Record>, NoMemory> {
     let type_name = Name::new(alloc, type_name)?;

@@ -1,13 +1,11 @@
 //! Sweeps of the base of layers, on each kind of record map.
 ghost use Rattle.std.specs.Prelude.{◌≡◌, [], IfOk};
-ghost use Rattle.store_model.specs.Records.{no_records};
+ghost use Rattle.store_layers.specs.store_model.Records.{no_records};
 
-use gql_plain::{Counts, Id, Ids, NoMemory, Words};
 use std::alloc::Global;
 use std::test::Fail;
-use store_layers::Layers;
-use store_model::{Command, Commands, Entry, Facts};
-use store_source::{Flat, RecordSource, Versions};
+use store_layers::{Command, Commands, Entry, Facts, Flat, Layers, RecordSource, Versions};
+use store_tree::gql_plain::{Counts, Id, Ids, NoMemory, Words};
 
 /// The ids of a text, which has a space between two.
 fn ids_of(alloc: Global, text: &str) -> Result<Ids, NoMemory> {

@@ -2,11 +2,11 @@
 ghost use Rattle.std.specs.Prelude.{◌≡◌};
 ghost use Rattle.store_tree.specs.KeyOrder.{digest_of};
 
-use gql_plain::{Counts, NoMemory, Words};
 use std::alloc::Global;
 use std::rc::Rc;
 use std::test::Fail;
 use store_tree::Tree;
+use store_tree::gql_plain::{Counts, NoMemory, Words};
 
 /// The most entries that a leaf of a tree has.
 const MOST: u64 = 31;

@@ -1,7 +1,7 @@
 -- Cases of the merge of a page and of an edit, as the code tells them apart.
 use Rattle.std.proofs.Common.{◌≡◌, ℕ, ◌+◌, Bool, true, false, ◌&&◌, cond, List, [], codes, length, Option, Some, None, option_map, refl, sym, ap, ◌∙◌}
-use Rattle.store_record.specs.Keys.{Text}
-use Rattle.store_record.specs.declared.record.Record.{Record}
+use Rattle.store_model.specs.store_record.Keys.{Text}
+use Rattle.store_model.specs.store_record.declared.record.Record.{Record}
 use Rattle.store_model.specs.Entries.{Looks, no_looks, asked_with_page, asked_onto, asked_by_cursor, asked_page, asked_in_connection}
 use Rattle.store_model.specs.Merge.{Kept, onto, with_page, kept_connection, onto_client, replace_edges, page_after, page_before, has_cursor, info_id, is_among, is_null, nodes_at, edges_of}
 use Rattle.store_model.specs.Records.{Records, live}

@@ -1,3 +1,5 @@
+pub use Rattle.store_model.proofs.gql_plain_laws
+pub use Rattle.store_model.proofs as store_model_laws
 pub mod Cases
 pub mod Looks
 pub mod Merges

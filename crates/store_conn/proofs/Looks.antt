@@ -1,7 +1,7 @@
 -- What is looked at is within what is asked for, and how many rows are put.
 use Rattle.std.proofs.Common.{◌≡◌, ℕ, suc, ◌+◌, ◌*◌, ◌≤◌, Bool, true, false, cond, List, [], ◌∷◌, ◌++◌, length, Option, Some, None, refl, ap, ◌∙◌, length-append, arith, unwrap_or, option_map}
-use Rattle.store_record.specs.Keys.{Text}
-use Rattle.store_record.specs.declared.record.Record.{Record}
+use Rattle.store_model.specs.store_record.Keys.{Text}
+use Rattle.store_model.specs.store_record.declared.record.Record.{Record}
 use Rattle.store_model.specs.Entries.{Looks, asked_page, number_asked, some_ids}
 use Rattle.store_model.specs.Merge.{Kept, edges_of, live_edges, new_edges, nodes_at, node_of, is_among, next_edge}
 use Rattle.store_model.specs.Records.{Records, live}

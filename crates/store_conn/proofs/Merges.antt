@@ -1,8 +1,8 @@
 -- The parts of a merge, put together as its definition has them.
 use Rattle.std.proofs.Common.{◌≡◌, Bool, true, false, cond, codes, List, [], ◌∷◌, ◌++◌, Option, Some, None, refl, sym, ap, ◌∙◌, append-nil}
-use Rattle.store_record.specs.Keys.{Text, client_id}
-use Rattle.store_record.specs.declared.field.Field.TheVariants.{Link}
-use Rattle.store_record.specs.declared.record.Record.{Record}
+use Rattle.store_model.specs.store_record.Keys.{Text, client_id}
+use Rattle.store_model.specs.store_record.declared.field.Field.TheVariants.{Link}
+use Rattle.store_model.specs.store_record.declared.record.Record.{Record}
 use Rattle.store_model.specs.Merge.{Kept, edges_of, nodes_at, nodes_of, is_among, live_edges, edge_ids, info_id, info_below, whole_info, taken_both, with_info, replace_edges, onto_none, page_after, page_before}
 use Rattle.store_model.specs.Records.{Records, live, with_field, with_record}
 use Rattle.store_model.specs.declared.facts.HandleFact.{HandleFact}

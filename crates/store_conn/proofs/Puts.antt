@@ -1,9 +1,9 @@
 -- Rows that are put: a connection, and the edges that are made for it.
 use Rattle.std.proofs.Common.{◌≡◌, ◌≢◌, ℕ, ◌+◌, ◌-◌, ◌^◌, ◌≤◌, min, pos, codes, Bool, Option, List, [], ◌∷◌, ◌++◌, length, Some, refl, sym, ap, ◌∙◌, append_assoc, arith}
-use Rattle.gql_plain.specs.declared.plain.Plain.TheVariants.{Int}
-use Rattle.store_record.specs.Keys.{Text}
-use Rattle.store_record.specs.declared.field.Field.TheVariants.{Leaf}
-use Rattle.store_record.specs.declared.record.Record.{Record}
+use Rattle.store_model.specs.gql_plain.declared.plain.Plain.TheVariants.{Int}
+use Rattle.store_model.specs.store_record.Keys.{Text}
+use Rattle.store_model.specs.store_record.declared.field.Field.TheVariants.{Leaf}
+use Rattle.store_model.specs.store_record.declared.record.Record.{Record}
 use Rattle.store_model.specs.Merge.{Kept, edges_of, edge_id, edge_ids, next_edge, make_edges, counter_after, with_counter}
 use Rattle.store_model.specs.Records.{Records, with_field, with_record}
 use Rattle.store_conn.specs.Changes.{put_all, edge_changes, edge_ids_of}

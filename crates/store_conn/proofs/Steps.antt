@@ -1,9 +1,9 @@
 -- One step of going over a list of edges, of fields or of rows.
 use Rattle.std.proofs.Common.{◌≡◌, ℕ, zero, suc, ◌+◌, ◌<◌, ◌≤◌, Bool, true, false, true≢false, ◌||◌, cond, List, [], ◌∷◌, ◌++◌, length, get_or, drop, Option, Some, None, refl, sym, ap, ◌∙◌, append_assoc, arith, unwrap_or, option_map}
 use Rattle.std.proofs.lemmas.List.{drop_more}
-use Rattle.store_record.specs.Keys.{Text}
-use Rattle.store_record.specs.declared.field.Field.{Field}
-use Rattle.store_record.specs.declared.record.Record.{Record}
+use Rattle.store_model.specs.store_record.Keys.{Text}
+use Rattle.store_model.specs.store_record.declared.field.Field.{Field}
+use Rattle.store_model.specs.store_record.declared.record.Record.{Record}
 use Rattle.store_model.specs.Merge.{live_edges, same_node, nodes_at, node_at, node_of, nodes_of, is_among, is_own_key, copied_over, edge_id, next_edge, counter_after}
 use Rattle.store_model.specs.Records.{Records, live, with_field}
 use Rattle.store_model.specs.Updates.{edges_without}

@@ -1,8 +1,8 @@
 -- Of the nodes of a list only those matter that the edges of a page have too.
 use Rattle.std.proofs.Common.{◌≡◌, Bool, true, false, true≢false, ◌||◌, cond, List, [], ◌∷◌, Option, Some, None, refl, sym, ap, ◌∙◌}
 use Rattle.std.proofs.lemmas.Slice.Eq.{bytes_eq-Decides}
-use Rattle.store_record.specs.Keys.{Text}
-use Rattle.store_record.specs.declared.record.Record.{Record}
+use Rattle.store_model.specs.store_record.Keys.{Text}
+use Rattle.store_model.specs.store_record.declared.record.Record.{Record}
 use Rattle.store_model.specs.Merge.{same_node, node_of, nodes_of, is_among}
 use Rattle.store_conn.specs.Nodes.{and_node, and_wanted, and_all_wanted, unknown_edges}
 use Rattle.store_conn.proofs.Sets.{or_moves, or_none}

@@ -1,7 +1,7 @@
 -- Records that are put one after another.
 use Rattle.std.specs.Prelude.{ℕ, List, [], ◌∷◌, Option, Some}
-use Rattle.store_record.specs.Keys.{Text}
-use Rattle.store_record.specs.declared.record.Record.{Record}
+use Rattle.store_model.specs.store_record.Keys.{Text}
+use Rattle.store_model.specs.store_record.declared.record.Record.{Record}
 use Rattle.store_model.specs.Records.{Records, with_record}
 use Rattle.store_model.specs.Merge.{edge_id, next_edge}
 use Rattle.store_conn.specs.declared.changes.Change.{Change}

@@ -1,9 +1,9 @@
 -- The connection that the client keeps, and what a page makes of it.
 use Rattle.std.specs.Prelude.{◌≡◌, ℕ, List, [], ◌∷◌, ◌++◌, codes, cond, Option, Some, None, length}
-use Rattle.gql_plain.specs.declared.plain.Plain.TheVariants.{Null}
-use Rattle.store_record.specs.Keys.{Text}
-use Rattle.store_record.specs.declared.field.Field.TheVariants.{Leaf, Links}
-use Rattle.store_record.specs.declared.record.Record.{Record}
+use Rattle.store_model.specs.gql_plain.declared.plain.Plain.TheVariants.{Null}
+use Rattle.store_model.specs.store_record.Keys.{Text}
+use Rattle.store_model.specs.store_record.declared.field.Field.TheVariants.{Leaf, Links}
+use Rattle.store_model.specs.store_record.declared.record.Record.{Record}
 use Rattle.store_model.specs.Entries.{asked_onto, asked_by_cursor, asked_page}
 use Rattle.store_model.specs.Merge.{Kept, copied_over, with_counter, counter_after, make_edges, below, onto, onto_none, onto_client, has_cursor, info_id, is_null, page_after, page_before, replace_edges}
 use Rattle.store_model.specs.Records.{Records, live, with_field, with_record}

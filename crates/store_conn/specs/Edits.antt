@@ -1,10 +1,10 @@
 -- Edges that are put into a kept connection, or taken out of it.
 use Rattle.std.specs.Prelude.{ℕ, pos, List, [], ◌∷◌, Bool, cond, codes, Option, Some, None, option_map, unwrap_or}
-use Rattle.gql_plain.specs.declared.plain.Plain.TheVariants.{Int}
-use Rattle.store_record.specs.Keys.{Text}
-use Rattle.store_record.specs.declared.field.Field.{Field}
-use Rattle.store_record.specs.declared.field.Field.TheVariants.{Leaf, Links}
-use Rattle.store_record.specs.declared.record.Record.{Record}
+use Rattle.store_model.specs.gql_plain.declared.plain.Plain.TheVariants.{Int}
+use Rattle.store_model.specs.store_record.Keys.{Text}
+use Rattle.store_model.specs.store_record.declared.field.Field.{Field}
+use Rattle.store_model.specs.store_record.declared.field.Field.TheVariants.{Leaf, Links}
+use Rattle.store_model.specs.store_record.declared.record.Record.{Record}
 use Rattle.store_model.specs.Merge.{Kept, edges_of, nodes_at, is_among, edge_id, next_edge}
 use Rattle.store_model.specs.Records.{Records, field_at, with_field, with_record}
 use Rattle.store_model.specs.Updates.{edge_of, with_edge, field_without}

@@ -1,7 +1,7 @@
 -- How many records a walk over lists of edges looks at.
 use Rattle.std.specs.Prelude.{ℕ, ◌+◌, List, length, Option}
-use Rattle.store_record.specs.Keys.{Text}
-use Rattle.store_record.specs.declared.record.Record.{Record}
+use Rattle.store_model.specs.store_record.Keys.{Text}
+use Rattle.store_model.specs.store_record.declared.record.Record.{Record}
 use Rattle.store_model.specs.Entries.{some_ids}
 use Rattle.store_model.specs.Merge.{edges_of}
 

@@ -3,8 +3,8 @@ use Rattle.std.specs.Prelude.{ℕ, List, [], ◌∷◌, Bool, false, ◌||◌, c
 use Rattle.std.specs.BTreeSet.{BTreeSet, contains_by}
 use Rattle.std.specs.Cmp.Lexicographic.{slice_cmp}
 use Rattle.std.specs.Ordering.{nat_cmp}
-use Rattle.store_record.specs.Keys.{Text}
-use Rattle.store_record.specs.declared.record.Record.{Record}
+use Rattle.store_model.specs.store_record.Keys.{Text}
+use Rattle.store_model.specs.store_record.declared.record.Record.{Record}
 use Rattle.store_model.specs.Merge.{same_node, node_of, node_at}
 use Rattle.store_model.specs.Records.{Records}
 use denote.Ref.{Bor}

@@ -1,7 +1,7 @@
 -- The edges that a page gives, by the case of its merge.
 use Rattle.std.specs.Prelude.{ℕ, List, [], Option}
-use Rattle.store_record.specs.Keys.{Text}
-use Rattle.store_record.specs.declared.record.Record.{Record}
+use Rattle.store_model.specs.store_record.Keys.{Text}
+use Rattle.store_model.specs.store_record.declared.record.Record.{Record}
 use Rattle.store_model.specs.Merge.{Kept, edges_of, edge_ids, live_edges, new_edges, nodes_at, nodes_of, others_than}
 use Rattle.store_model.specs.Records.{Records}
 

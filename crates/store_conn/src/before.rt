@@ -15,9 +15,9 @@ use crate::info::push_info;
 use crate::look::{below, edges_of};
 use crate::made::{Page, make_edges, push_made, push_page};
 use crate::nodes::Nodes;
-use gql_plain::{NoMemory, OptIds};
 use std::alloc::Global;
-use store_record::{Record, Shared};
+use store_model::gql_plain::{NoMemory, OptIds};
+use store_model::store_record::{Record, Shared};
 use store_source::RecordSource;
 
 /// What a page puts that goes before the edges of a connection. An old edge with the node of a new one

@@ -2,9 +2,9 @@
 ghost use Rattle.std.specs.Prelude.{◌≡◌, ◌++◌, IfOk, OnOk};
 ghost use Rattle.store_conn.specs.Changes as spec;
 
-use gql_plain::{Id, NoMemory};
 use std::alloc::Global;
-use store_record::{Record, Shared};
+use store_model::gql_plain::{Id, NoMemory};
+use store_model::store_record::{Record, Shared};
 use store_source::RecordSource;
 
 /// A record that is put at an id, in place of what stands there.

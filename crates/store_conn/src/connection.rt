@@ -5,9 +5,9 @@ ghost use Rattle.store_model.specs.Records.{with_field};
 ghost use Rattle.store_conn.specs.Connections.{kept_of};
 
 use crate::look::{leaf_under, link_under, live};
-use gql_plain::{Id, Name, NoMemory, Plain, Words};
 use std::alloc::Global;
-use store_record::{Field, Record, Shared, SharedField, client_id};
+use store_model::gql_plain::{Id, Name, NoMemory, Plain, Words};
+use store_model::store_record::{Field, Record, Shared, SharedField, client_id};
 use store_source::RecordSource;
 
 /// A connection: its id, its record, and the number of the edge that is made next.

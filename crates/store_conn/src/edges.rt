@@ -1,6 +1,6 @@
 //! Lists of edges.
 ghost use Rattle.std.specs.Prelude.{◌≡◌, ◌+◌, ◌≤◌, ◌∷◌, ◌++◌, [], Option, Some, IfOk, OnOk};
-ghost use Rattle.store_record.specs.Keys.{Text};
+ghost use Rattle.store_model.specs.store_record.Keys.{Text};
 ghost use Rattle.store_model.specs.Merge as merge;
 ghost use Rattle.store_model.specs.Updates as updates;
 ghost use Rattle.store_conn.specs.Lists.{ids_in};
@@ -8,9 +8,9 @@ ghost use Rattle.store_conn.specs.Nodes.{knows, and_all_wanted, and_edge, and_ed
 
 use crate::look::{edge_at, node_at, node_of};
 use crate::nodes::Nodes;
-use gql_plain::{Id, NoMemory, OptIds, Words};
 use std::alloc::Global;
-use store_record::Shared;
+use store_model::gql_plain::{Id, NoMemory, OptIds, Words};
+use store_model::store_record::Shared;
 use store_source::RecordSource;
 
 /// The live records of a list of edges, in their order. They are shared.

@@ -1,7 +1,7 @@
 //! Edges that are put into a connection, or taken out of it.
 ghost use Rattle.std.specs.Prelude.{◌≡◌, ◌+◌, ◌*◌, ◌≤◌, ◌∷◌, [], codes, length, option_map, option_and_then, Some, IfOk};
 ghost use Rattle.std.specs.Option.{option_copied};
-ghost use Rattle.store_record.specs.Keys as keys;
+ghost use Rattle.store_model.specs.store_record.Keys as keys;
 ghost use Rattle.store_model.specs.Entries as entries;
 ghost use Rattle.store_model.specs.Merge as merge;
 ghost use Rattle.store_model.specs.Records.{with_field};
@@ -16,10 +16,10 @@ use crate::connection::{Connection, connection_below, next_edge, put_field};
 use crate::edges::{any_has_node, edges_without, push_edges};
 use crate::look::{edges_of, live};
 use crate::made::put_counter;
-use gql_plain::{Id, NoMemory, OptIds, Words};
 use std::alloc::Global;
 use store_model::EdgeEdit;
-use store_record::{Field, Record, Shared, client_id, field_key};
+use store_model::gql_plain::{Id, NoMemory, OptIds, Words};
+use store_model::store_record::{Field, Record, Shared, client_id, field_key};
 use store_source::RecordSource;
 
 /// Puts an edge first or last into the connection that an edit names, unless some edge there has its

@@ -8,9 +8,9 @@ ghost use Rattle.store_conn.specs.Changes.{put_all};
 use crate::changes::Change;
 use crate::connection::{Connection, info_id, put_field};
 use crate::look::leaf_under;
-use gql_plain::{Name, NoMemory, Plain};
 use std::alloc::Global;
-use store_record::{Record, Shared};
+use store_model::gql_plain::{Name, NoMemory, Plain};
+use store_model::store_record::{Record, Shared};
 
 /// Whether page information has that value as a cursor; takes no memory.
 pub(crate) fn has_cursor(info: Option<&Shared>, key: &str, value: &Plain) -> bool

@@ -5,8 +5,8 @@ ghost use Rattle.store_model.specs.Merge as merge;
 ghost use Rattle.store_model.specs.Records.{live, field_at};
 ghost use Rattle.store_conn.specs.Lists.{ids_in};
 
-use gql_plain::{Id, Plain, Words};
-use store_record::{Field, Record, Shared, Slot};
+use store_model::gql_plain::{Id, Plain, Words};
+use store_model::store_record::{Field, Record, Shared, Slot};
 use store_source::RecordSource;
 
 /// The live record of an id; takes one look and no memory.

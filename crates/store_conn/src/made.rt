@@ -1,8 +1,8 @@
 //! Edges that are made, and the record of their connection.
 ghost use Rattle.std.specs.Prelude.{◌≡◌, ◌+◌, ◌-◌, ◌^◌, ◌≤◌, ◌∷◌, ◌++◌, List, length, IfOk, OnOk, pos, codes};
-ghost use Rattle.gql_plain.specs.declared.plain.Plain.TheVariants.{Int};
-ghost use Rattle.store_record.specs.declared.field.Field.TheVariants.{Leaf};
-ghost use Rattle.store_record.specs.declared.record.Record.{Record as RowOf};
+ghost use Rattle.store_model.specs.gql_plain.declared.plain.Plain.TheVariants.{Int};
+ghost use Rattle.store_model.specs.store_record.declared.field.Field.TheVariants.{Leaf};
+ghost use Rattle.store_model.specs.store_record.declared.record.Record.{Record as RowOf};
 ghost use Rattle.store_model.specs.Merge as merge;
 ghost use Rattle.store_model.specs.Records.{Records, with_field};
 ghost use Rattle.store_conn.specs.Changes.{edge_ids_of, put_all};
@@ -10,9 +10,9 @@ ghost use Rattle.store_conn.specs.Connections as spec;
 
 use crate::changes::{Change, push_all};
 use crate::connection::{Connection, copied_over, next_edge, put_field};
-use gql_plain::{NoMemory, OptIds, Plain, Words};
 use std::alloc::Global;
-use store_record::{Field, Record, Shared, client_id};
+use store_model::gql_plain::{NoMemory, OptIds, Plain, Words};
+use store_model::store_record::{Field, Record, Shared, client_id};
 
 /// Edges that are made, each with an id of its own, and the number of the edge that is made next.
 #[derive(Drop)]

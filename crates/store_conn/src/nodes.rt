@@ -1,12 +1,12 @@
 //! The nodes of edges.
 ghost use Rattle.std.specs.Prelude.{◌≡◌, Option, false, OnOk};
 ghost use Rattle.std.specs.Option.{option_copied};
-ghost use Rattle.store_record.specs.Keys.{Text};
+ghost use Rattle.store_model.specs.store_record.Keys.{Text};
 ghost use Rattle.store_conn.specs.Nodes.{knows, and_node, and_wanted};
 
-use gql_plain::{Id, NoMemory};
 use std::alloc::Global;
 use std::collections::BTreeSet;
+use store_model::gql_plain::{Id, NoMemory};
 
 /// A set of the nodes of edges.
 #[derive(Drop)]

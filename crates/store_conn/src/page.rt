@@ -15,10 +15,10 @@ use crate::connection::{Connection, connection_below, info_id, new_connection, p
 use crate::info::{has_cursor, is_null};
 use crate::look::{below, live};
 use crate::replace::replace_edges;
-use gql_plain::{NoMemory, Plain};
 use std::alloc::Global;
 use store_model::HandleFact;
-use store_record::{Field, Record, Shared, client_id};
+use store_model::gql_plain::{NoMemory, Plain};
+use store_model::store_record::{Field, Record, Shared, client_id};
 use store_source::RecordSource;
 
 /// Merges a page of a connection into the connection that the client keeps. The map stays as it is.

@@ -1,8 +1,8 @@
 //! Pages that replace the edges of a connection.
 ghost use Rattle.std.specs.Prelude.{◌≡◌, ◌+◌, ◌≤◌, ◌∷◌, ◌++◌, [], codes, length, List, IfOk, OnOk};
 ghost use Rattle.std.specs.Option.{option_copied};
-ghost use Rattle.store_record.specs.declared.field.Field.TheVariants.{Link};
-ghost use Rattle.store_record.specs.declared.record.Record.{Record as RowOf};
+ghost use Rattle.store_model.specs.store_record.declared.field.Field.TheVariants.{Link};
+ghost use Rattle.store_model.specs.store_record.declared.record.Record.{Record as RowOf};
 ghost use Rattle.store_model.specs.Merge as merge;
 ghost use Rattle.store_model.specs.Records.{Records, with_field};
 ghost use Rattle.store_conn.specs.Changes.{put_all};
@@ -17,10 +17,10 @@ use crate::info::whole_info;
 use crate::look::{below, edges_of};
 use crate::made::{Page, make_edges, push_connection, push_made, with_list};
 use crate::nodes::Nodes;
-use gql_plain::{NoMemory, OptIds};
 use std::alloc::Global;
 use store_model::HandleFact;
-use store_record::{Field, Record, Shared};
+use store_model::gql_plain::{NoMemory, OptIds};
+use store_model::store_record::{Field, Record, Shared};
 use store_source::RecordSource;
 
 /// Puts a page that replaces the edges of a connection, and page information that is made whole, to

@@ -1,13 +1,13 @@
 -- One layer more above the others.
 use Rattle.std.proofs.Common.{◌≡◌, List, [], ◌∷◌, ◌++◌, sym, ap, ◌∙◌, subst}
 use Rattle.std.proofs.lemmas.List.{map-append}
-use Rattle.store_record.specs.Keys.{Text}
-use Rattle.store_model.specs.Entries.{apply, fold_entries}
-use Rattle.store_model.specs.Records.{Records}
-use Rattle.store_model.specs.declared.entry.Entry.{Entry}
+use Rattle.store_update.specs.store_record.Keys.{Text}
+use Rattle.store_update.specs.store_model.Entries.{apply, fold_entries}
+use Rattle.store_update.specs.store_model.Records.{Records}
+use Rattle.store_update.specs.store_model.declared.entry.Entry.{Entry}
 use Rattle.store_update.specs.Touched.{AreTouched}
 use Rattle.store_update.specs.declared.entry.Changed.{Changed}
-use Rattle.store_layers.proofs.Versions.{pushed}
+use Rattle.store_layers.proofs.VersionSteps.{pushed}
 use Rattle.store_layers.specs.Layered.{Layer, entries_of}
 use Rattle.store_layers.specs.Versions.{AreVersions, AreKept, shown}
 

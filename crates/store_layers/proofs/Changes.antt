@@ -3,11 +3,11 @@ use Rattle.std.proofs.Common.{◌≡◌, Bool, true, false, true≢false, ◌||�
 use Rattle.std.proofs.lemmas.Bool.{or_parts}
 use Rattle.std.proofs.lemmas.List.Folds.{list_any-append}
 use Rattle.std.specs.Bool.{Decides}
-use Rattle.gql_plain.specs.Order.{has_text}
-use Rattle.store_record.specs.Keys.{Text}
-use Rattle.store_model.specs.Entries.{apply, fold_entries}
-use Rattle.store_model.specs.Records.{Records, slot_at}
-use Rattle.store_model.specs.declared.entry.Entry.{Entry}
+use Rattle.store_update.specs.gql_plain.Order.{has_text}
+use Rattle.store_update.specs.store_record.Keys.{Text}
+use Rattle.store_update.specs.store_model.Entries.{apply, fold_entries}
+use Rattle.store_update.specs.store_model.Records.{Records, slot_at}
+use Rattle.store_update.specs.store_model.declared.entry.Entry.{Entry}
 use Rattle.store_update.proofs.Equal.{slot_eq-Decides}
 use Rattle.store_update.specs.Slots.{slot_eq}
 use Rattle.store_update.specs.Touched.{AreTouched, is_changed}

@@ -2,15 +2,15 @@
 use Rattle.std.proofs.Common.{◌≡◌, ℕ, ◌+◌, ◌<◌, ◌≤◌, List, [], ◌∷◌, ◌++◌, take, drop, length, length-drop, Option, None, Some, String, Global, sym, ap, subst, ◌∙◌, arith}
 use Rattle.std.proofs.lemmas.List.{length-map, map-append}
 use Rattle.std.specs.declared.rc.Rc.{Rc}
-use Rattle.store_record.specs.Keys.{Text}
-use Rattle.store_model.specs.Entries.{apply, fold_entries}
-use Rattle.store_model.specs.Records.{Records}
-use Rattle.store_model.specs.declared.entry.Entry.{Entry}
+use Rattle.store_update.specs.store_record.Keys.{Text}
+use Rattle.store_update.specs.store_model.Entries.{apply, fold_entries}
+use Rattle.store_update.specs.store_model.Records.{Records}
+use Rattle.store_update.specs.store_model.declared.entry.Entry.{Entry}
 use Rattle.store_update.specs.declared.entry.Changed.{Changed}
 use Rattle.store_layers.proofs.Removed.{removed}
 use Rattle.store_layers.proofs.Rebuilt.{kept_length, shown-length, shown-take}
 use Rattle.store_layers.proofs.Steps.{layers_length}
-use Rattle.store_layers.proofs.Versions.{fold-append, newest_is, versions-append, versions-length, versions-take}
+use Rattle.store_layers.proofs.VersionSteps.{fold-append, newest_is, versions-append, versions-length, versions-take}
 use Rattle.store_layers.specs.Drafts.{left_of}
 use Rattle.store_layers.specs.Layered.{Layer, Layered, begun, entries_of, view_of}
 use Rattle.store_layers.specs.Versions.{AreVersions, all_but, layer_of, layers_of, newest, shown}

@@ -6,4 +6,4 @@ pub mod Rebuilt
 pub mod Removed
 pub mod Steps
 pub mod Swept
-pub mod Versions
+pub mod VersionSteps

@@ -5,8 +5,8 @@ use Rattle.std.proofs.lemmas.List.Quantifiers.{position-Some}
 use Rattle.std.specs.List.{AllZip, position, position_or_len}
 use Rattle.std.specs.Map.{keys_of, lookup}
 use Rattle.std.specs.declared.rc.Rc.{Rc}
-use Rattle.store_record.specs.Keys.{Text}
-use Rattle.store_model.specs.declared.entry.Entry.{Entry}
+use Rattle.store_update.specs.store_record.Keys.{Text}
+use Rattle.store_update.specs.store_model.declared.entry.Entry.{Entry}
 use Rattle.store_layers.specs.Layered.{below, from_on, above, without, is_live}
 use Rattle.store_layers.specs.Versions.{layer_of, layers_of, IsPlaceOf}
 

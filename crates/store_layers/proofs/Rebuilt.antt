@@ -2,16 +2,16 @@
 use Rattle.std.proofs.Common.{◌≡◌, ℕ, suc, ◌+◌, ◌-◌, Bool, true, false, ◌||◌, List, [], ◌∷◌, ◌++◌, take, drop, length, length-drop, String, Global, refl, sym, ap, ◌∙◌, subst, arith}
 use Rattle.std.proofs.lemmas.List.{take_all, take-map, drop-map}
 use Rattle.std.specs.declared.rc.Rc.{Rc}
-use Rattle.gql_plain.specs.Order.{has_text}
-use Rattle.store_record.specs.Keys.{Text}
-use Rattle.store_model.specs.Entries.{apply, fold_entries, weight}
-use Rattle.store_model.specs.Records.{Records}
-use Rattle.store_model.specs.declared.entry.Entry.{Entry}
+use Rattle.store_update.specs.gql_plain.Order.{has_text}
+use Rattle.store_update.specs.store_record.Keys.{Text}
+use Rattle.store_update.specs.store_model.Entries.{apply, fold_entries, weight}
+use Rattle.store_update.specs.store_model.Records.{Records}
+use Rattle.store_update.specs.store_model.declared.entry.Entry.{Entry}
 use Rattle.store_update.specs.Touched.{AreTouched, is_changed}
 use Rattle.store_update.specs.declared.entry.Changed.{Changed}
 use Rattle.store_layers.proofs.Changes.{touched_is, noted_is, changed_are}
 use Rattle.store_layers.proofs.Steps.{layers_length}
-use Rattle.store_layers.proofs.Versions.{versions-drop, versions-length, weights-append}
+use Rattle.store_layers.proofs.VersionSteps.{versions-drop, versions-length, weights-append}
 use Rattle.store_layers.specs.Changed.{AreChanged, is_changed_by}
 use Rattle.store_layers.specs.Layered.{entries_of}
 use Rattle.store_layers.specs.Versions.{Version, AreVersions, is_noted, shown, layers_of, entries_within, all_but}

@@ -3,8 +3,8 @@ use Rattle.std.proofs.Common.{◌≡◌, ℕ, suc, ◌+◌, List, ◌++◌, map,
 use Rattle.std.proofs.lemmas.List.{map-append, take-map, drop-map}
 use Rattle.std.specs.List.{remove}
 use Rattle.std.specs.declared.rc.Rc.{Rc}
-use Rattle.store_record.specs.Keys.{Text}
-use Rattle.store_model.specs.declared.entry.Entry.{Entry}
+use Rattle.store_update.specs.store_record.Keys.{Text}
+use Rattle.store_update.specs.store_model.declared.entry.Entry.{Entry}
 use Rattle.store_layers.specs.Layered.{Layer, entries_of, below, from_on, above, without}
 use Rattle.store_layers.specs.Versions.{layer_of, layers_of, all_but, IsPlaceOf}
 

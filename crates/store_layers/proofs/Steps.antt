@@ -4,11 +4,11 @@ use Rattle.std.proofs.lemmas.List.Edits.{between_more}
 use Rattle.std.specs.List.{slice_get}
 use Rattle.std.specs.Map.{values_of}
 use Rattle.std.specs.declared.rc.Rc.{Rc}
-use Rattle.gql_plain.specs.Counted.{next_count}
-use Rattle.store_model.specs.Entries.{apply, fold_entries, weight}
-use Rattle.store_model.specs.Records.{Records}
-use Rattle.store_model.specs.declared.entry.Entry.{Entry}
-use Rattle.store_layers.proofs.Versions.{fold-append, weights-append}
+use Rattle.store_update.specs.gql_plain.Counted.{next_count}
+use Rattle.store_update.specs.store_model.Entries.{apply, fold_entries, weight}
+use Rattle.store_update.specs.store_model.Records.{Records}
+use Rattle.store_update.specs.store_model.declared.entry.Entry.{Entry}
+use Rattle.store_layers.proofs.VersionSteps.{fold-append, weights-append}
 use Rattle.store_layers.specs.Layered.{entries_of}
 use Rattle.store_layers.specs.Versions.{layers_of, entries_within}
 use Rattle.store_layers.specs.Work.{weights}

@@ -11,11 +11,11 @@ use Rattle.std.specs.FinMap.Entries.{is_sorted, below_all}
 use Rattle.std.specs.List.{AllByRecursion, filter, list_any}
 use Rattle.std.specs.List.Sorted.{IsStrictlySortedBy}
 use Rattle.std.specs.Ordering.{eq_by_cmp}
-use Rattle.gql_plain.specs.Order.{AreInOrder, has_text}
-use Rattle.store_record.specs.Keys.{Text}
-use Rattle.store_record.specs.declared.record.Slot.{Slot}
-use Rattle.store_model.specs.Records.{Records, slot_at}
-use Rattle.store_model.specs.Sweeps.{sweep, dropped}
+use Rattle.store_update.specs.gql_plain.Order.{AreInOrder, has_text}
+use Rattle.store_update.specs.store_record.Keys.{Text}
+use Rattle.store_update.specs.store_record.declared.record.Slot.{Slot}
+use Rattle.store_update.specs.store_model.Records.{Records, slot_at}
+use Rattle.store_update.specs.store_model.Sweeps.{sweep, dropped}
 use Rattle.store_layers.specs.Layered.{Layered, Layer, swept}
 
 abbrev order : Text → Text → Ordering

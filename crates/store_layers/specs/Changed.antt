@@ -1,10 +1,10 @@
 -- The ids that a call of the layers gives.
 use Rattle.std.specs.Prelude.{◌≡◌, List, [], ◌∷◌, Bool, true, false, ◌||◌}
-use Rattle.gql_plain.specs.Order.{has_text}
-use Rattle.store_record.specs.Keys.{Text}
-use Rattle.store_model.specs.Entries.{apply, fold_entries}
-use Rattle.store_model.specs.Records.{Records, slot_at}
-use Rattle.store_model.specs.declared.entry.Entry.{Entry}
+use Rattle.store_update.specs.gql_plain.Order.{has_text}
+use Rattle.store_update.specs.store_record.Keys.{Text}
+use Rattle.store_update.specs.store_model.Entries.{apply, fold_entries}
+use Rattle.store_update.specs.store_model.Records.{Records, slot_at}
+use Rattle.store_update.specs.store_model.declared.entry.Entry.{Entry}
 use Rattle.store_update.specs.Touched.{is_changed}
 
 -- whether one of the entries changes the slot of an id, each on the records that those before it leave

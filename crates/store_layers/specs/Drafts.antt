@@ -1,8 +1,8 @@
 -- Changes of the layers that are built aside, and what is there once they are settled.
 use Rattle.std.specs.Prelude.{◌≡◌, ℕ, ◌+◌, ◌<◌, List, ◌++◌, Option, None, Some, take, drop, length, false}
-use Rattle.store_model.specs.Entries.{apply, fold_entries}
-use Rattle.store_model.specs.Records.{Records}
-use Rattle.store_model.specs.declared.entry.Entry.{Entry}
+use Rattle.store_update.specs.store_model.Entries.{apply, fold_entries}
+use Rattle.store_update.specs.store_model.Records.{Records}
+use Rattle.store_update.specs.store_model.declared.entry.Entry.{Entry}
 use Rattle.store_update.specs.Touched.{AreTouched}
 use Rattle.store_layers.specs.Layered.{Layered, begun, entries_of, is_live, view_of}
 use Rattle.store_layers.specs.Versions.{AreVersions, all_but, shown}

@@ -1,12 +1,12 @@
 -- A base of records with layers over it, and what the calls make of them (this project's own).
 use Rattle.std.specs.Prelude.{List, [], ◌∷◌, ◌++◌, map, Bool, cond, bytes_eq}
 use Rattle.std.specs.List.{list_any}
-use Rattle.gql_plain.specs.Order.{has_text}
-use Rattle.store_record.specs.Keys.{Text}
-use Rattle.store_model.specs.Entries.{apply, fold_entries}
-use Rattle.store_model.specs.Records.{Records}
-use Rattle.store_model.specs.Sweeps.{sweep}
-use Rattle.store_model.specs.declared.entry.Entry.{Entry}
+use Rattle.store_update.specs.gql_plain.Order.{has_text}
+use Rattle.store_update.specs.store_record.Keys.{Text}
+use Rattle.store_update.specs.store_model.Entries.{apply, fold_entries}
+use Rattle.store_update.specs.store_model.Records.{Records}
+use Rattle.store_update.specs.store_model.Sweeps.{sweep}
+use Rattle.store_update.specs.store_model.declared.entry.Entry.{Entry}
 
 -- the name of a layer, and its entry
 abbrev pub Layer : Type 0

@@ -1,9 +1,9 @@
 -- The code of layers.
 use Rattle.std.specs.Prelude.{List, refl}
 use Rattle.std.specs.Coded.{Coded, code_by, coded×, coded_list, coded_ℕ}
-use Rattle.store_model.specs.Records.{Records}
-use Rattle.store_model.specs.contracts.entry.Entry as entry
-use Rattle.store_source.specs.Records.{coded_records}
+use Rattle.store_update.specs.store_model.Records.{Records}
+use Rattle.store_update.specs.store_model.contracts.entry.Entry as entry
+use Rattle.store_update.specs.store_source.Records.{coded_records}
 use Rattle.store_layers.specs.Layered.{Layered, Layer}
 
 abbrev pub layered_code : Coded Layered

@@ -1,3 +1,4 @@
+pub use Rattle.store_update.specs.store_model
 pub mod Changed
 pub mod Drafts
 pub mod Layered

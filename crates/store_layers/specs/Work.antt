@@ -1,9 +1,9 @@
 -- The work of a call of the layers.
 use Rattle.std.specs.Prelude.{ℕ, zero, suc, ◌+◌, List, [], ◌∷◌}
-use Rattle.gql_plain.specs.Counted.{next_count}
-use Rattle.store_model.specs.Entries.{apply, weight}
-use Rattle.store_model.specs.Records.{Records}
-use Rattle.store_model.specs.declared.entry.Entry.{Entry}
+use Rattle.store_update.specs.gql_plain.Counted.{next_count}
+use Rattle.store_update.specs.store_model.Entries.{apply, weight}
+use Rattle.store_update.specs.store_model.Records.{Records}
+use Rattle.store_update.specs.store_model.declared.entry.Entry.{Entry}
 
 -- a count that rises so many times by one
 abbrev pub counted : ℕ → ℕ → ℕ

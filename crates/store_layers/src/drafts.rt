@@ -1,9 +1,9 @@
 //! Changes of the layers that are built aside.
 
-use gql_plain::{Ids, Words};
-use store_model::Entry;
-use store_source::RecordSource;
 use store_update::Changed;
+use store_update::gql_plain::{Ids, Words};
+use store_update::store_model::Entry;
+use store_update::store_source::RecordSource;
 
 /// What a call of the layers changes, built aside: nothing is in place before `Layers::settle`. It is
 /// of the layers that it was drafted from, and may be dropped instead.

@@ -1,18 +1,18 @@
 //! Versions of the records, one after another.
 ghost use Rattle.std.specs.Prelude.{◌≡◌, ◌+◌, ◌*◌, ◌-◌, ◌≤◌, ◌++◌, [], ◌∷◌, length, List, IfOk, OnOk};
-ghost use Rattle.gql_plain.specs.Counted.{next_count};
+ghost use Rattle.store_update.specs.gql_plain.Counted.{next_count};
 ghost use Rattle.indexmap.specs.IndexMap.{index_map_len};
-ghost use Rattle.store_model.specs.Entries.{weight, fold_entries};
-ghost use Rattle.store_model.specs.declared.entry.Entry as E;
+ghost use Rattle.store_update.specs.store_model.Entries.{weight, fold_entries};
+ghost use Rattle.store_update.specs.store_model.declared.entry.Entry as E;
 ghost use Rattle.store_layers.specs.Versions.{shown, newest, AreVersions, entries_within};
 ghost use Rattle.store_layers.specs.Work.{counted, weights};
 
-use gql_plain::NoMemory;
 use indexmap::IndexMap;
 use std::alloc::Global;
 use std::rc::Rc;
-use store_model::Entry;
-use store_source::RecordSource;
+use store_update::gql_plain::NoMemory;
+use store_update::store_model::Entry;
+use store_update::store_source::RecordSource;
 use store_update::{Changed, apply};
 
 /// The entries of the live layers by name, in order of start.

@@ -1,12 +1,12 @@
 //! The ids that versions change.
 ghost use Rattle.std.specs.Prelude.{◌≡◌, ◌||◌, ◌++◌, List, ℕ, IfOk, OnOk};
-ghost use Rattle.gql_plain.specs.Order.{has_text};
+ghost use Rattle.store_update.specs.gql_plain.Order.{has_text};
 ghost use Rattle.store_layers.specs.Versions.{shown, touched_by, is_noted};
 
-use gql_plain::{Id, Ids, NoMemory};
 use std::alloc::Global;
-use store_source::RecordSource;
 use store_update::Changed;
+use store_update::gql_plain::{Id, Ids, NoMemory};
+use store_update::store_source::RecordSource;
 
 /// The ids that an entry changes, and those that versions change before and after, in byte order. Where no version is
 /// live, the list itself is shared.

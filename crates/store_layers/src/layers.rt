@@ -1,10 +1,10 @@
 //! The layers.
 ghost use Rattle.std.specs.Prelude.{◌≡◌, ◌+◌, ◌*◌, ◌≤◌, ◌++◌, [], ◌∷◌, true, false, length, IfOk, OnOk, OnErr};
-ghost use Rattle.gql_plain.specs.Counted.{next_count};
-ghost use Rattle.gql_plain.specs.Order.{has_text};
-ghost use Rattle.store_model.specs.Entries.{weight, fold_entries};
-ghost use Rattle.store_model.specs.Records.{no_records};
-ghost use Rattle.store_model.specs.Sweeps.{dropped};
+ghost use Rattle.store_update.specs.gql_plain.Counted.{next_count};
+ghost use Rattle.store_update.specs.gql_plain.Order.{has_text};
+ghost use Rattle.store_update.specs.store_model.Entries.{weight, fold_entries};
+ghost use Rattle.store_update.specs.store_model.Records.{no_records};
+ghost use Rattle.store_update.specs.store_model.Sweeps.{dropped};
 ghost use Rattle.store_layers.specs.Changed.{AreChanged};
 ghost use Rattle.store_layers.specs.Drafts.{Fits, placed};
 ghost use Rattle.store_layers.specs.Layered as spec;
@@ -16,13 +16,13 @@ use crate::fold::{Entries, copy_versions, newest};
 use crate::names::{copy_entries, count_of, is_named, place_of, put_layer, take_off, take_out};
 use crate::rebuild::{begin, confirm, finish, revert};
 use crate::sweep::{ids_to_drop, without_ids};
-use gql_plain::{Ids, NoMemory, Words};
 use indexmap::IndexMap;
 use std::alloc::Global;
 use std::marker::Model;
-use store_model::Entry;
-use store_source::RecordSource;
 use store_update::Changed;
+use store_update::gql_plain::{Ids, NoMemory, Words};
+use store_update::store_model::Entry;
+use store_update::store_source::RecordSource;
 
 /// What is confirmed, and over it the live layers, each by its name, in order of start. Seen as the
 /// records of the base, and the names and entries of the layers.

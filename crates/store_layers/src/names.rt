@@ -5,11 +5,11 @@ ghost use Rattle.store_layers.specs.Layered.{is_live};
 ghost use Rattle.store_layers.specs.Versions.{all_but, layers_of, IsPlaceOf};
 
 use crate::fold::Entries;
-use gql_plain::{NoMemory, Words};
 use std::rc::Rc;
-use store_model::Entry;
-use store_source::RecordSource;
 use store_update::Changed;
+use store_update::gql_plain::{NoMemory, Words};
+use store_update::store_model::Entry;
+use store_update::store_source::RecordSource;
 
 /// Whether a layer has the name; takes no memory.
 pub(crate) fn is_named(entries: &Entries, name: &str) -> bool

@@ -1,8 +1,8 @@
 //! What a call of the layers changes, built aside.
 ghost use Rattle.std.specs.Prelude.{◌≡◌, ◌+◌, ◌*◌, ◌-◌, ◌<◌, ◌≤◌, ◌++◌, [], ◌∷◌, false, take, drop, length, IfOk, OnOk};
-ghost use Rattle.gql_plain.specs.Counted.{next_count};
+ghost use Rattle.store_update.specs.gql_plain.Counted.{next_count};
 ghost use Rattle.indexmap.specs.IndexMap.{index_map_len};
-ghost use Rattle.store_model.specs.Entries.{weight, fold_entries};
+ghost use Rattle.store_update.specs.store_model.Entries.{weight, fold_entries};
 ghost use Rattle.store_layers.specs.Changed.{AreChanged};
 ghost use Rattle.store_layers.specs.Drafts.{Fits, placed, finished_at, reverted_at};
 ghost use Rattle.store_layers.specs.Layered.{begun, committed, entries_of, is_live, view_of};
@@ -12,10 +12,10 @@ ghost use Rattle.store_layers.specs.Work.{counted, weights};
 use crate::drafts::{Draft, Placing};
 use crate::fold::{Entries, newest, put_versions};
 use crate::ids::{ids_changed, ids_confirmed};
-use gql_plain::{NoMemory, Words};
 use std::alloc::Global;
-use store_model::Entry;
-use store_source::RecordSource;
+use store_update::gql_plain::{NoMemory, Words};
+use store_update::store_model::Entry;
+use store_update::store_source::RecordSource;
 use store_update::{Changed, apply};
 
 /// Starts a layer above all others.

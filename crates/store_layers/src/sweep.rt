@@ -1,12 +1,12 @@
 //! Which ids a sweep takes out of the records, and what it leaves.
 ghost use Rattle.std.specs.Prelude.{◌≡◌, ◌++◌, [], ◌∷◌, not, IfOk, OnOk};
 ghost use Rattle.std.specs.List.{filter};
-ghost use Rattle.gql_plain.specs.Order.{has_text};
-ghost use Rattle.store_model.specs.Sweeps.{sweep, dropped};
+ghost use Rattle.store_update.specs.gql_plain.Order.{has_text};
+ghost use Rattle.store_update.specs.store_model.Sweeps.{sweep, dropped};
 
-use gql_plain::{Id, Ids, NoMemory};
 use std::alloc::Global;
-use store_source::RecordSource;
+use store_update::gql_plain::{Id, Ids, NoMemory};
+use store_update::store_source::RecordSource;
 
 /// The ids of the records that are not kept, in byte order.
 pub(crate) fn ids_to_drop<S: RecordSource>(

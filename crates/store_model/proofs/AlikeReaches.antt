@@ -3,7 +3,7 @@ use Rattle.std.proofs.Common.{◌≡◌, ◌↔◌, ℕ, zero, suc, ◌≤◌, B
 use Rattle.std.specs.List.{AllByRecursion, AllZip}
 use Rattle.store_model.proofs.Flips.{Flip, of_among, keeps_flip}
 use Rattle.store_record.specs.Keys.{Text}
-use Rattle.gql_plain.specs.Order.{has_text}
+use Rattle.store_record.specs.gql_plain.Order.{has_text}
 use Rattle.store_model.specs.Alike.{Among, Related, AlikeGroup, AlikeAt, Keeps}
 use Rattle.store_model.specs.Items.{Ask, Group, asks, parts, Collect, groups_at}
 use Rattle.store_model.specs.Reaches.{Onward, types_of, links_followed, from_each, reach_asked, reach_groups, reach_stand, reach_at}

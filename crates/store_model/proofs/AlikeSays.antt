@@ -3,11 +3,11 @@ use Rattle.std.proofs.Common.{◌≡◌, ℕ, ◌+◌, Bool, true, false, true�
 use Rattle.std.proofs.lemmas.Slice.Eq.{bytes_eq-Decides}
 use Rattle.std.specs.List.{AllByRecursion, AllZip}
 use Rattle.std.specs.Map.{lookup}
-use Rattle.gql_plain.proofs.SortedTexts.{same_texts, AreInOrder-sorted_texts, has_text-sorted_texts}
+use Rattle.store_record.proofs.gql_plain_laws.SortedTexts.{same_texts, AreInOrder-sorted_texts, has_text-sorted_texts}
 use Rattle.serde_json.specs.Data as J
 use Rattle.serde_json.specs.Find.{get_member, as_str}
-use Rattle.gql_plain.specs.Order.{has_text, sorted_texts}
-use Rattle.gql_plain.specs.declared.plain.Plain.TheVariants.{Text as Words}
+use Rattle.store_record.specs.gql_plain.Order.{has_text, sorted_texts}
+use Rattle.store_record.specs.gql_plain.declared.plain.Plain.TheVariants.{Text as Words}
 use Rattle.store_record.specs.Keys.{Text, client_id, root}
 use Rattle.store_record.specs.declared.field.Field.TheVariants.{Leaf}
 use Rattle.store_model.specs.Records.{typename as typename_key}

@@ -3,7 +3,7 @@ use Rattle.std.proofs.Common.{◌≡◌, ℕ, Bool, true, false, ◌&&◌, cond,
 use Rattle.std.specs.Cmp.Lexicographic.{slice_cmp, nat_list_cmp_total}
 use Rattle.std.specs.FinMap as finmap
 use Rattle.std.specs.Ordering.{eq_by_cmp, nat_cmp}
-use Rattle.gql_plain.specs.declared.plain.Plain.{Plain}
+use Rattle.store_record.specs.gql_plain.declared.plain.Plain.{Plain}
 use Rattle.store_record.specs.Keys.{Text, client_id, field_key, handle_name}
 use Rattle.store_record.specs.declared.field.Field.{Field}
 use Rattle.store_record.specs.declared.field.Field.TheVariants.{Leaf, Link, Links}

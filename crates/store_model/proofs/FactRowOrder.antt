@@ -5,8 +5,8 @@ use Rattle.std.specs.List.{AllByRecursion}
 use Rattle.std.specs.List.Sorted.{IsStrictlySortedBy}
 use Rattle.std.specs.Map.{keys_of}
 use Rattle.std.specs.Ordering.{ordering_then}
-use Rattle.gql_plain.specs.Order.{AreInOrder}
-use Rattle.gql_plain.specs.declared.plain.Plain.TheVariants.{Text as Words}
+use Rattle.store_record.specs.gql_plain.Order.{AreInOrder}
+use Rattle.store_record.specs.gql_plain.declared.plain.Plain.TheVariants.{Text as Words}
 use Rattle.store_record.proofs.Puts.{AreInOrder-put}
 use Rattle.store_record.specs.Keys.{Text}
 use Rattle.store_record.specs.declared.field.Field.{Field}

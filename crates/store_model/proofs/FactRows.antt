@@ -8,8 +8,8 @@ use Rattle.std.specs.List.{AllByRecursion}
 use Rattle.std.specs.Ordering.{eq_by_cmp}
 use Rattle.std.proofs.lemmas.Slice.Eq.{bytes_eq-Decides}
 use Rattle.std.specs.Bool.{Decides}
-use Rattle.gql_plain.specs.Order.{member_at}
-use Rattle.gql_plain.specs.declared.plain.Plain.TheVariants.{Text as Words}
+use Rattle.store_record.specs.gql_plain.Order.{member_at}
+use Rattle.store_record.specs.gql_plain.declared.plain.Plain.TheVariants.{Text as Words}
 use Rattle.store_record.specs.Keys.{Text}
 use Rattle.store_record.specs.declared.field.Field.{Field}
 use Rattle.store_record.specs.declared.field.Field.TheVariants.{Leaf}

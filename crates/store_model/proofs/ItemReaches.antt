@@ -1,7 +1,7 @@
 -- Parts that collect alike items, one by one, reach the same ids in the same order.
 use Rattle.std.proofs.Common.{◌≡◌, ℕ, zero, suc, ◌≤◌, List, [], ◌∷◌, ◌++◌, cond, map, refl, ap, ◌∙◌, arith}
 use Rattle.std.specs.List.{AllZip}
-use Rattle.gql_plain.specs.Order.{has_text}
+use Rattle.store_record.specs.gql_plain.Order.{has_text}
 use Rattle.store_record.specs.Keys.{Text}
 use Rattle.store_model.proofs.ItemReads.{all_alike, GivesItems}
 use Rattle.store_model.proofs.SameItems.{AlikeAsked, AlikeItem, Fieldwise, grouped_alike, parts_alike}

@@ -2,7 +2,7 @@
 use Rattle.std.proofs.Common.{◌≡◌, ℕ, zero, suc, ◌≤◌, Bool, true, false, true≢false, cond, ◌||◌, List, [], ◌∷◌, ◌++◌, length, refl, sym, ap, subst, ◌∙◌, arith, bytes_eq}
 use Rattle.std.proofs.lemmas.Slice.Eq.{bytes_eq-Decides}
 use Rattle.std.specs.List.{AllByRecursion}
-use Rattle.gql_plain.specs.Order.{has_text}
+use Rattle.store_record.specs.gql_plain.Order.{has_text}
 use Rattle.store_record.specs.Keys.{Text}
 use Rattle.store_model.specs.Leads.{Live, Picked, none, picked, beside, pick, of_picked, grow}
 

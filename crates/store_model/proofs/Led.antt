@@ -6,7 +6,7 @@ use Rattle.std.specs.Cmp.Lexicographic.{slice_cmp, nat_list_cmp_total}
 use Rattle.std.specs.FinMap as map
 use Rattle.std.specs.FinMap.Entries.{find, is_sorted, below_all}
 use Rattle.std.specs.Ordering.{eq_by_cmp, ordering_reverse}
-use Rattle.gql_plain.specs.Order.{has_text}
+use Rattle.store_record.specs.gql_plain.Order.{has_text}
 use Rattle.store_record.specs.Keys.{Text}
 use Rattle.store_record.specs.declared.record.Record.{Record}
 use Rattle.store_record.specs.declared.record.Slot.{Slot}

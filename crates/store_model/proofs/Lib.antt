@@ -1,3 +1,4 @@
+pub use Rattle.store_record.proofs.gql_plain_laws
 pub mod Least
 pub mod Led
 pub mod Retained

@@ -1,7 +1,7 @@
 -- The laws of likeness for the widest relation.
 use Rattle.std.proofs.Common.{◌≡◌, ℕ, zero, suc, Bool, true, false, true≢false, ◌∷◌, sym, refl, ◌∙◌, arith}
-use Rattle.gql_plain.proofs.Booleans.{both_ways}
-use Rattle.gql_plain.specs.Order.{has_text}
+use Rattle.store_record.proofs.gql_plain_laws.Booleans.{both_ways}
+use Rattle.store_record.specs.gql_plain.Order.{has_text}
 use Rattle.store_record.specs.Keys.{Text}
 use Rattle.store_model.proofs.AlikeReaches.{reach_same}
 use Rattle.store_model.proofs.AlikeSays.{response_alike}

@@ -2,8 +2,8 @@
 use Rattle.std.proofs.Common.{◌≡◌, refl, ℕ, zero, suc, List, [], ◌∷◌, Some, None, codes, true, false}
 use Rattle.std.specs.Fmt.{digits}
 use Rattle.std.specs.Prelude.{pos}
-use Rattle.gql_plain.specs.Tree.{text, whole}
-use Rattle.gql_plain.specs.declared.plain.Plain.TheVariants.{Null, Int, Text as Words}
+use Rattle.store_record.specs.gql_plain.Tree.{text, whole}
+use Rattle.store_record.specs.gql_plain.declared.plain.Plain.TheVariants.{Null, Int, Text as Words}
 use Rattle.serde_json.proofs.OnLiterals.{serde_json_on_literals}
 use Rattle.serde_json.specs.Data.{unsigned, Data, null as nothing, number, string, array, object, no_items, item, Members, no_members, member}
 use Rattle.store_record.specs.Keys.{Text, root}

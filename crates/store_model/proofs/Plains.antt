@@ -1,10 +1,10 @@
 -- Plain values and their trees.
 use Rattle.std.proofs.Common.{◌≡◌, ℕ, true, List, [], ◌∷◌, Some, ap, ◌∙◌, sym, refl}
-use Rattle.gql_plain.specs.FromJson.{is_whole, plain_tree}
-use Rattle.gql_plain.specs.Shown.{tree_of}
-use Rattle.gql_plain.specs.Tree.{Tree, trees_of, members_of}
-use Rattle.gql_plain.specs.declared.plain.Plain.{Plain}
-use Rattle.gql_plain.specs.declared.plain.Plain.TheVariants as P
+use Rattle.store_record.specs.gql_plain.FromJson.{is_whole, plain_tree}
+use Rattle.store_record.specs.gql_plain.Shown.{tree_of}
+use Rattle.store_record.specs.gql_plain.Tree.{Tree, trees_of, members_of}
+use Rattle.store_record.specs.gql_plain.declared.plain.Plain.{Plain}
+use Rattle.store_record.specs.gql_plain.declared.plain.Plain.TheVariants as P
 use Rattle.serde_json.specs.Data as J
 use Rattle.store_model.specs.Events.{plain_of_tree, plain_of_data, where_true, tree_list, pairs_list}
 

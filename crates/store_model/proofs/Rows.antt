@@ -4,9 +4,9 @@ use Rattle.std.specs.Prelude.{pos, negsuc, option_and_then}
 use Rattle.std.specs.Fmt.{digits}
 use Rattle.std.specs.FinMap.{gets}
 use Rattle.serde_json.proofs.OnLiterals.{serde_json_on_literals}
-use Rattle.gql_plain.specs.declared.plain.Plain.{Plain}
-use Rattle.gql_plain.specs.declared.plain.Plain.TheVariants.{Null, Bool as Truth, Int, Text as Words}
-use Rattle.gql_plain.specs.Tree.{Tree, null, whole}
+use Rattle.store_record.specs.gql_plain.declared.plain.Plain.{Plain}
+use Rattle.store_record.specs.gql_plain.declared.plain.Plain.TheVariants.{Null, Bool as Truth, Int, Text as Words}
+use Rattle.store_record.specs.gql_plain.Tree.{Tree, null, whole}
 use Rattle.store_record.specs.Keys.{Text, handle_key, field_key, client_id}
 use Rattle.store_record.specs.declared.field.Field.{Field}
 use Rattle.store_record.specs.declared.field.Field.TheVariants.{Leaf, Link, Links}

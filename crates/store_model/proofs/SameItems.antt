@@ -2,7 +2,7 @@
 use Rattle.std.proofs.Common.{◌≡◌, Bool, true, false, cond, List, [], ◌∷◌, ◌++◌, map, sym, subst, bytes_eq, inl, inr}
 use Rattle.std.specs.List.{AllByRecursion, AllZip}
 use Rattle.store_record.specs.Keys.{Text}
-use Rattle.gql_plain.specs.Order.{has_text}
+use Rattle.store_record.specs.gql_plain.Order.{has_text}
 use Rattle.store_model.specs.Alike.{Among, AlikeGroup, AlikePointer, Keeps}
 use Rattle.store_model.specs.Items.{Asked, Pointer, Item, asked, pointed, Group, members, parts, asks, asked_of, with_asked, grouped_onto, groups_of, without, pointers, Collect, collect_all, groups_at, pointers_on}
 use Rattle.store_model.specs.Reaches.{types_of}

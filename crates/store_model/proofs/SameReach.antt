@@ -1,6 +1,6 @@
 -- Two maps with the same slots at the ids of a reach give the same reach.
 use Rattle.std.proofs.Common.{◌≡◌, ℕ, zero, suc, Bool, true, false, cond, List, [], ◌∷◌, ◌++◌, refl, sym, ap, ◌∙◌}
-use Rattle.gql_plain.specs.Order.{has_text}
+use Rattle.store_record.specs.gql_plain.Order.{has_text}
 use Rattle.store_record.specs.Keys.{Text}
 use Rattle.store_model.proofs.Least.{Each, each_left, each_right}
 use Rattle.store_model.specs.Items.{Ask, Group, asks, parts, Collect, groups_at}

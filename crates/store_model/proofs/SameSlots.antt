@@ -1,11 +1,11 @@
 -- A read looks at fields of ids that it stands at; so two maps with the same slots there give the same read.
 use Rattle.std.proofs.Common.{◌≡◌, ℕ, zero, suc, Bool, true, false, List, [], ◌∷◌, Option, Some, None, ap}
-use Rattle.gql_plain.specs.Order.{has_text}
+use Rattle.store_record.specs.gql_plain.Order.{has_text}
 use Rattle.store_record.specs.Keys.{Text}
 use Rattle.store_record.specs.declared.field.Field.{Field}
 use Rattle.store_record.specs.declared.field.Field.TheVariants.{Leaf, Link, Links}
-use Rattle.gql_plain.specs.declared.plain.Plain.{Plain}
-use Rattle.gql_plain.specs.declared.plain.Plain.TheVariants.{Null, Bool as Truth, Int, Text as Words, List as Listed, Tree as Object}
+use Rattle.store_record.specs.gql_plain.declared.plain.Plain.{Plain}
+use Rattle.store_record.specs.gql_plain.declared.plain.Plain.TheVariants.{Null, Bool as Truth, Int, Text as Words, List as Listed, Tree as Object}
 use Rattle.store_model.proofs.Least.{Each, each_append, each_left, each_right, each_so}
 use Rattle.store_model.proofs.SameRead.{read_same}
 use Rattle.store_model.specs.Agree.{AgreeAt, AgreeUnder}

@@ -6,7 +6,7 @@ use Rattle.store_model.specs.Alike.{Among}
 use Rattle.store_model.specs.Items.{Asked, Group, members, parts, asks, with_asked, grouped_onto}
 use Rattle.store_model.specs.Reaches.{types_of}
 use Rattle.store_record.specs.Keys.{Text}
-use Rattle.gql_plain.specs.Order.{has_text}
+use Rattle.store_record.specs.gql_plain.Order.{has_text}
 
 each_so : {X : Type 0} (P Q : X → Type 0) (xs : List X) → ((x : X) → P x → Q x) → AllByRecursion P xs → AllByRecursion Q xs
 each_so P Q [] f h = tt

@@ -1,8 +1,8 @@
 -- Worked rows of the walks, computed from the definitions.
 use Rattle.std.proofs.Common.{◌≡◌, refl, ℕ, zero, suc, List, [], ◌∷◌, Some, None, codes, cond, bytes_eq, true, false}
 use Rattle.std.specs.Prelude.{pos}
-use Rattle.gql_plain.specs.declared.plain.Plain.TheVariants.{Null, Int, Text as Words}
-use Rattle.gql_plain.specs.Tree.{null, text, whole, list, object, no_trees, tree, no_members, member}
+use Rattle.store_record.specs.gql_plain.declared.plain.Plain.TheVariants.{Null, Int, Text as Words}
+use Rattle.store_record.specs.gql_plain.Tree.{null, text, whole, list, object, no_trees, tree, no_members, member}
 use Rattle.store_record.specs.Keys.{Text, root}
 use Rattle.store_record.specs.declared.field.Field.{Field}
 use Rattle.store_record.specs.declared.field.Field.TheVariants.{Leaf, Link, Links}

@@ -2,7 +2,7 @@
 use Rattle.std.specs.Prelude.{◌≡◌, ℕ, zero, suc, true, List, [], ◌∷◌, ◌⊎◌}
 use Rattle.std.specs.List.{AllByRecursion, AllZip}
 use Rattle.store_record.specs.Keys.{Text}
-use Rattle.gql_plain.specs.Order.{has_text}
+use Rattle.store_record.specs.gql_plain.Order.{has_text}
 use Rattle.store_model.specs.Items.{Pointer, Group, asks, parts, Collect, groups_at, pointers_on}
 use Rattle.store_model.specs.Reaches.{types_of}
 

@@ -1,7 +1,7 @@
 -- Entries: applying one, the ids that it asks for, its weight, and the ids that it names; and folding entries
 -- over records.
 use Rattle.std.specs.Prelude.{ℕ, ◌+◌, List, [], ◌∷◌, ◌++◌, map, length, Bool, true, false, cond, codes, Option, Some, None}
-use Rattle.gql_plain.specs.Order.{has_text, sorted_texts}
+use Rattle.store_record.specs.gql_plain.Order.{has_text, sorted_texts}
 use Rattle.store_record.specs.Keys.{Text}
 use Rattle.store_record.specs.declared.field.Field.{Field}
 use Rattle.store_record.specs.declared.field.Field.TheVariants.{Leaf, Link, Links}

@@ -2,13 +2,13 @@
 use Rattle.std.specs.Prelude.{ℤ, List, [], ◌∷◌, length, Bool, true, false, not, ◌&&◌, ◌||◌, cond, codes, bytes_eq, nat_eq, nat_lt, nat_le, Option, Some, None, option_map, option_and_then, is_some}
 use Rattle.std.specs.List.{list_all, starts_with}
 use Rattle.std.specs.Str.{is_utf8}
-use Rattle.gql_plain.specs.Limits.{max_line}
-use Rattle.gql_plain.specs.Names.{is_name}
-use Rattle.gql_plain.specs.FromJson.{is_whole, plain_tree, members_are_whole, plain_members}
-use Rattle.gql_plain.specs.Order.{has_text}
-use Rattle.gql_plain.specs.Tree.{Tree, null, truth, whole, text, list, object, Trees, no_trees, tree, Members, no_members, member}
-use Rattle.gql_plain.specs.declared.plain.Plain.{Plain}
-use Rattle.gql_plain.specs.declared.plain.Plain.TheVariants as P
+use Rattle.store_record.specs.gql_plain.Limits.{max_line}
+use Rattle.store_record.specs.gql_plain.Names.{is_name}
+use Rattle.store_record.specs.gql_plain.FromJson.{is_whole, plain_tree, members_are_whole, plain_members}
+use Rattle.store_record.specs.gql_plain.Order.{has_text}
+use Rattle.store_record.specs.gql_plain.Tree.{Tree, null, truth, whole, text, list, object, Trees, no_trees, tree, Members, no_members, member}
+use Rattle.store_record.specs.gql_plain.declared.plain.Plain.{Plain}
+use Rattle.store_record.specs.gql_plain.declared.plain.Plain.TheVariants as P
 use Rattle.serde_json.specs.Data as J
 use Rattle.serde_json.specs.Find.{get_member, as_i64, as_str}
 use Rattle.serde_json.specs.Read.{read as read_text}

@@ -5,9 +5,9 @@ use Rattle.std.specs.List.{AllByRecursion}
 use Rattle.std.specs.List.Sorted.{IsStrictlySortedBy}
 use Rattle.std.specs.Map.{keys_of}
 use Rattle.std.specs.declared.cmp.Ordering.TheVariants.{Less}
-use Rattle.gql_plain.specs.Order.{AreInOrder, member_at}
-use Rattle.gql_plain.specs.declared.plain.Plain.TheVariants.{Text as Words}
-use Rattle.gql_plain.specs.Names.{is_name}
+use Rattle.store_record.specs.gql_plain.Order.{AreInOrder, member_at}
+use Rattle.store_record.specs.gql_plain.declared.plain.Plain.TheVariants.{Text as Words}
+use Rattle.store_record.specs.gql_plain.Names.{is_name}
 use Rattle.store_record.specs.Keys.{Text}
 use Rattle.store_record.specs.declared.field.Field.{Field}
 use Rattle.store_record.specs.declared.field.Field.TheVariants.{Leaf}

@@ -1,7 +1,7 @@
 -- The laws that the crates above stand on, for any two kinds of parts.
 use Rattle.std.specs.Prelude.{◌≡◌, ℕ, suc, ◌≤◌, Bool, true, false, List, ◌∷◌, []}
 use Rattle.std.specs.List.{AllByRecursion}
-use Rattle.gql_plain.specs.Order.{has_text}
+use Rattle.store_record.specs.gql_plain.Order.{has_text}
 use Rattle.serde_json.specs.Data as J
 use Rattle.store_record.specs.Keys.{Text}
 use Rattle.store_model.specs.Alike.{Alike}

@@ -2,7 +2,7 @@
 -- id in it every id that its record links to, with the page information of each.
 use Rattle.std.specs.Prelude.{◌≡◌, ℕ, zero, suc, Bool, IsTrue, Some, List, [], ◌∷◌, ◌++◌, length, cond}
 use Rattle.std.specs.FinMap as map
-use Rattle.gql_plain.specs.Order.{has_text}
+use Rattle.store_record.specs.gql_plain.Order.{has_text}
 use Rattle.store_record.specs.Keys.{Text}
 use Rattle.store_record.specs.declared.field.Field.{Field}
 use Rattle.store_record.specs.declared.record.Record.{Record}

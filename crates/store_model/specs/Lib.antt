@@ -1,3 +1,5 @@
+pub use Rattle.store_record.specs.gql_plain
+pub use Rattle.store_record.specs as store_record
 pub mod FactOrder
 pub mod FactRows
 pub mod Said

@@ -2,10 +2,10 @@
 -- is this project's own). All that is looked at is looked at in the records before the merge.
 use Rattle.std.specs.Prelude.{ℕ, ◌+◌, ◌-◌, ◌^◌, pos, negsuc, List, [], ◌∷◌, ◌++◌, Bool, true, false, ◌&&◌, ◌||◌, cond, codes, bytes_eq, min, Option, Some, None, option_map, option_and_then, unwrap_or}
 use Rattle.std.specs.List.{list_any}
-use Rattle.gql_plain.specs.Equal.{tree_eq}
-use Rattle.gql_plain.specs.Shown.{tree_of}
-use Rattle.gql_plain.specs.declared.plain.Plain.{Plain}
-use Rattle.gql_plain.specs.declared.plain.Plain.TheVariants.{Null, Bool as Truth, Int, Text as Words, List as Listed, Tree as Object}
+use Rattle.store_record.specs.gql_plain.Equal.{tree_eq}
+use Rattle.store_record.specs.gql_plain.Shown.{tree_of}
+use Rattle.store_record.specs.gql_plain.declared.plain.Plain.{Plain}
+use Rattle.store_record.specs.gql_plain.declared.plain.Plain.TheVariants.{Null, Bool as Truth, Int, Text as Words, List as Listed, Tree as Object}
 use Rattle.store_record.specs.Keys.{Text, client_id}
 use Rattle.store_record.specs.declared.field.Field.{Field}
 use Rattle.store_record.specs.declared.field.Field.TheVariants.{Leaf, Link, Links}

@@ -1,6 +1,6 @@
 -- Reach: the ids that a walk along all fields stands at.
 use Rattle.std.specs.Prelude.{ℕ, zero, suc, List, [], ◌∷◌, ◌++◌, cond, Option, Some, None}
-use Rattle.gql_plain.specs.Order.{has_text}
+use Rattle.store_record.specs.gql_plain.Order.{has_text}
 use Rattle.store_record.specs.Keys.{Text}
 use Rattle.store_record.specs.declared.field.Field.{Field}
 use Rattle.store_model.specs.Entries.{ids_in}

@@ -2,10 +2,10 @@
 -- where it stands. F is what stands below a field; the walk is a function of the response's own form.
 use Rattle.std.specs.Prelude.{ℕ, ◌+◌, Bool, true, false, not, ◌&&◌, List, [], ◌∷◌, ◌++◌, map, cond, codes, bytes_eq, Option, Some, None, option_and_then, unwrap_or}
 use Rattle.std.specs.Map.{lookup}
-use Rattle.gql_plain.specs.Order.{has_text, sorted_texts}
-use Rattle.gql_plain.specs.Tree.{null}
-use Rattle.gql_plain.specs.declared.plain.Plain.{Plain}
-use Rattle.gql_plain.specs.declared.plain.Plain.TheVariants.{Null, Text as Words}
+use Rattle.store_record.specs.gql_plain.Order.{has_text, sorted_texts}
+use Rattle.store_record.specs.gql_plain.Tree.{null}
+use Rattle.store_record.specs.gql_plain.declared.plain.Plain.{Plain}
+use Rattle.store_record.specs.gql_plain.declared.plain.Plain.TheVariants.{Null, Text as Words}
 use Rattle.serde_json.specs.Data as J
 use Rattle.serde_json.specs.Find.{get_member, as_str}
 use Rattle.store_record.specs.Keys.{Text, Arguments, client_id, is_generated, root}

@@ -1,9 +1,9 @@
 //! The update commands (this project's own).
 ghost use Rattle.std.specs.Prelude.{◌≡◌, ◌==◌, [], ◌∷◌, ◌++◌, length, IfOk, OnOk, OnErr};
 
-use gql_plain::{Id, Name, NoMemory, OptIds, Pairs, Plain, Words};
 use std::alloc::Global;
 use std::marker::Model;
+use store_record::gql_plain::{Id, Name, NoMemory, OptIds, Pairs, Plain, Words};
 
 /// An edge that is put into a connection, or the node whose edges are taken out of one. `key` and
 /// `filters` name the connection under the record `id`; where edges are taken out `edge_type` is empty

@@ -3,7 +3,7 @@ ghost use Rattle.std.specs.Prelude.{◌≡◌, IfOk};
 
 use crate::command::Commands;
 use crate::facts::Facts;
-use gql_plain::NoMemory;
+use store_record::gql_plain::NoMemory;
 
 /// What one event confirms, or a layer holds: what a payload says, and then the commands in order.
 #[derive(Drop)]

@@ -1,7 +1,7 @@
 //! The events of a script (this project's own).
 use crate::command::Commands;
-use gql_plain::{Id, Pairs, Words};
 use serde_json::Value;
+use store_record::gql_plain::{Id, Pairs, Words};
 
 /// A fragment that is read at a record, with the values of its local variables.
 #[derive(Drop)]

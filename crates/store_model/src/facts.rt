@@ -3,9 +3,9 @@ ghost use Rattle.std.specs.Prelude.{◌≡◌, ◌==◌, [], ◌∷◌, ◌++◌
 ghost use Rattle.store_model.specs.FactOrder.{IsHandleAfter};
 ghost use Rattle.store_model.specs.FactRows.{facts_of, facts_of_row, IsFactRow, AreFactRows, IsRowAfter};
 
-use gql_plain::{Id, Name, NoMemory, Plain, Words};
 use std::alloc::Global;
 use std::marker::Model;
+use store_record::gql_plain::{Id, Name, NoMemory, Plain, Words};
 use store_record::{Field, Fields};
 
 /// One field of one record.

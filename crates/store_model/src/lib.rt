@@ -17,3 +17,5 @@ pub use event::{Answer, Event, Part, Target};
 pub use facts::{Fact, FactList, FactRow, Facts, HandleFact, HandleFacts};
 pub use leads::leads_is_least;
 pub use payload_fault::{Cause, PathStep, PathSteps, PayloadFault};
+pub use store_record;
+pub use store_record::gql_plain;

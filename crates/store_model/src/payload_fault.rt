@@ -1,10 +1,10 @@
 //! Why a payload is refused.
 ghost use Rattle.std.specs.Prelude.{◌≡◌, ◌==◌, [], ◌∷◌, ◌++◌, length, OnOk, OnErr};
 
-use gql_plain::{Id, NoMemory, Words};
 use std::alloc::Global;
 use std::marker::Model;
 use store_record::Field;
+use store_record::gql_plain::{Id, NoMemory, Words};
 
 /// One step from a response into it.
 #[derive(Drop)]

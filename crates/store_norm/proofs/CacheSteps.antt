@@ -4,11 +4,11 @@ use Rattle.std.proofs.lemmas.List.{length-map, with_items_is}
 use Rattle.std.specs.List.{AllByRecursion}
 use Rattle.std.specs.Vec.{with_items}
 use Rattle.plan_ir.specs.NormalMeaning.{Plan, collect_plan}
-use Rattle.store_model.specs.Items.{Group, groups_at}
+use Rattle.plan_ir.specs.store_model.Items.{Group, groups_at}
 use Rattle.store_norm.specs.CacheView.{AreRight, IsRight, IsSame, IsTypeAt}
 use Rattle.store_norm.specs.Caching.{Caching, caches, parts_below, parts_of, plans_of}
 use Rattle.store_norm.specs.declared.cache.TypeGroups.{TypeGroups}
-use Rattle.store_record.specs.Keys.{Text}
+use Rattle.plan_ir.specs.store_record.Keys.{Text}
 
 pub type_within : (ts : List TypeGroups) (at : ℕ) (name : Text) → IsTypeAt ts at name → at < length ts
 type_within [] at name e = absurd e

@@ -2,15 +2,15 @@
 use Rattle.std.proofs.Common.{◌≡◌, ℕ, List, length, get_or, ap, ◌∙◌}
 use Rattle.plan_ir.specs.NormalMeaning.{Plan, collect_plan}
 use Rattle.serde_json.specs.Data as J
-use Rattle.store_model.specs.Items.{Below, groups_at}
-use Rattle.store_model.specs.Says.{Path, Report, both, put_at}
+use Rattle.plan_ir.specs.store_model.Items.{Below, groups_at}
+use Rattle.plan_ir.specs.store_model.Says.{Path, Report, both, put_at}
 use Rattle.store_norm.proofs.CacheSteps.{right_at, type_name}
 use Rattle.store_norm.proofs.Reports.{gathered_both}
 use Rattle.store_norm.specs.CacheView.{AreRight, IsTypeAt}
 use Rattle.store_norm.specs.Walk.{object_told}
 use Rattle.store_norm.specs.declared.cache.TypeGroups.{TypeGroups}
-use Rattle.store_record.specs.Keys.{Text}
-use Rattle.store_record.specs.declared.field.Field.{Field}
+use Rattle.plan_ir.specs.store_record.Keys.{Text}
+use Rattle.plan_ir.specs.store_record.declared.field.Field.{Field}
 use Rattle.store_report.proofs.Joins.{gathering_right}
 use Rattle.store_report.specs.Gathering.{Gathering, gathered_onto, with_value}
 

@@ -2,14 +2,14 @@
 use Rattle.std.proofs.Common.{◌≡◌, Bool, true, false, cond, List, [], ◌∷◌, refl}
 use Rattle.std.proofs.lemmas.Bool.{and_parts}
 use Rattle.std.specs.List.{AllByRecursion}
-use Rattle.gql_plain.specs.Names.{is_name}
+use Rattle.plan_ir.specs.gql_plain.Names.{is_name}
 use Rattle.plan_ir.specs.Normal as n
 use Rattle.plan_ir.specs.Normal.{Normal}
 use Rattle.plan_ir.specs.NormalMeaning.{Plan, guard_passes, object_form, below_step, collect_steps, are_names, is_field_name, is_formed}
-use Rattle.schema_types.specs.Environments.{Values}
-use Rattle.store_model.specs.Items.{Asked, Below, Form, typename, leaf, one, many, asked_of}
-use Rattle.store_model.specs.Reaches.{types_of}
-use Rattle.store_record.specs.Keys.{Text}
+use Rattle.plan_ir.specs.schema_types.Environments.{Values}
+use Rattle.plan_ir.specs.store_model.Items.{Asked, Below, Form, typename, leaf, one, many, asked_of}
+use Rattle.plan_ir.specs.store_model.Reaches.{types_of}
+use Rattle.plan_ir.specs.store_record.Keys.{Text}
 use Rattle.store_norm.proofs.EachReport.{asked_append}
 
 abbrev pub Formed : Plan → Type 0

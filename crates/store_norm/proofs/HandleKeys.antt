@@ -1,17 +1,17 @@
 -- The pages that a response gives stand under keys of connections.
 use Rattle.std.proofs.Common.{◌≡◌, true, List, [], ◌∷◌, ◌++◌, Option, Some, None, codes, nat_eq, unwrap_or, refl, sym, ◌∙◌}
 use Rattle.std.specs.List.{starts_with}
-use Rattle.gql_plain.proofs.SortedTexts.{has_text-sorted_texts}
-use Rattle.gql_plain.specs.Order.{sorted_texts}
+use Rattle.plan_ir.proofs.gql_plain_laws.SortedTexts.{has_text-sorted_texts}
+use Rattle.plan_ir.specs.gql_plain.Order.{sorted_texts}
 use Rattle.serde_json.specs.Data as J
-use Rattle.store_record.specs.Keys.{Text, Arguments, key_with, handle_name, without_nulls, connection_arguments}
-use Rattle.store_record.specs.declared.field.Field.{Field}
-use Rattle.store_model.proofs.Least.{Each, each_append, each_from, of_member}
-use Rattle.store_model.specs.Items.{Form, typename, leaf, one, many, Ask, Connection, Group, asks, parts, asked_of, Collect}
-use Rattle.store_model.specs.Reaches.{types_of}
-use Rattle.store_model.specs.Said.{HaveHandleKeys}
-use Rattle.store_model.specs.Says.{Path, Report, handles, pages_for, first_of, info_of, pages_of, field_says, form_says, response_says}
-use Rattle.store_model.specs.declared.facts.HandleFact.{HandleFact}
+use Rattle.plan_ir.specs.store_record.Keys.{Text, Arguments, key_with, handle_name, without_nulls, connection_arguments}
+use Rattle.plan_ir.specs.store_record.declared.field.Field.{Field}
+use Rattle.plan_ir.proofs.store_model_laws.Least.{Each, each_append, each_from, of_member}
+use Rattle.plan_ir.specs.store_model.Items.{Form, typename, leaf, one, many, Ask, Connection, Group, asks, parts, asked_of, Collect}
+use Rattle.plan_ir.specs.store_model.Reaches.{types_of}
+use Rattle.plan_ir.specs.store_model.Said.{HaveHandleKeys}
+use Rattle.plan_ir.specs.store_model.Says.{Path, Report, handles, pages_for, first_of, info_of, pages_of, field_says, form_says, response_says}
+use Rattle.plan_ir.specs.store_model.declared.facts.HandleFact.{HandleFact}
 use Rattle.store_norm.proofs.EachReport.{IsInvariant, response_holds}
 
 abbrev IsHandleKey : Text → Type 0

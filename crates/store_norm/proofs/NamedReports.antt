@@ -2,19 +2,19 @@
 use Rattle.std.proofs.Common.{◌≡◌, Bool, true, ◌&&◌, ◌||◌, List, [], ◌∷◌, ◌++◌, bytes_eq, refl, ap}
 use Rattle.std.proofs.lemmas.Slice.Eq.{bytes_eq-Decides}
 use Rattle.std.specs.List.{AllByRecursion, list_any}
-use Rattle.gql_plain.specs.declared.plain.Plain.TheVariants.{Text as Words}
+use Rattle.plan_ir.specs.gql_plain.declared.plain.Plain.TheVariants.{Text as Words}
 use Rattle.plan_ir.specs.Normal.{Normal}
 use Rattle.plan_ir.specs.NormalMeaning.{Plan, collect_plan, is_field_name, is_formed}
-use Rattle.schema_types.specs.Environments.{Values}
+use Rattle.plan_ir.specs.schema_types.Environments.{Values}
 use Rattle.serde_json.specs.Data as J
-use Rattle.store_record.specs.Keys.{Text}
-use Rattle.store_record.specs.declared.field.Field.{Field}
-use Rattle.store_record.specs.declared.field.Field.TheVariants.{Leaf}
-use Rattle.store_model.proofs.Least.{each_append}
-use Rattle.store_model.specs.Items.{Form, typename, leaf, one, many, Ask, key_of, Group}
-use Rattle.store_model.specs.Records.{typename as typename_key}
-use Rattle.store_model.specs.Says.{Path, Put, Report, both, put_at, pages_of, field_says, form_says, response_says}
-use Rattle.store_model.specs.declared.facts.HandleFact.{HandleFact}
+use Rattle.plan_ir.specs.store_record.Keys.{Text}
+use Rattle.plan_ir.specs.store_record.declared.field.Field.{Field}
+use Rattle.plan_ir.specs.store_record.declared.field.Field.TheVariants.{Leaf}
+use Rattle.plan_ir.proofs.store_model_laws.Least.{each_append}
+use Rattle.plan_ir.specs.store_model.Items.{Form, typename, leaf, one, many, Ask, key_of, Group}
+use Rattle.plan_ir.specs.store_model.Records.{typename as typename_key}
+use Rattle.plan_ir.specs.store_model.Says.{Path, Put, Report, both, put_at, pages_of, field_says, form_says, response_says}
+use Rattle.plan_ir.specs.store_model.declared.facts.HandleFact.{HandleFact}
 use Rattle.store_norm.proofs.EachReport.{IsInvariant, response_holds}
 use Rattle.store_norm.proofs.FormedSteps.{Formed, IsName, FieldOf, FormedField, steps_ask}
 use Rattle.store_norm.proofs.TypeNameKeys.{any_left, any_right, field_key_is_no_typename}

@@ -1,9 +1,9 @@
 -- Laws of gathering.
 use Rattle.std.proofs.Common.{◌≡◌, List, [], ◌∷◌, Option, Some, None, append-nil, refl}
-use Rattle.store_model.specs.Says.{Report, both, no_report, report_pages}
-use Rattle.store_model.specs.Verdicts.{fault_cmp}
-use Rattle.store_model.specs.declared.facts.HandleFact.{HandleFact}
-use Rattle.store_model.specs.declared.payload_fault.PayloadFault.{PayloadFault}
+use Rattle.plan_ir.specs.store_model.Says.{Report, both, no_report, report_pages}
+use Rattle.plan_ir.specs.store_model.Verdicts.{fault_cmp}
+use Rattle.plan_ir.specs.store_model.declared.facts.HandleFact.{HandleFact}
+use Rattle.plan_ir.specs.store_model.declared.payload_fault.PayloadFault.{PayloadFault}
 use Rattle.store_report.proofs.Joins.{gathering_right}
 use Rattle.store_report.specs.Gathering.{Gathering, gathered_onto, lesser_some}
 

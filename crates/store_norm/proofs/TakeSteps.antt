@@ -5,17 +5,17 @@ use Rattle.plan_ir.specs.NormalMeaning.{Plan, collect_plan}
 use Rattle.serde_json.specs.Data as J
 use Rattle.serde_json.specs.View.{items_view, view}
 use Rattle.serde_json.specs.declared.value.Value.{Value}
-use Rattle.store_model.proofs.Seated.{each_among, of_among}
-use Rattle.store_model.specs.Items.{Below, Group}
-use Rattle.store_model.specs.Records.{typename}
-use Rattle.store_model.specs.Says.{Made, Path, Put, Report, both, element_of, elements_of, elements_under, fields_say, groups_say, no_report, report_pages, walks_of}
-use Rattle.store_model.specs.declared.facts.Fact.{Fact}
-use Rattle.store_model.specs.declared.facts.HandleFact.{HandleFact}
-use Rattle.store_model.specs.declared.payload_fault.PathStep.TheVariants.{Index}
+use Rattle.plan_ir.proofs.store_model_laws.Seated.{each_among, of_among}
+use Rattle.plan_ir.specs.store_model.Items.{Below, Group}
+use Rattle.plan_ir.specs.store_model.Records.{typename}
+use Rattle.plan_ir.specs.store_model.Says.{Made, Path, Put, Report, both, element_of, elements_of, elements_under, fields_say, groups_say, no_report, report_pages, walks_of}
+use Rattle.plan_ir.specs.store_model.declared.facts.Fact.{Fact}
+use Rattle.plan_ir.specs.store_model.declared.facts.HandleFact.{HandleFact}
+use Rattle.plan_ir.specs.store_model.declared.payload_fault.PathStep.TheVariants.{Index}
 use Rattle.store_norm.proofs.WalkSteps.{drop_at}
 use Rattle.store_norm.specs.Walk.{group_told}
-use Rattle.store_record.specs.Keys.{Text}
-use Rattle.store_record.specs.declared.field.Field.{Field}
+use Rattle.plan_ir.specs.store_record.Keys.{Text}
+use Rattle.plan_ir.specs.store_record.declared.field.Field.{Field}
 use Rattle.store_report.proofs.AddSteps.{adds_none, adds_both, object_added}
 use Rattle.store_report.specs.Gathering.{AreNamed, IsNamed, IsTypeName}
 use Rattle.store_report.specs.ObjectRows.{Adds, HaveTypeNames, Held, HoldSame, facts_said, nothing_held, object_facts, with_open}

@@ -3,10 +3,10 @@ use Rattle.std.proofs.Common.{◌≡◌, ℕ, Bool, true, true≢false, not, ◌
 use Rattle.std.proofs.lemmas.List.Folds.{list_any-append}
 use Rattle.std.proofs.lemmas.Slice.Eq.{bytes_eq-Decides}
 use Rattle.std.specs.List.{list_any}
-use Rattle.gql_plain.proofs.Booleans.{or_true}
+use Rattle.plan_ir.proofs.gql_plain_laws.Booleans.{or_true}
 use Rattle.plan_ir.specs.NormalMeaning.{is_field_name}
-use Rattle.store_model.specs.Records.{typename}
-use Rattle.store_record.specs.Keys.{Text, Arguments, without_nulls, pair_text, more_pairs, key_with, field_key}
+use Rattle.plan_ir.specs.store_model.Records.{typename}
+use Rattle.plan_ir.specs.store_record.Keys.{Text, Arguments, without_nulls, pair_text, more_pairs, key_with, field_key}
 
 pub any_left : {X : Type 0} (test : X → Bool) (xs ys : List X) → list_any test xs ≡ true → list_any test (xs ++ ys) ≡ true
 any_left test xs ys h = list_any-append test xs ys ∙ ap (λ b. b || list_any test ys) h

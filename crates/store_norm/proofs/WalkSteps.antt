@@ -8,19 +8,19 @@ use Rattle.std.specs.Cmp.Lexicographic.{slice_cmp}
 use Rattle.std.specs.Map.{lookup}
 use Rattle.std.specs.Ordering.{is_eq, match_ordering}
 use Rattle.plan_ir.specs.NormalMeaning.{Plan, collect_plan}
-use Rattle.gql_plain.specs.declared.plain.Plain.TheVariants.{Null}
+use Rattle.plan_ir.specs.gql_plain.declared.plain.Plain.TheVariants.{Null}
 use Rattle.serde_json.specs.Data as J
 use Rattle.serde_json.specs.Find.{get_member}
 use Rattle.serde_json.specs.View.{items_view, view}
 use Rattle.serde_json.specs.declared.value.Value.{Value}
-use Rattle.store_model.specs.Events.{plain_of_data}
-use Rattle.store_model.specs.Items.{Below, Form, typename, leaf, one, many, Group}
-use Rattle.store_model.specs.Says.{Made, Path, Report, Walk, both, element_of, elements_of, elements_under, form_says, group_says, groups_say, leaf_of, link_of, no_report, walk_of, walks_of}
-use Rattle.store_model.specs.declared.payload_fault.PathStep.TheVariants.{Index}
+use Rattle.plan_ir.specs.store_model.Events.{plain_of_data}
+use Rattle.plan_ir.specs.store_model.Items.{Below, Form, typename, leaf, one, many, Group}
+use Rattle.plan_ir.specs.store_model.Says.{Made, Path, Report, Walk, both, element_of, elements_of, elements_under, form_says, group_says, groups_say, leaf_of, link_of, no_report, walk_of, walks_of}
+use Rattle.plan_ir.specs.store_model.declared.payload_fault.PathStep.TheVariants.{Index}
 use Rattle.store_norm.proofs.Reports.{gathered_both}
 use Rattle.store_norm.specs.Caching.{has_objects}
 use Rattle.store_norm.specs.Walk.{group_told, is_typename}
-use Rattle.store_record.specs.Keys.{Text}
+use Rattle.plan_ir.specs.store_record.Keys.{Text}
 use Rattle.store_report.specs.Gathering.{Gathering, gathered_onto}
 
 -- ---- the members of an object

@@ -2,10 +2,10 @@
 use Rattle.std.specs.Prelude.{◌≡◌, ◌<◌, ℕ, zero, suc, List, [], ◌∷◌, Option, Some, None}
 use Rattle.std.specs.List.{AllByRecursion}
 use Rattle.plan_ir.specs.NormalMeaning.{Plan, collect_plan}
-use Rattle.store_model.specs.Items.{groups_at}
+use Rattle.plan_ir.specs.store_model.Items.{groups_at}
 use Rattle.store_norm.specs.Caching.{Caching, plans_of, parts_of}
 use Rattle.store_norm.specs.declared.cache.TypeGroups.{TypeGroups}
-use Rattle.store_record.specs.Keys.{Text}
+use Rattle.plan_ir.specs.store_record.Keys.{Text}
 
 -- the groups of a type are those that the plans ask, and what lies below is for them, in fewer levels
 pub record IsRight (ps : List Plan) (levels : ℕ) (t : TypeGroups) : Type 0 where

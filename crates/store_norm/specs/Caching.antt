@@ -3,7 +3,7 @@ use Rattle.std.specs.Prelude.{ℕ, Bool, true, false, cond, List, [], map, refl}
 use Rattle.std.specs.Coded.{Coded, code_by, coded×, coded_ℕ, coded_list}
 use Rattle.plan_groups.specs.Codes.{coded_plan}
 use Rattle.plan_ir.specs.NormalMeaning.{Plan}
-use Rattle.store_model.specs.Items.{Form, typename, leaf, one, many, Group, parts}
+use Rattle.plan_ir.specs.store_model.Items.{Form, typename, leaf, one, many, Group, parts}
 
 pub record Caching : Type 0 where
   pub parts : List Plan

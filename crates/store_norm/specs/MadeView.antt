@@ -1,7 +1,7 @@
 -- The ids that are made for objects.
-use Rattle.store_model.specs.Says.{Made}
+use Rattle.plan_ir.specs.store_model.Says.{Made}
 use Rattle.store_norm.specs.declared.made.Place.{Place}
-use Rattle.store_record.specs.Keys.{Text, client_id}
+use Rattle.plan_ir.specs.store_record.Keys.{Text, client_id}
 
 -- the ids that are made under the key of a place, by the place in a list
 abbrev pub made_at : Place → Made

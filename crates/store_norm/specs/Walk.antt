@@ -4,10 +4,10 @@ use Rattle.std.specs.Map.{lookup}
 use Rattle.plan_ir.specs.NormalMeaning.{Plan, collect_plan}
 use Rattle.serde_json.specs.Data as J
 use Rattle.serde_json.specs.Find.{get_member}
-use Rattle.store_model.specs.Items.{Below, Form, typename, leaf, one, many, Group}
-use Rattle.store_model.specs.Records.{typename as typename_key}
-use Rattle.store_model.specs.Says.{Path, Report, form_says, group_says, is_misnamed, named_says, responses, unless_misnamed, walks_of}
-use Rattle.store_record.specs.Keys.{Text}
+use Rattle.plan_ir.specs.store_model.Items.{Below, Form, typename, leaf, one, many, Group}
+use Rattle.plan_ir.specs.store_model.Records.{typename as typename_key}
+use Rattle.plan_ir.specs.store_model.Says.{Path, Report, form_says, group_says, is_misnamed, named_says, responses, unless_misnamed, walks_of}
+use Rattle.plan_ir.specs.store_record.Keys.{Text}
 
 abbrev pub is_typename : Form → Bool
 is_typename typename = true

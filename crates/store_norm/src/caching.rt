@@ -5,8 +5,8 @@ ghost use Rattle.store_norm.specs.CacheView.{AreRight, IsPlaceOf, IsRight, IsTyp
 ghost use Rattle.store_norm.specs.Caching.{caches, has_objects, parts_below};
 
 use crate::cache::{GroupCache, TypeGroups};
-use gql_plain::NoMemory;
 use plan_groups::{FormAt, GroupAt, Groups, PlanAt};
+use plan_ir::NoMemory;
 use std::alloc::Global;
 use std::collections::BTreeMap;
 

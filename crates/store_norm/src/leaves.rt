@@ -1,16 +1,14 @@
 //! Leaves of a response.
 ghost use Rattle.std.specs.Prelude.{◌≡◌, [], ◌∷◌, ◌++◌, IfOk, OnOk};
 ghost use Rattle.serde_json.specs.View.{view};
-ghost use Rattle.store_model.specs.Events.{plain_of_data};
-ghost use Rattle.store_model.specs.Says.{leaf_of};
-ghost use Rattle.store_model.specs.declared.payload_fault.PathStep.TheVariants.{Key};
+ghost use Rattle.plan_ir.specs.store_model.Events.{plain_of_data};
+ghost use Rattle.plan_ir.specs.store_model.Says.{leaf_of};
+ghost use Rattle.plan_ir.specs.store_model.declared.payload_fault.PathStep.TheVariants.{Key};
 ghost use Rattle.store_report.specs.Gathering.{gathered_onto};
 
-use gql_plain::{NoMemory, Plain, PlainFault, plain_of};
+use plan_ir::{Cause, Field, NoMemory, Plain, PlainFault, plain_of};
 use serde_json::Value;
 use std::alloc::Global;
-use store_model::Cause;
-use store_record::Field;
 use store_report::{Gathered, Path, Step};
 
 /// The value of a leaf under a response key of an object at a path, null with the fault NotWhole where

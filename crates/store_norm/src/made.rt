@@ -1,16 +1,14 @@
 //! The ids of objects: those of the server, and generated ones.
 ghost use Rattle.std.specs.Prelude.{◌≡◌, ◌++◌, ◌∷◌, [], codes, option_map, IfOk, OnOk};
 ghost use Rattle.serde_json.specs.View.{view};
-ghost use Rattle.store_model.specs.Says as says;
-ghost use Rattle.store_model.specs.declared.payload_fault.PathStep.TheVariants.{Key};
+ghost use Rattle.plan_ir.specs.store_model.Says as says;
+ghost use Rattle.plan_ir.specs.store_model.declared.payload_fault.PathStep.TheVariants.{Key};
 ghost use Rattle.store_report.specs.Gathering.{gathered_onto};
 ghost use Rattle.store_norm.specs.MadeView.{id_of};
 
-use gql_plain::{NoMemory, SharedText, Words};
+use plan_ir::{Cause, NoMemory, SharedText, Words, client_id};
 use serde_json::Value;
 use std::alloc::Global;
-use store_model::Cause;
-use store_record::client_id;
 use store_report::{Gathered, Path, Step};
 
 /// Where an object stands: under a key of a record, and at an index where it is an element of a list.

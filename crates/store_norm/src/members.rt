@@ -5,7 +5,7 @@ ghost use Rattle.serde_json.specs.Find.{get_member};
 ghost use Rattle.serde_json.specs.View.{view, members_view};
 ghost use Rattle.store_norm.specs.Tables.{IsTabled};
 
-use gql_plain::NoMemory;
+use plan_ir::NoMemory;
 use serde_json::{Map, Value};
 use std::alloc::Global;
 use std::collections::HashMap;

@@ -1,11 +1,11 @@
 //! The pages of connections.
 ghost use Rattle.std.specs.Prelude.{◌≡◌, OnOk};
 ghost use Rattle.plan_ir.specs.NormalMeaning.{collect_plan};
-ghost use Rattle.store_model.specs.Says as says;
+ghost use Rattle.plan_ir.specs.store_model.Says as says;
 ghost use Rattle.store_report.specs.Gathering.{gathered_onto};
 
-use gql_plain::{NoMemory, SharedText};
 use plan_groups::{GroupAt, put_pages};
+use plan_ir::{NoMemory, SharedText};
 use std::alloc::Global;
 use store_report::Gathered;
 

@@ -3,8 +3,7 @@ ghost use Rattle.std.specs.Prelude.{◌≡◌};
 ghost use Rattle.plan_ir.specs.NormalMeaning as meaning;
 ghost use Rattle.plan_ir.specs.NormalView.{step_of};
 
-use gql_plain::{Ids, Name, is_name};
-use plan_ir::{NormalPlan, NormalStep, NormalSteps};
+use plan_ir::{Ids, Name, NormalPlan, NormalStep, NormalSteps, is_name};
 
 /// Whether a plan may be given to `facts`. False where a field of the plan has the name `__typename`,
 /// which a `NormalStep::Typename` is for, or where one of the types below a field of objects is no

@@ -4,8 +4,8 @@ ghost use Rattle.plan_groups.specs.FieldView.{plan_at};
 ghost use Rattle.plan_ir.specs.NormalMeaning.{collect_plan, is_formed, plan_says};
 ghost use Rattle.serde_json.specs.Data as J;
 ghost use Rattle.serde_json.specs.View.{members_view, view};
-ghost use Rattle.store_model.specs.Says as says;
-ghost use Rattle.store_model.specs.Verdicts.{content};
+ghost use Rattle.plan_ir.specs.store_model.Says as says;
+ghost use Rattle.plan_ir.specs.store_model.Verdicts.{content};
 ghost use Rattle.store_report.specs.Gathering.{gathered_onto};
 ghost use Rattle.store_report.specs.Refusals.{IsRefusedBy};
 
@@ -13,13 +13,10 @@ use crate::caching::{LEVELS, caches_below};
 use crate::members::member;
 use crate::taken::taken;
 use crate::walk::say_groups;
-use gql_plain::{NoMemory, SharedText, Words};
 use plan_groups::{Groups, PlanAt};
-use plan_ir::NormalPlan;
-use schema_values::Env;
+use plan_ir::{Cause, Env, Facts, NoMemory, NormalPlan, SharedText, Words};
 use serde_json::{Map, Value};
 use std::alloc::Global;
-use store_model::{Cause, Facts};
 use store_report::{Gathered, NormFault, Path, Untaken};
 
 /// The facts of a response to an operation, by its plan and environment. Err: the least fault of the

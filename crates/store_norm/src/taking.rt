@@ -3,12 +3,12 @@ ghost use Rattle.std.specs.Prelude.{◌≡◌, ◌++◌, ◌∷◌, [], codes, o
 ghost use Rattle.plan_groups.specs.FieldView.{below_at, form_at};
 ghost use Rattle.plan_ir.specs.NormalMeaning.{collect_plan};
 ghost use Rattle.serde_json.specs.View.{items_view, members_view, view};
-ghost use Rattle.store_model.specs.Events.{plain_of_data};
-ghost use Rattle.store_model.specs.Items.{many};
-ghost use Rattle.store_model.specs.Records.{typename};
-ghost use Rattle.store_model.specs.Says as says;
-ghost use Rattle.store_model.specs.declared.payload_fault.Cause.TheVariants.{Shape, Typename};
-ghost use Rattle.store_model.specs.declared.payload_fault.PathStep.TheVariants.{Key};
+ghost use Rattle.plan_ir.specs.store_model.Events.{plain_of_data};
+ghost use Rattle.plan_ir.specs.store_model.Items.{many};
+ghost use Rattle.plan_ir.specs.store_model.Records.{typename};
+ghost use Rattle.plan_ir.specs.store_model.Says as says;
+ghost use Rattle.plan_ir.specs.store_model.declared.payload_fault.Cause.TheVariants.{Shape, Typename};
+ghost use Rattle.plan_ir.specs.store_model.declared.payload_fault.PathStep.TheVariants.{Key};
 ghost use Rattle.store_norm.specs.CacheView.{IsSame};
 ghost use Rattle.store_norm.specs.Caching.{plans_of, parts_below, parts_of};
 ghost use Rattle.store_norm.specs.MadeView.{id_of, made_at};
@@ -22,12 +22,12 @@ use crate::made::{Place, made_id};
 use crate::members::{Members, member};
 use crate::types::type_under;
 use crate::walk::{is_other_type, is_typename, link_or_null};
-use gql_plain::{Id, NoMemory, OptIds, Plain, PlainFault, SharedText, Words, plain_of};
 use plan_groups::{BelowAt, FormAt, GroupAt, put_pages};
+use plan_ir::{
+    Cause, Field, Id, NoMemory, OptIds, Plain, PlainFault, SharedField, SharedText, Words, plain_of,
+};
 use serde_json::{Map, Value};
 use std::alloc::Global;
-use store_model::Cause;
-use store_record::{Field, SharedField};
 use store_report::{ObjectRows, Step, Trail};
 
 /// Takes what the fields of an object say, those of each group that is there: its own fields, and the rows

@@ -2,13 +2,13 @@
 ghost use Rattle.std.specs.Prelude.{◌≡◌, true, option_copied, option_map};
 ghost use Rattle.serde_json.specs.Find.{get_member};
 ghost use Rattle.serde_json.specs.View.{members_view, view};
-ghost use Rattle.store_model.specs.Records.{typename};
-ghost use Rattle.store_model.specs.Says as says;
-ghost use Rattle.gql_plain.specs.Order.{has_text};
+ghost use Rattle.plan_ir.specs.store_model.Records.{typename};
+ghost use Rattle.plan_ir.specs.store_model.Says as says;
+ghost use Rattle.plan_ir.specs.gql_plain.Order.{has_text};
 
 use crate::members::member;
-use gql_plain::Ids;
 use plan_groups::{BelowAt, GroupAt};
+use plan_ir::Ids;
 use serde_json::{Map, Value};
 
 /// The type of an object, by what stands under `__typename`; takes no memory. Where the type is not

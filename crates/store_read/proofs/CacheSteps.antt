@@ -3,9 +3,9 @@ use Rattle.std.proofs.Common.{◌≡◌, ℕ, zero, suc, ◌-◌, ◌<◌, List,
 use Rattle.std.proofs.lemmas.List.{length-map, with_items_is}
 use Rattle.std.specs.List.Sorted.{IsStrictlySortedBy}
 use Rattle.std.specs.Vec.{with_items}
-use Rattle.gql_plain.specs.Order.{AreInOrder}
+use Rattle.plan_ir.specs.gql_plain.Order.{AreInOrder}
 use Rattle.plan_ir.specs.ReaderMeaning.{ReaderPart, collect_reader}
-use Rattle.store_model.specs.Items.{Asked, Group, Pointer, groups_at, pointers_on}
+use Rattle.plan_ir.specs.store_model.Items.{Asked, Group, Pointer, groups_at, pointers_on}
 use Rattle.store_read.specs.CacheView.{AreRight, IsRight, IsSame, IsTypeAt, group_view, pointer_view}
 use Rattle.store_read.specs.Caching.{read_group, read_pointer}
 use Rattle.store_read.specs.FieldView.{asked_at, part_at}
@@ -14,7 +14,7 @@ use Rattle.store_read.specs.declared.cache.PointerAt.{PointerAt}
 use Rattle.store_read.specs.declared.cache.TypeItems.{TypeItems}
 use Rattle.store_read.specs.declared.field.FieldAt.{FieldAt}
 use Rattle.store_read.specs.declared.field.PartAt.{PartAt}
-use Rattle.store_record.specs.Keys.{Text}
+use Rattle.plan_ir.specs.store_record.Keys.{Text}
 
 pub type_within : (ts : List TypeItems) (at : ℕ) (name : Text) → IsTypeAt ts at name → at < length ts
 type_within [] at name e = absurd e

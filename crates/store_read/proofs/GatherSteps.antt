@@ -2,7 +2,7 @@
 use Rattle.std.proofs.Common.{◌≡◌, ℕ, zero, suc, ◌+◌, ◌<◌, cond, List, [], ◌∷◌, ◌++◌, map, drop, length, get_or, set, Option, Some, None, bytes_eq, add-one, Vec, Global, refl, ap, sym, ◌∙◌, arith}
 use Rattle.std.proofs.Math.Seq.{drop-cons}
 use Rattle.std.proofs.lemmas.List.{append-nil, length-map, map-append}
-use Rattle.gql_ast.specs.Value.{Val}
+use Rattle.plan_ir.specs.gql_ast.Value.{Val}
 use Rattle.plan_groups.proofs.PutSteps.{alone, grouped_next, place_new, put_new}
 use Rattle.plan_groups.specs.Putting.{place_of, put_at, with_other}
 use Rattle.plan_ir.specs.NormalMeaning.{guard_passes}
@@ -13,9 +13,9 @@ use Rattle.plan_ir.specs.declared.guard.Guard.{Guard}
 use Rattle.plan_ir.specs.declared.reader.ReaderPlan.{ReaderPlan}
 use Rattle.plan_ir.specs.declared.reader.ReaderStep.{ReaderStep}
 use Rattle.plan_ir.specs.declared.reader.ReaderStep.TheVariants as N
-use Rattle.schema_tables.specs.Types.{Text}
-use Rattle.schema_types.specs.Environments.{Values}
-use Rattle.store_model.specs.Items.{Group, Item, Pointer, pointed, asked_of, collect_all, grouped_onto, with_asked}
+use Rattle.plan_ir.specs.schema_tables.Types.{Text}
+use Rattle.plan_ir.specs.schema_types.Environments.{Values}
+use Rattle.plan_ir.specs.store_model.Items.{Group, Item, Pointer, pointed, asked_of, collect_all, grouped_onto, with_asked}
 use Rattle.store_read.proofs.SpreadSteps.{onto-append}
 use Rattle.store_read.specs.FieldView.{asked_at, part_at, pointer_of}
 use Rattle.store_read.specs.Gathering.{group_of}

@@ -1,3 +1,5 @@
+pub use Rattle.gql_order.proofs as gql_order_laws
+pub use Rattle.plan_groups.proofs as plan_groups_laws
 pub mod CacheSteps
 pub mod GatherSteps
 pub mod LevelSteps

@@ -1,7 +1,7 @@
 -- Loops that read one after another: what each shows, meets and looks up.
 use Rattle.std.proofs.Common.{◌≡◌, ℕ, zero, suc, ◌+◌, ◌<◌, ◌≤◌, List, [], ◌∷◌, ◌++◌, map, drop, set, length, get_or, append_assoc, add-one, drop-cons, refl, sym, ap, ◌∙◌, subst, arith}
 use Rattle.std.proofs.lemmas.List.{length-append, length-map}
-use Rattle.store_model.specs.Walks.{Trace, join_traces}
+use Rattle.plan_ir.specs.store_model.Walks.{Trace, join_traces}
 use Rattle.store_read.proofs.MetSteps.{met_joined}
 use Rattle.store_read.specs.Meeting.{Meeting, met_onto}
 

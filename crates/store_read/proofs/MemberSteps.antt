@@ -11,16 +11,16 @@ use Rattle.std.specs.List.{AllByRecursion}
 use Rattle.std.specs.List.Sorted.{IsStrictlySortedBy}
 use Rattle.std.specs.Map.{keys_of}
 use Rattle.std.specs.Ordering.{is_eq, match_ordering}
-use Rattle.gql_plain.specs.Order.{AreInOrder}
-use Rattle.gql_plain.specs.Shown.{shown_members, tree_of}
-use Rattle.gql_plain.specs.Tree.{Tree, text}
-use Rattle.gql_plain.specs.declared.plain.Plain.{Plain}
-use Rattle.gql_plain.specs.declared.plain.Plain.TheVariants as P
-use Rattle.store_model.specs.Verdicts.{in_order, with_one}
-use Rattle.store_model.specs.Walks.{Shown, mark_members, shown_object, with_value}
+use Rattle.plan_ir.specs.gql_plain.Order.{AreInOrder}
+use Rattle.plan_ir.specs.gql_plain.Shown.{shown_members, tree_of}
+use Rattle.plan_ir.specs.gql_plain.Tree.{Tree, text}
+use Rattle.plan_ir.specs.gql_plain.declared.plain.Plain.{Plain}
+use Rattle.plan_ir.specs.gql_plain.declared.plain.Plain.TheVariants as P
+use Rattle.plan_ir.specs.store_model.Verdicts.{in_order, with_one}
+use Rattle.plan_ir.specs.store_model.Walks.{Shown, mark_members, shown_object, with_value}
 use Rattle.store_read.specs.Members.{put_all}
-use Rattle.store_record.specs.Keys.{Text}
-use Rattle.store_model.proofs.InOrder.{order_map}
+use Rattle.plan_ir.specs.store_record.Keys.{Text}
+use Rattle.plan_ir.proofs.store_model_laws.InOrder.{order_map}
 
 pub put_all-append : (ps qs : List (Text × Tree)) (end : Shown) → put_all (ps ++ qs) end ≡ put_all ps (put_all qs end)
 put_all-append [] qs end = refl

@@ -1,7 +1,7 @@
 -- What a walk met, one after another.
 use Rattle.std.proofs.Common.{◌≡◌, ℕ, ◌+◌, ◌≤◌, Bool, true, false, ◌||◌, length, append-nil, append_assoc, refl, ap, ◌∙◌, arith}
 use Rattle.std.proofs.lemmas.List.{length-append}
-use Rattle.store_model.specs.Walks.{Trace, join_traces, still}
+use Rattle.plan_ir.specs.store_model.Walks.{Trace, join_traces, still}
 use Rattle.store_read.specs.Meeting.{Meeting, met_onto}
 
 or_false : (b : Bool) → (b || false) ≡ b

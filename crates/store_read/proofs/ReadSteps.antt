@@ -1,24 +1,24 @@
 -- What a read gives at an id, by what stands there.
 use Rattle.std.proofs.Common.{◌≡◌, ℕ, zero, suc, ◌+◌, ◌-◌, ◌<◌, ◌≤◌, Bool, true, false, List, [], ◌∷◌, ◌++◌, length, Option, Some, None, option_map, refl, sym, ap, ◌∙◌, arith}
-use Rattle.gql_plain.specs.Counted.{next_count}
-use Rattle.gql_plain.specs.Order.{has_text, sorted_texts}
-use Rattle.gql_plain.specs.Shown.{tree_of}
-use Rattle.gql_plain.specs.declared.plain.Plain.{Plain}
-use Rattle.gql_plain.specs.Tree.{Tree, null}
+use Rattle.plan_ir.specs.gql_plain.Counted.{next_count}
+use Rattle.plan_ir.specs.gql_plain.Order.{has_text, sorted_texts}
+use Rattle.plan_ir.specs.gql_plain.Shown.{tree_of}
+use Rattle.plan_ir.specs.gql_plain.declared.plain.Plain.{Plain}
+use Rattle.plan_ir.specs.gql_plain.Tree.{Tree, null}
 use Rattle.plan_ir.specs.Reader.{Reader}
 use Rattle.plan_ir.specs.ReaderMeaning.{ReaderPart, collect_reader, plan_reads, records_below}
-use Rattle.schema_types.specs.Environments.{Values}
-use Rattle.store_model.specs.Walks.{Found, Shown, Trace, field_of, join_traces, mark_members, object_at, or_null, reading, stand_at, standing_of, stood_lost, trace_at, type_of_record, where_possible}
+use Rattle.plan_ir.specs.schema_types.Environments.{Values}
+use Rattle.plan_ir.specs.store_model.Walks.{Found, Shown, Trace, field_of, join_traces, mark_members, object_at, or_null, reading, stand_at, standing_of, stood_lost, trace_at, type_of_record, where_possible}
 use Rattle.store_read.proofs.MetSteps.{met_twice}
 use Rattle.store_read.specs.Caching.{Caching}
 use Rattle.store_read.specs.Meeting.{Meeting, met_onto}
 use Rattle.store_read.specs.Reading.{reading_of, slots}
 use Rattle.store_read.specs.Walked.{if_possible, live_read, reads}
 use Rattle.store_read.specs.declared.snapshot.Snapshot.{Snapshot}
-use Rattle.store_record.specs.Keys.{Text}
-use Rattle.store_record.specs.declared.record.Record.{Record}
-use Rattle.store_record.specs.declared.record.Slot.{Slot}
-use Rattle.store_record.specs.declared.record.Slot.TheVariants.{Alive, Deleted}
+use Rattle.plan_ir.specs.store_record.Keys.{Text}
+use Rattle.plan_ir.specs.store_record.declared.record.Record.{Record}
+use Rattle.plan_ir.specs.store_record.declared.record.Slot.{Slot}
+use Rattle.plan_ir.specs.store_record.declared.record.Slot.TheVariants.{Alive, Deleted}
 use Rattle.store_source.specs.Records.{Records}
 
 -- that the id is stood at, and then the record

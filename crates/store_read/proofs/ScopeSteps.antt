@@ -5,12 +5,12 @@ use Rattle.std.proofs.lemmas.Slice.Eq.{bytes_eq-Decides}
 use Rattle.std.specs.Cmp.Lexicographic.{slice_cmp}
 use Rattle.std.specs.FinMap.Entries.{by_order}
 use Rattle.std.specs.Ordering.{is_eq, match_ordering}
-use Rattle.gql_ast.specs.Value.{Val}
-use Rattle.gql_plain.specs.Tree.{Tree}
+use Rattle.plan_ir.specs.gql_ast.Value.{Val}
+use Rattle.plan_ir.specs.gql_plain.Tree.{Tree}
 use Rattle.plan_ir.specs.ReaderMeaning.{scope_in}
-use Rattle.schema_tables.specs.Types.{Text}
-use Rattle.schema_types.specs.Environments.{Values, evaluation, with_pair}
-use Rattle.store_model.specs.Walks.{with_value}
+use Rattle.plan_ir.specs.schema_tables.Types.{Text}
+use Rattle.plan_ir.specs.schema_types.Environments.{Values, evaluation, with_pair}
+use Rattle.plan_ir.specs.store_model.Walks.{with_value}
 use Rattle.store_read.specs.FieldView.{evaluated_in}
 use Rattle.store_read.specs.Members.{put_all}
 

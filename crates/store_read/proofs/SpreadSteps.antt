@@ -3,10 +3,10 @@ use Rattle.std.proofs.Common.{◌≡◌, ℕ, Bool, true, false, ◌||◌, cond,
 use Rattle.std.proofs.lemmas.List.{map-append}
 use Rattle.std.proofs.lemmas.Slice.Eq.{bytes_eq-Decides}
 use Rattle.std.specs.Bool.{Decides}
-use Rattle.gql_plain.specs.Order.{has_text}
-use Rattle.store_model.specs.Items.{Item, asked, pointed, Pointer, without, pointers}
+use Rattle.plan_ir.specs.gql_plain.Order.{has_text}
+use Rattle.plan_ir.specs.store_model.Items.{Item, asked, pointed, Pointer, without, pointers}
 use Rattle.store_read.specs.Spreads.{fragments, pointers_onto, with_pointer}
-use Rattle.store_record.specs.Keys.{Text}
+use Rattle.plan_ir.specs.store_record.Keys.{Text}
 
 same_answer : (a b : Text) → bytes_eq a b ≡ bytes_eq b a
 same_answer a b = at (bytes_eq a b) (bytes_eq b a) (bytes_eq-Decides a b) (bytes_eq-Decides b a)

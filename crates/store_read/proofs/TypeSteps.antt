@@ -1,9 +1,9 @@
 -- A record of a type is read by what the cache has for the type.
 use Rattle.std.proofs.Common.{◌≡◌, ℕ, zero, suc, ◌+◌, ◌-◌, ◌*◌, ◌<◌, ◌≤◌, true, false, List, [], ◌∷◌, map, drop, length, get_or, subst, Some, None, sym, ap, ◌∙◌, max, arith}
-use Rattle.gql_plain.specs.Order.{has_text}
+use Rattle.plan_ir.specs.gql_plain.Order.{has_text}
 use Rattle.plan_ir.specs.ReaderMeaning.{ReaderPart, collect_reader}
-use Rattle.store_model.specs.Items.{groups_at, pointers_on}
-use Rattle.store_model.specs.Walks.{Fields, Found, Next, field_of, missing_trace, object_at, shown_object, type_of_record}
+use Rattle.plan_ir.specs.store_model.Items.{groups_at, pointers_on}
+use Rattle.plan_ir.specs.store_model.Walks.{Fields, Found, Next, field_of, missing_trace, object_at, shown_object, type_of_record}
 use Rattle.store_read.proofs.WalkSteps.{object_data, object_stood, object_trace}
 use Rattle.store_read.specs.CacheFalls.{group_levels, groups_within, pointer_levels, pointers_within}
 use Rattle.store_read.proofs.CacheSteps.{right_at, type_name}
@@ -12,9 +12,9 @@ use Rattle.store_read.specs.Caching.{Caching, ReadGroup, ReadPointer, read_group
 use Rattle.store_read.specs.Meeting.{Meeting, met_onto}
 use Rattle.store_read.specs.Walked.{if_possible, live_read, object_read, reads}
 use Rattle.store_read.specs.declared.cache.TypeItems.{TypeItems}
-use Rattle.store_record.specs.Keys.{Text}
-use Rattle.store_record.specs.declared.record.Record.{Record}
-use Rattle.store_record.specs.declared.record.Slot.TheVariants.{Alive}
+use Rattle.plan_ir.specs.store_record.Keys.{Text}
+use Rattle.plan_ir.specs.store_record.declared.record.Record.{Record}
+use Rattle.plan_ir.specs.store_record.declared.record.Slot.TheVariants.{Alive}
 use Rattle.store_source.specs.Records.{Records}
 
 -- ---- levels

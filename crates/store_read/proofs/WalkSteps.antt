@@ -1,16 +1,16 @@
 -- The walk by groups and pointers as they are read is the walk by those that parts give.
 use Rattle.std.proofs.Common.{◌≡◌, ℕ, Bool, true, false, cond, List, [], ◌∷◌, ◌++◌, map, length, Option, Some, None, refl, sym, ap, ◌∙◌}
-use Rattle.gql_plain.specs.Tree.{Tree}
+use Rattle.plan_ir.specs.gql_plain.Tree.{Tree}
 use Rattle.plan_ir.specs.ReaderMeaning.{ReaderPart, collect_reader}
-use Rattle.store_model.specs.Items.{Form, typename, leaf, one, many, Group, Pointer, groups_at, pointers_on}
-use Rattle.store_model.specs.Walks.{Fields, Shown, Trace, Next, fields_at, group_at, join_traces, looks_at, mark_members, mark_pointers, marks, object_at, pointer_at, pointers_at, read_key, with_found, with_value}
+use Rattle.plan_ir.specs.store_model.Items.{Form, typename, leaf, one, many, Group, Pointer, groups_at, pointers_on}
+use Rattle.plan_ir.specs.store_model.Walks.{Fields, Shown, Trace, Next, fields_at, group_at, join_traces, looks_at, mark_members, mark_pointers, marks, object_at, pointer_at, pointers_at, read_key, with_found, with_value}
 use Rattle.store_read.proofs.MemberSteps.{put_all-append}
 use Rattle.store_read.proofs.MetSteps.{met_joined, met_still}
 use Rattle.store_read.specs.Caching.{read_group, read_pointer}
 use Rattle.store_read.specs.Meeting.{Meeting, met_onto}
 use Rattle.store_read.specs.Members.{found_before, put_all}
 use Rattle.store_read.specs.Walked.{body_or_scope, groups_met, groups_shown, object_read, pointers_met, pointers_shown}
-use Rattle.store_record.specs.Keys.{Text}
+use Rattle.plan_ir.specs.store_record.Keys.{Text}
 
 found_put : (key : Text) (o : Option Tree) (rest : List (Text × Tree)) (end : Shown) → with_found key o (put_all rest end) ≡ put_all (found_before key o [] ++ rest) end
 found_put key None rest end = refl

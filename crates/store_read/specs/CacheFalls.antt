@@ -3,7 +3,7 @@ use Rattle.std.specs.Prelude.{◌≤◌, ◌+◌, ◌-◌, ℕ, List, [], ◌∷
 use Rattle.std.proofs.Common.{ap, arith}
 use denote.Param.Weighed.{most}
 use Rattle.plan_ir.specs.ReaderMeaning.{ReaderPart, collect_reader}
-use Rattle.store_model.specs.Items.{Group, Pointer, groups_at, pointers_on}
+use Rattle.plan_ir.specs.store_model.Items.{Group, Pointer, groups_at, pointers_on}
 use Rattle.store_read.specs.CacheView.{AreRight, group_view, pointer_view}
 use Rattle.store_read.specs.Caching.{ReadGroup, ReadPointer, read_group, read_pointer}
 use Rattle.store_read.specs.declared.cache.FieldGroup.{FieldGroup}

@@ -3,12 +3,12 @@ use Rattle.std.specs.Prelude.{◌≡◌, ◌<◌, ◌-◌, ℕ, zero, suc, List,
 use Rattle.std.specs.List.{AllByRecursion}
 use Rattle.plan_groups.specs.FieldView.{form_at}
 use Rattle.plan_ir.specs.ReaderMeaning.{ReaderPart, collect_reader}
-use Rattle.store_model.specs.Items.{groups_at, pointers_on}
+use Rattle.plan_ir.specs.store_model.Items.{groups_at, pointers_on}
 use Rattle.store_read.specs.Caching.{ReadGroup, ReadPointer, read_group, read_pointer}
 use Rattle.store_read.specs.declared.cache.FieldGroup.{FieldGroup}
 use Rattle.store_read.specs.declared.cache.PointerAt.{PointerAt}
 use Rattle.store_read.specs.declared.cache.TypeItems.{TypeItems}
-use Rattle.store_record.specs.Keys.{Text}
+use Rattle.plan_ir.specs.store_record.Keys.{Text}
 
 abbrev pub group_view : FieldGroup → ReadGroup
 group_view g = record { response = g.response.now; key = g.key; form = form_at g.form; below = g.below }

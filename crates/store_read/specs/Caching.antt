@@ -1,14 +1,14 @@
 -- What a cache is seen as, and what is read of groups and pointers.
 use Rattle.std.specs.Prelude.{ℕ, Bool, cond, List, [], ◌∷◌, refl}
 use Rattle.std.specs.Coded.{Coded, code_by, coded×, coded_ℕ, coded_list}
-use Rattle.gql_plain.specs.Codes.{coded_members}
+use Rattle.plan_ir.specs.gql_plain.Codes.{coded_members}
 use Rattle.plan_ir.specs.Reader.{Reader}
 use Rattle.plan_ir.specs.ReaderCode.{coded_reader}
 use Rattle.plan_ir.specs.ReaderMeaning.{ReaderPart}
-use Rattle.schema_types.specs.Environments.{Values}
-use Rattle.store_model.specs.Items.{Form, Group, Pointer, parts}
-use Rattle.store_model.specs.Walks.{read_key}
-use Rattle.store_record.specs.Keys.{Text, Arguments}
+use Rattle.plan_ir.specs.schema_types.Environments.{Values}
+use Rattle.plan_ir.specs.store_model.Items.{Form, Group, Pointer, parts}
+use Rattle.plan_ir.specs.store_model.Walks.{read_key}
+use Rattle.plan_ir.specs.store_record.Keys.{Text, Arguments}
 
 -- the parts whose items a cache has, and how many records may be stood at one below another
 pub record Caching : Type 0 where

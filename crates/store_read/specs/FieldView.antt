@@ -1,16 +1,16 @@
 -- What fields and spreads of plans ask, and what stands below them.
 use Rattle.std.specs.Prelude.{◌≡◌, true, false, Option, Some, None, option_map, option_copied}
-use Rattle.gql_ast.specs.Value.{Val}
+use Rattle.plan_ir.specs.gql_ast.Value.{Val}
 use Rattle.plan_groups.specs.FieldView.{arguments_called, form_at, name_called}
 use Rattle.plan_ir.specs.NormalMeaning.{connection_of_step}
 use Rattle.plan_ir.specs.Reader.{Reader, done}
 use Rattle.plan_ir.specs.ReaderMeaning.{ReaderPart, scope_in}
 use Rattle.plan_ir.specs.declared.reader.ReaderPlan.{ReaderPlan}
-use Rattle.gql_plain.specs.Tree.{Tree}
-use Rattle.schema_tables.specs.Types.{Text}
-use Rattle.schema_types.specs.Environments.{Values, evaluation}
+use Rattle.plan_ir.specs.gql_plain.Tree.{Tree}
+use Rattle.plan_ir.specs.schema_tables.Types.{Text}
+use Rattle.plan_ir.specs.schema_types.Environments.{Values, evaluation}
 use Rattle.std.specs.Prelude.{List}
-use Rattle.store_model.specs.Items.{Ask, Asked, Pointer, key_of}
+use Rattle.plan_ir.specs.store_model.Items.{Ask, Asked, Pointer, key_of}
 use Rattle.store_read.specs.declared.field.FieldAt.{FieldAt}
 use Rattle.store_read.specs.declared.field.PartAt.{PartAt}
 use Rattle.store_read.specs.declared.spread.SpreadAt.{SpreadAt}

@@ -3,10 +3,10 @@ use Rattle.std.specs.Prelude.{◌≡◌, ℕ, List}
 use Rattle.std.specs.List.{AllByRecursion}
 use Rattle.plan_ir.specs.Reader.{Reader}
 use Rattle.plan_ir.specs.ReaderMeaning.{ReaderPart, collect_reader, plan_reads}
-use Rattle.schema_types.specs.Environments.{Values}
-use Rattle.store_model.specs.Agree.{Agrees}
-use Rattle.store_model.specs.Walks.{Slots, read_at}
-use Rattle.store_record.specs.Keys.{Text}
+use Rattle.plan_ir.specs.schema_types.Environments.{Values}
+use Rattle.plan_ir.specs.store_model.Agree.{Agrees}
+use Rattle.plan_ir.specs.store_model.Walks.{Slots, read_at}
+use Rattle.plan_ir.specs.store_record.Keys.{Text}
 
 -- parts that are read at most so many records deep
 abbrev pub PartsDependOnTheirFootprint : Type 0

@@ -5,11 +5,11 @@ use Rattle.std.specs.HashMap as hash
 use Rattle.std.specs.List.{All}
 use Rattle.std.specs.Cmp.Lexicographic.{slice_cmp}
 use Rattle.std.specs.Ordering.{nat_cmp}
-use Rattle.gql_plain.specs.Order.{has_text}
+use Rattle.plan_ir.specs.gql_plain.Order.{has_text}
 use Rattle.plan_groups.specs.Putting.{place_of}
 use Rattle.plan_ir.specs.ReaderMeaning.{ReaderPart}
-use Rattle.schema_tables.specs.Types.{Text}
-use Rattle.store_model.specs.Items.{Group, Pointer}
+use Rattle.plan_ir.specs.schema_tables.Types.{Text}
+use Rattle.plan_ir.specs.store_model.Items.{Group, Pointer}
 use Rattle.store_read.specs.FieldView.{asked_at, spread_at, IsKept}
 use Rattle.store_read.specs.Spreads.{fragments}
 use Rattle.store_read.specs.declared.gathered.Fields.{Fields}

@@ -1,3 +1,5 @@
+pub use Rattle.plan_groups.specs as plan_groups
+pub use Rattle.store_source.specs as store_source
 pub mod CacheFalls
 pub mod CacheView
 pub mod Caching

@@ -1,8 +1,8 @@
 -- What a walk met so far.
 use Rattle.std.specs.Prelude.{Bool, ◌||◌, List, ◌++◌, refl}
 use Rattle.std.specs.Coded.{Coded, code_by, coded×, coded_bool, coded_list, coded_ℕ}
-use Rattle.store_model.specs.Walks.{Trace}
-use Rattle.store_record.specs.Keys.{Text}
+use Rattle.plan_ir.specs.store_model.Walks.{Trace}
+use Rattle.plan_ir.specs.store_record.Keys.{Text}
 
 -- whether something was missing, and the ids stood at
 pub record Meeting : Type 0 where

@@ -1,8 +1,8 @@
 -- The members of objects, as they are put.
 use Rattle.std.specs.Prelude.{List, [], ◌∷◌, Option, Some, None}
-use Rattle.gql_plain.specs.Tree.{Tree}
-use Rattle.store_model.specs.Walks.{Shown, with_value}
-use Rattle.store_record.specs.Keys.{Text}
+use Rattle.plan_ir.specs.gql_plain.Tree.{Tree}
+use Rattle.plan_ir.specs.store_model.Walks.{Shown, with_value}
+use Rattle.plan_ir.specs.store_record.Keys.{Text}
 
 -- pairs put onto members, of those of one key the first one counts
 abbrev pub put_all : List (Text × Tree) → Shown → Shown

@@ -1,7 +1,7 @@
 -- What a snapshot tells.
 use Rattle.std.specs.FinMap as map
-use Rattle.gql_plain.specs.Shown.{tree_of}
-use Rattle.store_model.specs.Walks.{Reading, Slots}
+use Rattle.plan_ir.specs.gql_plain.Shown.{tree_of}
+use Rattle.plan_ir.specs.store_model.Walks.{Reading, Slots}
 use Rattle.store_read.specs.declared.snapshot.Snapshot.{Snapshot}
 use Rattle.store_source.specs.Records.{Records}
 

@@ -1,8 +1,8 @@
 -- Pointers one after another, the first to each fragment.
 use Rattle.std.specs.Prelude.{cond, List, [], ◌∷◌, ◌++◌, map}
-use Rattle.gql_plain.specs.Order.{has_text}
-use Rattle.store_model.specs.Items.{Item, asked, pointed, Pointer}
-use Rattle.store_record.specs.Keys.{Text}
+use Rattle.plan_ir.specs.gql_plain.Order.{has_text}
+use Rattle.plan_ir.specs.store_model.Items.{Item, asked, pointed, Pointer}
+use Rattle.plan_ir.specs.store_record.Keys.{Text}
 
 -- the fragments of pointers
 abbrev pub fragments : {F : Type 0} → List (Pointer F) → List Text

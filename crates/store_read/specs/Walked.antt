@@ -1,15 +1,15 @@
 -- The walk along records by groups and pointers as they are read.
 use Rattle.std.specs.Prelude.{ℕ, Bool, true, false, ◌-◌, List, [], ◌∷◌, ◌++◌, Some, None}
-use Rattle.gql_plain.specs.Order.{has_text}
-use Rattle.gql_plain.specs.Tree.{Tree}
+use Rattle.plan_ir.specs.gql_plain.Order.{has_text}
+use Rattle.plan_ir.specs.gql_plain.Tree.{Tree}
 use Rattle.plan_ir.specs.ReaderMeaning.{ReaderPart, collect_reader}
-use Rattle.store_model.specs.Walks.{Fields, Found, Next, Shown, Trace, field_of, join_traces, mark_members, missing_trace, object_at, or_null, read_at, shown_object, still, type_of_record, value_at}
+use Rattle.plan_ir.specs.store_model.Walks.{Fields, Found, Next, Shown, Trace, field_of, join_traces, mark_members, missing_trace, object_at, or_null, read_at, shown_object, still, type_of_record, value_at}
 use Rattle.store_read.specs.Caching.{Caching, ReadGroup, ReadPointer}
 use Rattle.store_read.specs.Members.{found_before, put_all}
 use Rattle.store_read.specs.Reading.{slots}
-use Rattle.store_record.specs.Keys.{Text, Arguments}
-use Rattle.store_record.specs.declared.record.Record.{Record}
-use Rattle.store_record.specs.declared.record.Slot.TheVariants.{Alive}
+use Rattle.plan_ir.specs.store_record.Keys.{Text, Arguments}
+use Rattle.plan_ir.specs.store_record.declared.record.Record.{Record}
+use Rattle.plan_ir.specs.store_record.declared.record.Slot.TheVariants.{Alive}
 use Rattle.store_source.specs.Records.{Records}
 
 -- how parts are read, at most n records one below another

@@ -1,7 +1,7 @@
 //! What plans ask of records, by types.
 use crate::field::PartAt;
-use gql_plain::{Ids, Pairs, SharedText};
 use plan_groups::FormAt;
+use plan_ir::{Ids, Pairs, SharedText};
 use std::collections::BTreeMap;
 use std::marker::Model;
 

@@ -4,14 +4,14 @@ ghost use Rattle.store_read.specs.CacheView.{AreRight, IsPlaceOf, IsRight, IsTyp
 ghost use Rattle.store_read.specs.Caching.{read_group, read_pointer};
 ghost use Rattle.store_read.specs.FieldView.{part_at, spread_at, IsKept};
 ghost use Rattle.store_read.specs.Gathering.{group_of, AreKept};
-ghost use Rattle.store_model.specs.Items.{parts};
+ghost use Rattle.plan_ir.specs.store_model.Items.{parts};
 
 use crate::cache::{Cache, FieldGroup, PointerAt, TypeItems};
 use crate::field::{FieldAt, PartAt};
 use crate::gathered::{Fields, gather};
 use crate::spread::SpreadAt;
 use crate::store::one_name;
-use gql_plain::{NoMemory, Pairs};
+use plan_ir::{NoMemory, Pairs};
 use std::alloc::Global;
 use std::collections::BTreeMap;
 

@@ -4,18 +4,17 @@ ghost use Rattle.plan_ir.specs.FieldKeys.{constant_key};
 ghost use Rattle.plan_ir.specs.NormalMeaning.{ask_step, typename_ask};
 ghost use Rattle.plan_ir.specs.Reader.{done};
 ghost use Rattle.plan_ir.specs.ReaderMeaning.{field_item};
-ghost use Rattle.store_model.specs.Items as items;
-ghost use Rattle.store_model.specs.Items.{asked};
-ghost use Rattle.store_model.specs.Walks as walks;
+ghost use Rattle.plan_ir.specs.store_model.Items as items;
+ghost use Rattle.plan_ir.specs.store_model.Items.{asked};
+ghost use Rattle.plan_ir.specs.store_model.Walks as walks;
 ghost use Rattle.store_read.specs.FieldView.{ask_at, asked_at, part_at, IsKept};
 
-use gql_ast::Arguments;
-use gql_plain::{Conn, Name, NoMemory, Pairs, SharedText, Words};
 use plan_groups::{Call, FormAt};
-use plan_ir::{ReaderPlan, ReaderSteps};
-use schema_values::{Env, evaluate_arguments};
+use plan_ir::{
+    Arguments, Conn, Env, Name, NoMemory, Pairs, ReaderPlan, ReaderSteps, SharedText, Words,
+    evaluate_arguments, field_key, handle_key,
+};
 use std::alloc::Global;
-use store_record::{field_key, handle_key};
 
 /// Steps in the environment of their operation.
 #[derive(Clone, Copy)]

@@ -4,17 +4,15 @@ ghost use Rattle.plan_ir.specs.ReaderMeaning.{collect_reader, collect_reading};
 ghost use Rattle.plan_ir.specs.ReaderKeys.{keys_of};
 ghost use Rattle.plan_ir.specs.ReaderView.{step_of};
 ghost use Rattle.plan_groups.specs.Putting.{put_at};
-ghost use Rattle.store_model.specs.Items.{asked_of, collect_all, grouped_onto, groups_at, pointers_on, with_asked};
+ghost use Rattle.plan_ir.specs.store_model.Items.{asked_of, collect_all, grouped_onto, groups_at, pointers_on, with_asked};
 ghost use Rattle.store_read.specs.FieldView.{asked_at, part_at, spread_at, IsKept};
 ghost use Rattle.store_read.specs.Gathering.{group_of, groups_in, spreads_in, AreKept, IsPlaced};
 ghost use Rattle.store_read.specs.Spreads.{pointers_onto, with_pointer};
 
 use crate::field::{FieldAt, PartAt};
 use crate::spread::SpreadAt;
-use gql_plain::{NoMemory, SharedText};
 use plan_groups::{Call, connection_in, form_of_objects, guard_passes, total};
-use plan_ir::{ReaderStep, ReaderSteps};
-use schema_values::Env;
+use plan_ir::{Env, NoMemory, ReaderStep, ReaderSteps, SharedText};
 use std::alloc::Global;
 use std::collections::{BTreeMap, HashMap};
 

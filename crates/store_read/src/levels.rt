@@ -3,8 +3,7 @@ ghost use Rattle.std.specs.Prelude.{◌≡◌, ◌+◌, IfOk};
 ghost use Rattle.plan_ir.specs.ReaderMeaning as meaning;
 ghost use Rattle.plan_ir.specs.ReaderView.{step_of};
 
-use gql_plain::NoMemory;
-use plan_ir::{ReaderStep, ReaderSteps};
+use plan_ir::{NoMemory, ReaderStep, ReaderSteps};
 
 /// How many records a read by these steps stands at one below another, the first one not counted.
 #[cycle(levels)]

@@ -19,6 +19,9 @@ pub mod spread;
 pub mod store;
 mod walk;
 
+pub use gql_order::sorted_texts;
 pub use laws::reads_depend_on_their_footprint;
+pub use plan_groups::{Call, FormAt, connection_in, form_of_objects, guard_passes};
 pub use reading::read;
 pub use snapshot::Snapshot;
+pub use store_source::{Flat, RecordSource};

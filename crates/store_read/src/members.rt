@@ -2,12 +2,12 @@
 ghost use Rattle.std.specs.Prelude.{◌≡◌, ◌++◌, option_map, [], IfOk, OnOk};
 ghost use Rattle.std.specs.Cmp.Lexicographic.{slice_cmp};
 ghost use Rattle.std.specs.Ordering.{is_eq, nat_cmp};
-ghost use Rattle.gql_plain.specs.Shown.{shown_members, tree_of};
-ghost use Rattle.store_model.specs.Walks as walks;
-ghost use Rattle.store_model.specs.Walks.{mark_members};
+ghost use Rattle.plan_ir.specs.gql_plain.Shown.{shown_members, tree_of};
+ghost use Rattle.plan_ir.specs.store_model.Walks as walks;
+ghost use Rattle.plan_ir.specs.store_model.Walks.{mark_members};
 ghost use Rattle.store_read.specs.Members.{found_before, put_all};
 
-use gql_plain::{Id, NoMemory, Pairs, Plain, Words};
+use plan_ir::{Id, NoMemory, Pairs, Plain, Words};
 use std::alloc::Global;
 
 /// The pairs in byte order of their keys, of each key the first one. Pairs of n keys take about

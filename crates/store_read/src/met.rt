@@ -1,12 +1,12 @@
 //! What a walk along records meets.
 ghost use Rattle.std.specs.Prelude.{◌≡◌, false, [], IfOk, OnOk};
-ghost use Rattle.gql_plain.specs.Order.{sorted_texts};
-ghost use Rattle.store_model.specs.Walks.{missing_trace, trace_at};
+ghost use Rattle.plan_ir.specs.gql_plain.Order.{sorted_texts};
+ghost use Rattle.plan_ir.specs.store_model.Walks.{missing_trace, trace_at};
 ghost use Rattle.store_read.specs.Meeting.{met_onto};
 
 use crate::snapshot::Snapshot;
 use gql_order::sorted_ids;
-use gql_plain::{Id, NoMemory, Plain};
+use plan_ir::{Id, NoMemory, Plain};
 use std::alloc::Global;
 use std::marker::Model;
 

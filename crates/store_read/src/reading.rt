@@ -1,7 +1,7 @@
 //! Reading a record by a plan.
 ghost use Rattle.std.specs.Prelude.{◌≡◌, ◌+◌, ◌≤◌, IfOk};
 ghost use Rattle.plan_ir.specs.ReaderMeaning.{plan_reads};
-ghost use Rattle.store_model.specs.Walks.{reading, standings, type_of_record};
+ghost use Rattle.plan_ir.specs.store_model.Walks.{reading, standings, type_of_record};
 ghost use Rattle.store_read.specs.Reading.{reading_of, slots};
 
 use crate::cache::Cache;
@@ -12,9 +12,7 @@ use crate::met::Met;
 use crate::snapshot::Snapshot;
 use crate::store::Store;
 use crate::walk::read_record;
-use gql_plain::{Id, Ids, NoMemory, Words};
-use plan_ir::ReaderPlan;
-use schema_values::Env;
+use plan_ir::{Env, Id, Ids, NoMemory, ReaderPlan, Words};
 use std::alloc::Global;
 use store_source::RecordSource;
 

@@ -1,7 +1,7 @@
 //! What a read shows.
 ghost use Rattle.std.specs.Prelude.{◌≡◌, IfOk};
 
-use gql_plain::{Ids, NoMemory, Plain};
+use plan_ir::{Ids, NoMemory, Plain};
 
 /// What a read shows, and what it met.
 #[derive(Debug, Drop)]

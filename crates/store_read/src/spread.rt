@@ -1,15 +1,12 @@
 //! Spreads that are not followed.
 ghost use Rattle.std.specs.Prelude.{◌≡◌, map, IfOk};
-ghost use Rattle.gql_plain.specs.Shown.{shown_members};
+ghost use Rattle.plan_ir.specs.gql_plain.Shown.{shown_members};
 ghost use Rattle.plan_ir.specs.ReaderMeaning.{scope_in};
 ghost use Rattle.store_read.specs.FieldView.{evaluated_in, pointer_of, spread_at};
 
 use crate::field::PartAt;
 use crate::members::first_of_each;
-use gql_ast::Arguments;
-use gql_plain::{Name, NoMemory, Pairs, Plain, Words};
-use plan_ir::ReaderPlan;
-use schema_values::{Env, evaluate};
+use plan_ir::{Arguments, Env, Name, NoMemory, Pairs, Plain, ReaderPlan, Words, evaluate};
 use std::alloc::Global;
 
 /// A spread that is not followed.

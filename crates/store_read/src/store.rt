@@ -1,10 +1,9 @@
 //! Where records are read, and the types that they have.
 ghost use Rattle.std.specs.Prelude.{◌≡◌, ◌∷◌, [], IfOk};
-ghost use Rattle.store_model.specs.Walks.{type_of_record};
+ghost use Rattle.plan_ir.specs.store_model.Walks.{type_of_record};
 
-use gql_plain::{Ids, NoMemory, Words};
+use plan_ir::{Ids, NoMemory, Record, Words};
 use std::alloc::Global;
-use store_record::Record;
 use store_source::RecordSource;
 
 /// Where records are read, the root type of the operation, and the name that pointers tell of their

@@ -1,10 +1,10 @@
 //! The walk along records.
 ghost use Rattle.std.specs.Prelude.{◌≡◌, ◌+◌, ◌-◌, ◌≤◌, ◌++◌, None, Some, length, map, option_map, option_copied, IfOk, OnOk};
-ghost use Rattle.gql_plain.specs.Shown.{plain_trees, shown_members, tree_of};
+ghost use Rattle.plan_ir.specs.gql_plain.Shown.{plain_trees, shown_members, tree_of};
 ghost use Rattle.plan_groups.specs.FieldView.{form_at};
-ghost use Rattle.store_model.specs.Walks as walks;
-ghost use Rattle.store_model.specs.Walks.{field_of};
-ghost use Rattle.store_record.specs.declared.record.Slot.TheVariants.{Alive};
+ghost use Rattle.plan_ir.specs.store_model.Walks as walks;
+ghost use Rattle.plan_ir.specs.store_model.Walks.{field_of};
+ghost use Rattle.plan_ir.specs.store_record.declared.record.Slot.TheVariants.{Alive};
 ghost use Rattle.store_read.specs.CacheView.{IsSame, group_view, pointer_view};
 ghost use Rattle.store_read.specs.Meeting.{met_onto};
 ghost use Rattle.store_read.specs.Walked as walked;
@@ -15,10 +15,9 @@ use crate::caching::place_of;
 use crate::members::{first_of_each, or_null, put_found, put_marks};
 use crate::met::Met;
 use crate::store::{Store, type_of};
-use gql_plain::{Id, Ids, NoMemory, OptIds, Pairs, Plain, Plains, Words};
 use plan_groups::FormAt;
+use plan_ir::{Field, Id, Ids, NoMemory, OptIds, Pairs, Plain, Plains, Record, Slot, Words};
 use std::alloc::Global;
-use store_record::{Field, Record, Slot};
 use store_source::RecordSource;
 
 /// Reads the record at an id, which may be of these types; None where it is missing.

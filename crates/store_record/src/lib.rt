@@ -7,5 +7,6 @@ pub mod keys;
 pub mod record;
 
 pub use field::{Field, FieldEntry, Fields, SharedField};
+pub use gql_plain;
 pub use keys::{client_id, field_key, field_keys_differ, handle_key, handle_keys_differ};
 pub use record::{Record, Shared, Slot};

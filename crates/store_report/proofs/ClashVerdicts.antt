@@ -3,10 +3,10 @@ use Rattle.std.proofs.Common.{◌≡◌, true, true≢false, ◌&&◌, List, [],
 use Rattle.std.proofs.lemmas.Slice.Eq.{bytes_eq-Decides}
 use Rattle.std.specs.List.{AllByRecursion}
 use Rattle.std.specs.Prelude.{◌⊎◌}
-use Rattle.gql_plain.specs.Names.{is_name}
-use Rattle.gql_plain.specs.declared.plain.Plain.TheVariants.{Text as Words}
-use Rattle.store_record.specs.Equal.{field_eq, field_eq-Decides}
-use Rattle.store_record.specs.declared.field.Field.TheVariants.{Leaf}
+use Rattle.gql_order.specs.gql_plain.Names.{is_name}
+use Rattle.gql_order.specs.gql_plain.declared.plain.Plain.TheVariants.{Text as Words}
+use Rattle.store_model.specs.store_record.Equal.{field_eq, field_eq-Decides}
+use Rattle.store_model.specs.store_record.declared.field.Field.TheVariants.{Leaf}
 use Rattle.store_model.proofs.Seated.{among_left, among_right, of_among}
 use Rattle.store_model.proofs.Seats.{each_has_a_seat, seats_are}
 use Rattle.store_model.specs.Alike.{Among}

@@ -9,8 +9,8 @@ use Rattle.std.specs.Cmp.{IsTotalOrder}
 use Rattle.std.specs.List.{AllByRecursion}
 use Rattle.std.specs.List.Sorted.{IsSorted}
 use Rattle.std.specs.Ordering.{is_lt, ordering_then, ordering_reverse}
-use Rattle.store_record.specs.Equal.{field_eq, field_eq-Decides}
-use Rattle.store_record.specs.declared.field.Field.{Field}
+use Rattle.store_model.specs.store_record.Equal.{field_eq, field_eq-Decides}
+use Rattle.store_model.specs.store_record.declared.field.Field.{Field}
 use Rattle.store_model.proofs.Seated.{of_among}
 use Rattle.store_model.specs.Alike.{Among}
 use Rattle.store_model.specs.FactOrder.{text_cmp}

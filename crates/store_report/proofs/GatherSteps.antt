@@ -1,6 +1,6 @@
 -- What is gathered, with one thing more.
 use Rattle.std.proofs.Common.{◌≡◌, ℕ, zero, suc, ◌<◌, List, [], ◌∷◌, ◌++◌, length, map, get_or, set, option_copied, Option, Some, None, refl, ap, ◌∙◌, arith}
-use Rattle.store_record.specs.declared.field.Field.{Field}
+use Rattle.store_model.specs.store_record.declared.field.Field.{Field}
 use Rattle.store_model.specs.Says.{Put, report_pages, fault_at}
 use Rattle.store_model.specs.Verdicts.{fault_cmp}
 use Rattle.store_model.specs.declared.facts.HandleFact.{HandleFact}

@@ -8,8 +8,8 @@ use Rattle.std.proofs.lemmas.Map.Text.{is_eq-slice_cmp}
 use Rattle.std.specs.List.{dedup, dedup_from}
 use Rattle.std.specs.List.Sorted.{IsSorted, IsStrictlySortedBy}
 use Rattle.std.specs.Ordering.{is_lt, ordering_reverse}
-use Rattle.gql_plain.specs.Order.{AreInOrder}
-use Rattle.store_record.specs.Keys.{Text}
+use Rattle.gql_order.specs.gql_plain.Order.{AreInOrder}
+use Rattle.store_model.specs.store_record.Keys.{Text}
 use Rattle.store_model.proofs.Least.{Each, each_append, each_right}
 use Rattle.store_model.specs.FactOrder.{text_cmp}
 use Rattle.store_model.specs.declared.facts.FactRow.{FactRow}

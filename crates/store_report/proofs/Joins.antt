@@ -1,7 +1,7 @@
 -- What several reports say is gathered one after the other as together.
 use Rattle.std.proofs.Common.{◌≡◌, List, [], ◌∷◌, ◌++◌, length, Option, Some, None, append_assoc, refl, sym, ap, ◌∙◌}
-use Rattle.store_record.specs.Keys.{Text}
-use Rattle.store_record.specs.declared.field.Field.{Field}
+use Rattle.store_model.specs.store_record.Keys.{Text}
+use Rattle.store_model.specs.store_record.declared.field.Field.{Field}
 use Rattle.store_model.specs.Says.{Put, Report, both, put_at, Path}
 use Rattle.store_model.specs.Verdicts.{fault_cmp, least, unless_fault, verdict}
 use Rattle.store_model.specs.declared.payload_fault.PayloadFault.{PayloadFault}

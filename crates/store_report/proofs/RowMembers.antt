@@ -15,12 +15,12 @@ use Rattle.std.specs.List.Sorted.{IsPermutation, IsStrictlySortedBy}
 use Rattle.std.specs.Map.{keys_of}
 use Rattle.std.specs.Ordering.{is_lt}
 use Rattle.std.specs.Prelude.{◌⊎◌}
-use Rattle.gql_plain.specs.Order.{AreInOrder, member_at}
-use Rattle.gql_plain.specs.declared.plain.Plain.TheVariants.{Text as Words}
-use Rattle.store_record.specs.Equal.{fields_eq, fields_eq-Decides}
-use Rattle.store_record.specs.Keys.{Text}
-use Rattle.store_record.specs.declared.field.Field.{Field}
-use Rattle.store_record.specs.declared.field.Field.TheVariants.{Leaf}
+use Rattle.gql_order.specs.gql_plain.Order.{AreInOrder, member_at}
+use Rattle.gql_order.specs.gql_plain.declared.plain.Plain.TheVariants.{Text as Words}
+use Rattle.store_model.specs.store_record.Equal.{fields_eq, fields_eq-Decides}
+use Rattle.store_model.specs.store_record.Keys.{Text}
+use Rattle.store_model.specs.store_record.declared.field.Field.{Field}
+use Rattle.store_model.specs.store_record.declared.field.Field.TheVariants.{Leaf}
 use Rattle.store_model.proofs.Least.{Each, each_append}
 use Rattle.store_model.proofs.Seated.{among_left, among_map, among_right, each_among, of_among}
 use Rattle.store_model.specs.Alike.{Among}

@@ -4,8 +4,8 @@ use Rattle.std.proofs.lemmas.Cmp.{tied_itself}
 use Rattle.std.specs.List.{AllByRecursion}
 use Rattle.std.specs.List.Sorted.{IsStrictlySortedBy}
 use Rattle.std.specs.Ordering.{is_lt, match_ordering, ordering_reverse}
-use Rattle.store_record.specs.Equal.{field_eq, field_eq-Decides}
-use Rattle.store_record.specs.declared.field.Field.{Field}
+use Rattle.store_model.specs.store_record.Equal.{field_eq, field_eq-Decides}
+use Rattle.store_model.specs.store_record.declared.field.Field.{Field}
 use Rattle.store_model.specs.Alike.{Among}
 use Rattle.store_model.specs.Says.{Put}
 use Rattle.store_model.specs.Verdicts.{lesser_of, least, put_cmp, same_place, where_so, Seat, seat_of, seat_at, with_one, places, seats_at, seats, conflict_of, first_conflict}

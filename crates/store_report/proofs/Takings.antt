@@ -6,7 +6,7 @@ use Rattle.std.specs.Cmp.{IsTotalOrder}
 use Rattle.std.specs.List.{AllByRecursion, list_any, dedup}
 use Rattle.std.specs.List.Sorted.{IsSorted, IsStable}
 use Rattle.std.specs.Ordering.{match_ordering}
-use Rattle.store_record.specs.Keys.{Text}
+use Rattle.store_model.specs.store_record.Keys.{Text}
 use Rattle.store_model.proofs.Seated.{of_among, each_among}
 use Rattle.store_model.specs.Alike.{Among}
 use Rattle.store_model.specs.FactOrder.{handle_cmp}

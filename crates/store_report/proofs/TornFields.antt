@@ -8,9 +8,9 @@ use Rattle.std.specs.List.{IsAllAdjacentAnswer, dedup, dedup_from}
 use Rattle.std.specs.List.Sorted.{IsPermutation, IsSorted}
 use Rattle.std.specs.Ordering.{is_lt, ordering_reverse}
 use Rattle.std.specs.Prelude.{◌⊎◌}
-use Rattle.store_record.specs.Equal.{entry_eq, entry_eq-Decides, field_eq}
-use Rattle.store_record.specs.Keys.{Text}
-use Rattle.store_record.specs.declared.field.Field.{Field}
+use Rattle.store_model.specs.store_record.Equal.{entry_eq, entry_eq-Decides, field_eq}
+use Rattle.store_model.specs.store_record.Keys.{Text}
+use Rattle.store_model.specs.store_record.declared.field.Field.{Field}
 use Rattle.store_model.specs.Alike.{Among}
 use Rattle.store_model.specs.FactOrder.{text_cmp}
 use Rattle.store_report.proofs.Clashes.{Rising, not_true, rises}

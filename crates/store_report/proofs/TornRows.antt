@@ -1,13 +1,13 @@
 -- The row of an object, whole or torn, and what is held when it is put.
 use Rattle.std.proofs.Common.{◌≡◌, Bool, true, false, List, [], ◌∷◌, ◌++◌, Some, None, append_assoc, append-nil, refl, sym, ap, ◌∙◌, subst, inl, inr}
 use Rattle.std.specs.Map.{keys_of}
-use Rattle.gql_plain.specs.Names.{is_name}
-use Rattle.gql_plain.specs.Order.{AreInOrder, member_at}
-use Rattle.gql_plain.specs.declared.plain.Plain.TheVariants.{Text as Words}
-use Rattle.store_record.specs.Equal.{entry_eq-Decides}
-use Rattle.store_record.specs.Keys.{Text}
-use Rattle.store_record.specs.declared.field.Field.{Field}
-use Rattle.store_record.specs.declared.field.Field.TheVariants.{Leaf}
+use Rattle.gql_order.specs.gql_plain.Names.{is_name}
+use Rattle.gql_order.specs.gql_plain.Order.{AreInOrder, member_at}
+use Rattle.gql_order.specs.gql_plain.declared.plain.Plain.TheVariants.{Text as Words}
+use Rattle.store_model.specs.store_record.Equal.{entry_eq-Decides}
+use Rattle.store_model.specs.store_record.Keys.{Text}
+use Rattle.store_model.specs.store_record.declared.field.Field.{Field}
+use Rattle.store_model.specs.store_record.declared.field.Field.TheVariants.{Leaf}
 use Rattle.store_model.proofs.Seated.{among_map}
 use Rattle.store_model.specs.Alike.{Among}
 use Rattle.store_model.specs.FactRows.{fact_at, facts_of, facts_of_row}

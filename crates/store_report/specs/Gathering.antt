@@ -2,11 +2,11 @@
 use Rattle.std.specs.Prelude.{◌≡◌, true, List, [], ◌∷◌, ◌++◌, bytes_eq, ◌&&◌, Option, Some, None, ℕ, zero, suc, length}
 use Rattle.std.specs.List.{AllByRecursion, list_any}
 use Rattle.std.specs.declared.cmp.Ordering.{Ordering}
-use Rattle.gql_plain.specs.Names.{is_name}
-use Rattle.gql_plain.specs.declared.plain.Plain.TheVariants.{Text as Words}
-use Rattle.store_record.specs.Keys.{Text}
-use Rattle.store_record.specs.declared.field.Field.{Field}
-use Rattle.store_record.specs.declared.field.Field.TheVariants.{Leaf}
+use Rattle.gql_order.specs.gql_plain.Names.{is_name}
+use Rattle.gql_order.specs.gql_plain.declared.plain.Plain.TheVariants.{Text as Words}
+use Rattle.store_model.specs.store_record.Keys.{Text}
+use Rattle.store_model.specs.store_record.declared.field.Field.{Field}
+use Rattle.store_model.specs.store_record.declared.field.Field.TheVariants.{Leaf}
 use Rattle.store_model.specs.Records.{typename}
 use Rattle.store_model.specs.Says.{Put, Report, both, put_at, Path}
 use Rattle.store_model.specs.Verdicts.{fault_cmp, lesser_of, least, Verdict, unless_fault, verdict}

@@ -1,10 +1,10 @@
 -- Rows of one id that are joined to one.
 use Rattle.std.specs.Prelude.{◌≡◌, ◌⊎◌, ◌&&◌, Bool, true, false, List, [], ◌∷◌, ◌++◌, map, Option, Some, None, bytes_eq}
 use Rattle.std.specs.declared.cmp.Ordering.TheVariants.{Greater}
-use Rattle.gql_plain.specs.Names.{is_name}
-use Rattle.gql_plain.specs.Order.{AreInOrder, member_at}
-use Rattle.store_record.specs.Equal.{fields_eq}
-use Rattle.store_record.specs.Keys.{Text}
+use Rattle.gql_order.specs.gql_plain.Names.{is_name}
+use Rattle.gql_order.specs.gql_plain.Order.{AreInOrder, member_at}
+use Rattle.store_model.specs.store_record.Equal.{fields_eq}
+use Rattle.store_model.specs.store_record.Keys.{Text}
 use Rattle.store_model.specs.FactOrder.{text_cmp}
 use Rattle.store_model.specs.FactRows.{facts_of_row}
 use Rattle.store_model.specs.Records.{typename}

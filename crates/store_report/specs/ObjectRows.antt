@@ -2,12 +2,12 @@
 use Rattle.std.specs.Prelude.{◌≡◌, true, false, List, [], ◌∷◌, ◌++◌, map, bytes_eq, Option, Some, None}
 use Rattle.std.specs.List.{AllByRecursion}
 use Rattle.std.specs.Map.{keys_of}
-use Rattle.gql_plain.specs.Order.{AreInOrder}
-use Rattle.gql_plain.specs.declared.plain.Plain.TheVariants.{Text as Words}
-use Rattle.store_record.specs.Equal.{field_eq}
-use Rattle.store_record.specs.Keys.{Text}
-use Rattle.store_record.specs.declared.field.Field.{Field}
-use Rattle.store_record.specs.declared.field.Field.TheVariants.{Leaf}
+use Rattle.gql_order.specs.gql_plain.Order.{AreInOrder}
+use Rattle.gql_order.specs.gql_plain.declared.plain.Plain.TheVariants.{Text as Words}
+use Rattle.store_model.specs.store_record.Equal.{field_eq}
+use Rattle.store_model.specs.store_record.Keys.{Text}
+use Rattle.store_model.specs.store_record.declared.field.Field.{Field}
+use Rattle.store_model.specs.store_record.declared.field.Field.TheVariants.{Leaf}
 use Rattle.store_model.specs.Alike.{Among}
 use Rattle.store_model.specs.FactRows.{fact_at, IsFactRow}
 use Rattle.store_model.specs.Records.{typename}

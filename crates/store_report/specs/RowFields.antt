@@ -2,12 +2,12 @@
 use Rattle.std.specs.Prelude.{◌≡◌, ◌<◌, ◌+◌, ℕ, Bool, false, List, get_or, length}
 use Rattle.std.specs.Map.{keys_of}
 use Rattle.std.specs.Ordering.{is_lt}
-use Rattle.gql_plain.specs.Order.{AreInOrder}
-use Rattle.gql_plain.specs.declared.plain.Plain.TheVariants.{Text as Words}
-use Rattle.store_record.specs.Equal.{entry_eq, field_eq}
-use Rattle.store_record.specs.Keys.{Text}
-use Rattle.store_record.specs.declared.field.Field.{Field}
-use Rattle.store_record.specs.declared.field.Field.TheVariants.{Leaf}
+use Rattle.gql_order.specs.gql_plain.Order.{AreInOrder}
+use Rattle.gql_order.specs.gql_plain.declared.plain.Plain.TheVariants.{Text as Words}
+use Rattle.store_model.specs.store_record.Equal.{entry_eq, field_eq}
+use Rattle.store_model.specs.store_record.Keys.{Text}
+use Rattle.store_model.specs.store_record.declared.field.Field.{Field}
+use Rattle.store_model.specs.store_record.declared.field.Field.TheVariants.{Leaf}
 use Rattle.store_model.specs.Alike.{Among}
 use Rattle.store_model.specs.FactOrder.{text_cmp}
 use Rattle.store_model.specs.Records.{typename}

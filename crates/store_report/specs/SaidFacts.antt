@@ -2,9 +2,9 @@
 use Rattle.std.specs.Prelude.{Bool, true, false, not, ◌&&◌, cond, List, [], ◌∷◌, ◌++◌, Option, Some, None, option_copied}
 use Rattle.std.specs.Ordering.{is_eq}
 use Rattle.std.specs.declared.cmp.Ordering.{Ordering}
-use Rattle.store_record.specs.Equal.{field_eq}
-use Rattle.store_record.specs.Keys.{Text}
-use Rattle.store_record.specs.declared.field.Field.{Field}
+use Rattle.store_model.specs.store_record.Equal.{field_eq}
+use Rattle.store_model.specs.store_record.Keys.{Text}
+use Rattle.store_model.specs.store_record.declared.field.Field.{Field}
 use Rattle.store_model.specs.FactOrder.{fact_cmp}
 use Rattle.store_model.specs.Says.{Path, Put}
 use Rattle.store_model.specs.Verdicts.{same_place}

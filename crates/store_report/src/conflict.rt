@@ -6,10 +6,10 @@ ghost use Rattle.store_report.specs.Gathering.{lesser_some};
 ghost use Rattle.store_report.specs.SaidFacts as said_facts;
 
 use crate::said::SaidFact;
-use gql_plain::NoMemory;
+use gql_order::gql_plain::NoMemory;
 use std::alloc::Global;
+use store_model::store_record::Field;
 use store_model::{Cause, PayloadFault};
-use store_record::Field;
 
 /// The conflict of facts that are in order of id and key: at the first place with two values, the one
 /// at the least path, and of those that differ from it again the one at the least path.

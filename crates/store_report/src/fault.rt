@@ -1,5 +1,5 @@
 //! Why a response gives no facts.
-use gql_plain::NoMemory;
+use gql_order::gql_plain::NoMemory;
 use store_model::PayloadFault;
 
 /// Why a response gives no facts.

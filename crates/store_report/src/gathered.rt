@@ -1,21 +1,21 @@
 //! What is gathered of a response.
 ghost use Rattle.std.specs.Prelude.{◌≡◌, ◌<◌, [], ◌∷◌, ◌++◌, length, option_copied, option_map, Some, IfOk, OnOk};
-ghost use Rattle.gql_plain.specs.declared.plain.Plain.TheVariants.{Text as Words};
+ghost use Rattle.gql_order.specs.gql_plain.declared.plain.Plain.TheVariants.{Text as Words};
 ghost use Rattle.store_model.specs.Records.{typename};
 ghost use Rattle.store_model.specs.Says.{put_at, fault_at, report_pages};
 ghost use Rattle.store_model.specs.Verdicts.{fault_cmp};
 ghost use Rattle.store_model.specs.declared.payload_fault.PathStep.TheVariants.{Key};
-ghost use Rattle.store_record.specs.declared.field.Field.TheVariants.{Leaf};
+ghost use Rattle.store_model.specs.store_record.declared.field.Field.TheVariants.{Leaf};
 ghost use Rattle.store_report.specs.Gathering.{nothing, gathered_onto, lesser_some, with_value};
 ghost use Rattle.store_report.specs.SaidFacts.{fault_of, path_to, put_of};
 
 use crate::path::Path;
 use crate::said::{SaidFact, SaidFault};
-use gql_plain::{Name, NoMemory, Plain, SharedText, Words as Text};
+use gql_order::gql_plain::{Name, NoMemory, Plain, SharedText, Words as Text};
 use std::alloc::Global;
 use std::marker::Model;
+use store_model::store_record::Field;
 use store_model::{Cause, HandleFact};
-use store_record::Field;
 
 /// What is gathered of a response while it is walked: facts, each with the path where it is said, the
 /// pages of connections, and the least fault so far. Texts of the response are borrowed.

@@ -11,11 +11,11 @@ use crate::object_row::BegunRow;
 use crate::row_fields::{Ordered, by_key};
 use crate::untaken::Untaken;
 use gql_order::by_heads;
-use gql_plain::NoMemory;
+use gql_order::gql_plain::NoMemory;
 use std::alloc::Global;
 use std::mem;
 use store_model::FactRow;
-use store_record::{Fields, SharedField};
+use store_model::store_record::{Fields, SharedField};
 
 /// The rows in order of their ids, one for each id. Err: an id has two types, or a field of it two values.
 /// Rows that are in order are left as they stand, and take no memory.

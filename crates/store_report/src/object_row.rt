@@ -1,15 +1,15 @@
 //! The row of an object.
 ghost use Rattle.std.specs.Prelude.{◌≡◌, ◌⊎◌, false, None, IfOk};
-ghost use Rattle.gql_plain.specs.Names.{is_name};
-ghost use Rattle.gql_plain.specs.Order.{member_at};
+ghost use Rattle.gql_order.specs.gql_plain.Names.{is_name};
+ghost use Rattle.gql_order.specs.gql_plain.Order.{member_at};
 ghost use Rattle.store_model.specs.Records.{typename};
 ghost use Rattle.store_report.specs.Joining.{IsObjectRow, row_facts};
 ghost use Rattle.store_report.specs.ObjectRows.{HaveClash, HoldSame, object_facts};
 
 use crate::row_fields::{Ordered, by_key, has_type_key, without_name};
-use gql_plain::{Id, Name, NoMemory, is_name};
+use gql_order::gql_plain::{Id, Name, NoMemory, is_name};
 use store_model::FactRow;
-use store_record::SharedField;
+use store_model::store_record::SharedField;
 
 /// A row whose fields are not in order, and may be no row's.
 #[derive(Drop)]

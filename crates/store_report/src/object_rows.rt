@@ -12,11 +12,11 @@ use crate::pages::in_order;
 use crate::said::SaidFault;
 use crate::trail::Trail;
 use crate::untaken::Untaken;
-use gql_plain::{Id, Name, NoMemory};
+use gql_order::gql_plain::{Id, Name, NoMemory};
 use std::alloc::Global;
 use std::marker::Model;
+use store_model::store_record::SharedField;
 use store_model::{Cause, FactList, FactRow, Facts, HandleFact};
-use store_record::SharedField;
 
 /// What a response says: a row each time that an object is met, the pages of connections, and the least
 /// fault so far. Where facts are said is not kept.

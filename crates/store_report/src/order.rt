@@ -4,7 +4,7 @@ ghost use Rattle.std.specs.List.Sorted.{IsSorted, IsStable};
 ghost use Rattle.store_report.specs.SaidFacts.{place_cmp};
 
 use crate::said::SaidFact;
-use gql_plain::NoMemory;
+use gql_order::gql_plain::NoMemory;
 
 /// The facts in order of id and key, those of one place in the order in which they were said.
 pub(crate) fn sorted<'r>(mut facts: Vec<SaidFact<'r>>) -> Result<Vec<SaidFact<'r>>, NoMemory>

@@ -5,7 +5,7 @@ ghost use Rattle.store_model.specs.FactOrder.{handle_cmp, text_cmp};
 ghost use Rattle.store_model.specs.Verdicts as verdicts;
 ghost use Rattle.store_report.specs.PagePlaces.{is_same_page};
 
-use gql_plain::NoMemory;
+use gql_order::gql_plain::NoMemory;
 use std::cmp::Ordering;
 use store_model::{HandleFact, HandleFacts};
 

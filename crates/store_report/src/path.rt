@@ -3,7 +3,7 @@ ghost use Rattle.std.specs.Prelude.{◌≡◌, [], ◌∷◌, ◌++◌, length, 
 ghost use Rattle.store_model.specs.Verdicts.{path_cmp, step_cmp};
 ghost use Rattle.store_report.specs.Steps.{step_of};
 
-use gql_plain::{NoMemory, Words};
+use gql_order::gql_plain::{NoMemory, Words};
 use std::alloc::Global;
 use std::cmp::Ordering;
 use std::marker::Model;

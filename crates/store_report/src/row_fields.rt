@@ -2,16 +2,16 @@
 ghost use Rattle.std.specs.Prelude.{◌≡◌, true, false, None, IfOk};
 ghost use Rattle.std.specs.List.Sorted.{IsPermutation, IsSorted};
 ghost use Rattle.std.specs.Map.{keys_of};
-ghost use Rattle.gql_plain.specs.Order.{AreInOrder, member_at};
+ghost use Rattle.gql_order.specs.gql_plain.Order.{AreInOrder, member_at};
 ghost use Rattle.store_model.specs.FactOrder.{text_cmp};
 ghost use Rattle.store_model.specs.Records.{typename};
-ghost use Rattle.store_record.specs.Equal.{entry_eq};
+ghost use Rattle.store_model.specs.store_record.Equal.{entry_eq};
 ghost use Rattle.store_report.specs.ObjectRows.{HoldSame};
 ghost use Rattle.store_report.specs.RowFields.{AreOthers, DoFall, HasTypeKey, IsOrdered, entries_of, says_name};
 
+use gql_order::gql_plain::{NoMemory, Plain};
 use gql_order::ordered_by_heads;
-use gql_plain::{NoMemory, Plain};
-use store_record::{Field, Fields, SharedField};
+use store_model::store_record::{Field, Fields, SharedField};
 
 /// The fields of a row, in order of their keys where no key has two values.
 #[derive(Drop)]

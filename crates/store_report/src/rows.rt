@@ -2,18 +2,18 @@
 ghost use Rattle.std.specs.Prelude.{◌≡◌, true, List, [], ◌∷◌, ◌++◌, map, is_some, None, IfOk, OnOk};
 ghost use Rattle.store_model.specs.declared.facts.Fact.{Fact};
 ghost use Rattle.std.specs.List.Sorted.{IsStrictlySortedBy};
-ghost use Rattle.gql_plain.specs.declared.plain.Plain.TheVariants.{Text as Words};
-ghost use Rattle.store_record.specs.declared.field.Field.TheVariants.{Leaf};
+ghost use Rattle.gql_order.specs.gql_plain.declared.plain.Plain.TheVariants.{Text as Words};
+ghost use Rattle.store_model.specs.store_record.declared.field.Field.TheVariants.{Leaf};
 ghost use Rattle.store_report.specs.Gathering.{IsTypeName, AreNamed};
 ghost use Rattle.store_report.specs.Rows.{IsOpen, IsOpenAt, CanPut, CanTakeAt, shown, shown_some, entries_of, is_filled};
 ghost use Rattle.store_report.specs.SaidFacts.{fact_of, put_of, place_cmp};
 
 use crate::said::SaidFact;
-use gql_plain::{Name, NoMemory, Plain, SharedText};
+use gql_order::gql_plain::{Name, NoMemory, Plain, SharedText};
 use std::alloc::Global;
 use std::mem;
+use store_model::store_record::{Field, Fields, SharedField};
 use store_model::{FactList, FactRow};
-use store_record::{Field, Fields, SharedField};
 
 /// The row of a record, as far as its facts have come.
 #[derive(Drop)]

@@ -5,11 +5,11 @@ ghost use Rattle.store_model.specs.Verdicts.{fault_cmp, number_of, put_cmp, same
 ghost use Rattle.store_report.specs.SaidFacts.{put_of, fault_of, place_cmp};
 
 use crate::path::{Path, Step};
-use gql_plain::{NoMemory, SharedText};
+use gql_order::gql_plain::{NoMemory, SharedText};
 use std::alloc::Global;
 use std::cmp::Ordering;
+use store_model::store_record::Field;
 use store_model::{Cause, PayloadFault};
-use store_record::Field;
 
 /// A fact, and where it is said.
 #[derive(Drop)]

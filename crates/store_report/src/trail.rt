@@ -3,7 +3,7 @@ ghost use Rattle.std.specs.Prelude.{◌≡◌, [], ◌∷◌, ◌++◌, IfOk};
 ghost use Rattle.store_report.specs.Steps.{step_of};
 
 use crate::path::{Path, Step};
-use gql_plain::NoMemory;
+use gql_order::gql_plain::NoMemory;
 use std::alloc::Global;
 use std::marker::Model;
 

@@ -1,5 +1,5 @@
 //! Why a response is not taken by rows.
-use gql_plain::NoMemory;
+use gql_order::gql_plain::NoMemory;
 use std::alloc::{AllocError, AllocFailed};
 use store_model::PayloadFault;
 

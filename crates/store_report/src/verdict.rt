@@ -16,7 +16,7 @@ use crate::order::sorted;
 use crate::pages::in_order;
 use crate::rows::rows_of;
 use crate::said::{SaidFact, SaidFault};
-use gql_plain::NoMemory;
+use gql_order::gql_plain::NoMemory;
 use std::alloc::Global;
 use store_model::{Facts, HandleFact};
 

@@ -4,12 +4,12 @@ use Rattle.std.proofs.lemmas.List.{append-nil, map-append, take_all, take_more}
 use Rattle.std.proofs.lemmas.Slice.Eq.{bytes_eq-Decides, slice_eq-Decides}
 use Rattle.std.specs.List.{list_any}
 use Rattle.std.specs.Option.{option_eq}
-use Rattle.gql_graph.proofs.TextSteps.{same_text}
-use Rattle.gql_plain.specs.Equal.{texts_eq}
-use Rattle.gql_plain.specs.Order.{has_text}
-use Rattle.store_model.specs.Reaches.{links_of, links_under}
-use Rattle.store_model.specs.Walks.{Fields, Slots}
-use Rattle.store_record.specs.Keys.{Text}
+use Rattle.plan_ir.proofs.gql_graph_laws.TextSteps.{same_text}
+use Rattle.plan_ir.specs.gql_plain.Equal.{texts_eq}
+use Rattle.plan_ir.specs.gql_plain.Order.{has_text}
+use Rattle.plan_ir.specs.store_model.Reaches.{links_of, links_under}
+use Rattle.plan_ir.specs.store_model.Walks.{Fields, Slots}
+use Rattle.plan_ir.specs.store_record.Keys.{Text}
 use Rattle.store_retain.proofs.Bools.{any_append, or_assoc, or_twice}
 use Rattle.store_retain.specs.Steps.{Alike, Found, Follows, LeadAlike, Step, is_possible, steps_to, way_steps, ways_steps}
 use Rattle.store_retain.specs.TrailView.{way_at}

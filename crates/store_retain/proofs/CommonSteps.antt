@@ -2,13 +2,13 @@
 use Rattle.std.proofs.Common.{◌≡◌, ℕ, zero, suc, ◌+◌, ◌<◌, ◌≤◌, Bool, true, false, ◌||◌, ◌&&◌, List, [], ◌∷◌, ◌++◌, map, drop, length, get_or, Option, Some, Bor, bytes_eq, append_assoc, refl, sym, ap, ◌∙◌, arith}
 use Rattle.std.proofs.lemmas.List.{append-nil}
 use Rattle.std.specs.List.{list_all}
-use Rattle.gql_graph.proofs.TextSteps.{same_self, same_text}
-use Rattle.gql_plain.proofs.SortedTexts.{AreSortedOf-is, has_text-sorted_texts}
-use Rattle.gql_plain.specs.Order.{AreSortedOf, has_text}
+use Rattle.plan_ir.proofs.gql_graph_laws.TextSteps.{same_self, same_text}
+use Rattle.plan_ir.proofs.gql_plain_laws.SortedTexts.{AreSortedOf-is, has_text-sorted_texts}
+use Rattle.plan_ir.specs.gql_plain.Order.{AreSortedOf, has_text}
 use Rattle.plan_ir.specs.NormalMeaning.{condition_passes, guard_passes, type_passes}
 use Rattle.plan_ir.specs.declared.guard.Guard.{Guard}
-use Rattle.schema_types.specs.Environments.{Values}
-use Rattle.store_record.specs.Keys.{Text}
+use Rattle.plan_ir.specs.schema_types.Environments.{Values}
+use Rattle.plan_ir.specs.store_record.Keys.{Text}
 use Rattle.store_retain.proofs.Bools.{any_append, or_false}
 use Rattle.store_retain.proofs.Follow.{drop_at}
 

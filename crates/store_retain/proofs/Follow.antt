@@ -1,10 +1,10 @@
 -- Steps one after another, and steps that find nothing new.
 use Rattle.std.proofs.Common.{◌≡◌, ℕ, zero, suc, ◌+◌, ◌<◌, ◌≤◌, Bool, true, false, ◌||◌, ◌&&◌, List, [], ◌∷◌, ◌++◌, drop, length, get_or, Option, Some, None, bytes_eq, add-one, drop-cons, refl, sym, ap, ◌∙◌, subst, arith}
 use Rattle.std.specs.List.{list_any}
-use Rattle.gql_plain.specs.Order.{has_text}
-use Rattle.store_model.specs.Entries.{some_id, some_ids}
-use Rattle.store_model.specs.Walks.{Slots}
-use Rattle.store_record.specs.Keys.{Text}
+use Rattle.plan_ir.specs.gql_plain.Order.{has_text}
+use Rattle.plan_ir.specs.store_model.Entries.{some_id, some_ids}
+use Rattle.plan_ir.specs.store_model.Walks.{Slots}
+use Rattle.plan_ir.specs.store_record.Keys.{Text}
 use Rattle.store_retain.proofs.Bools.{or_assoc, or_false, any_append, and_none, and_some}
 use Rattle.store_retain.specs.Steps.{Found, Follows, Stand, Step, is_possible, steps_to}
 

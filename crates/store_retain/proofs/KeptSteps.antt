@@ -3,7 +3,7 @@ use Rattle.std.proofs.Common.{◌≡◌, Bool, true, false, true≢false, cond, 
 use Rattle.std.proofs.lemmas.List.{map-append}
 use Rattle.std.specs.Map.{lookup, remove_entry}
 use Rattle.circular_buffer.specs.Buffer.{Buffer, buffer, keep_last}
-use Rattle.store_record.specs.Keys.{Text}
+use Rattle.plan_ir.specs.store_record.Keys.{Text}
 use Rattle.store_retain.specs.Kept.{held_under, is_live, released, retained, some_held, without}
 use Rattle.store_retain.specs.KeptView.{handle_of, kept_of, live_of}
 use Rattle.store_retain.specs.declared.held.Held.{Held}

@@ -1,7 +1,7 @@
 -- How many records steps stand at one below another.
 use Rattle.std.proofs.Common.{◌≡◌, ℕ, ◌+◌, ◌<◌, Bool, List, Option, drop, length, get_or, sym, ap, ◌∙◌, max, arith}
-use Rattle.gql_ast.specs.Value.{Val}
-use Rattle.gql_plain.specs.declared.ids.Conn.{Conn}
+use Rattle.plan_ir.specs.gql_ast.Value.{Val}
+use Rattle.plan_ir.specs.gql_plain.declared.ids.Conn.{Conn}
 use Rattle.plan_ir.specs.Normal.{Normal}
 use Rattle.plan_ir.specs.NormalReach.{records_below}
 use Rattle.plan_ir.specs.NormalView.{step_before, step_of, steps_of}
@@ -9,7 +9,7 @@ use Rattle.plan_ir.specs.declared.guard.Guard.{Guard}
 use Rattle.plan_ir.specs.declared.normal.NormalPlan.{NormalPlan}
 use Rattle.plan_ir.specs.declared.normal.NormalStep.{NormalStep}
 use Rattle.plan_ir.specs.declared.normal.NormalStep.TheVariants as N
-use Rattle.store_record.specs.Keys.{Text}
+use Rattle.plan_ir.specs.store_record.Keys.{Text}
 use Rattle.store_retain.proofs.Follow.{drop_at}
 
 below_before : (x : NormalStep) (t : Normal) → records_below (step_before x t) ≡ max (records_below (step_of x)) (records_below t)

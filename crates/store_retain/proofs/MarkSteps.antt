@@ -1,12 +1,12 @@
 -- What held operations keep.
 use Rattle.std.proofs.Common.{◌≡◌, ℕ, ◌+◌, Bool, ◌||◌, List, [], ◌∷◌, ◌++◌, map, String, Global, refl, sym, ap, ◌∙◌}
 use Rattle.circular_buffer.specs.Buffer.{Buffer}
-use Rattle.gql_plain.specs.Order.{has_text}
+use Rattle.plan_ir.specs.gql_plain.Order.{has_text}
 use Rattle.plan_ir.specs.NormalMeaning.{Plan, collect_plan}
 use Rattle.plan_ir.specs.NormalReach.{records_below}
-use Rattle.store_model.specs.Reaches.{reach_at}
-use Rattle.store_model.specs.Walks.{Slots, type_of_record}
-use Rattle.store_record.specs.Keys.{Text, root}
+use Rattle.plan_ir.specs.store_model.Reaches.{reach_at}
+use Rattle.plan_ir.specs.store_model.Walks.{Slots, type_of_record}
+use Rattle.plan_ir.specs.store_record.Keys.{Text, root}
 use Rattle.store_retain.proofs.Bools.{or_assoc, or_false, any_append}
 use Rattle.store_retain.proofs.Reaching.{reach_same}
 use Rattle.store_retain.specs.Kept.{Kept, all_held, is_kept, reaches}

@@ -2,9 +2,9 @@
 use Rattle.std.proofs.Common.{◌≡◌, ℕ, zero, suc, ◌+◌, ◌<◌, ◌≤◌, true, ◌&&◌, ◌||◌, List, [], ◌∷◌, ◌++◌, map, take, length, get_or, bytes_eq, refl, sym, ap, ◌∙◌, subst, arith}
 use Rattle.std.proofs.lemmas.List.{map-append, take_all, take_more}
 use Rattle.std.specs.List.{list_any}
-use Rattle.gql_graph.proofs.TextSteps.{same_text}
-use Rattle.store_model.specs.Walks.{Fields}
-use Rattle.store_record.specs.Keys.{Text}
+use Rattle.plan_ir.proofs.gql_graph_laws.TextSteps.{same_text}
+use Rattle.plan_ir.specs.store_model.Walks.{Fields}
+use Rattle.plan_ir.specs.store_record.Keys.{Text}
 use Rattle.store_retain.proofs.AlikeSteps.{any_more, both_first, both_second}
 use Rattle.store_retain.specs.PathView.{AreRight, ArePathsOf, IsFor, IsMadeAt, IsPathOf, IsRight, path_steps, paths_steps}
 use Rattle.store_retain.specs.RoadView.{road_of}

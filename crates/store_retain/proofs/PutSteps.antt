@@ -1,9 +1,9 @@
 -- A way is put behind those of its response key, or as a new road.
 use Rattle.std.proofs.Common.{◌≡◌, ℕ, zero, suc, ◌+◌, ◌<◌, Bool, true, false, cond, List, [], ◌∷◌, ◌++◌, map, drop, set, length, get_or, Option, Some, None, option_map, bytes_eq, refl, ap, sym, ◌∙◌, subst, arith}
 use Rattle.std.proofs.lemmas.List.{length-map, map-append}
-use Rattle.gql_graph.proofs.TextSteps.{same_text}
-use Rattle.schema_tables.proofs.Finding.{suc_of}
-use Rattle.store_record.specs.Keys.{Text}
+use Rattle.plan_ir.proofs.gql_graph_laws.TextSteps.{same_text}
+use Rattle.plan_ir.proofs.schema_tables_laws.Finding.{suc_of}
+use Rattle.plan_ir.specs.store_record.Keys.{Text}
 use Rattle.store_retain.proofs.Follow.{drop_at}
 use Rattle.store_retain.specs.RoadView.{place_of, put_at, road_of, with_other}
 use Rattle.store_retain.specs.TrailView.{way_of}

@@ -1,14 +1,14 @@
 -- The walk by ways stands where the walk by the plan does.
 use Rattle.std.proofs.Common.{◌≡◌, ℕ, zero, suc, Bool, true, false, cond, List, [], ◌∷◌, ◌++◌, map, Option, Some, None, bytes_eq, refl, sym, ap, ◌∙◌, subst, append_assoc}
 use Rattle.std.specs.List.{AllZip}
-use Rattle.gql_plain.specs.Order.{has_text}
+use Rattle.plan_ir.specs.gql_plain.Order.{has_text}
 use Rattle.plan_ir.specs.NormalMeaning.{Plan, collect_plan}
-use Rattle.store_model.specs.Items.{Ask, Asked, Group, Item, asked, pointed, asked_of, collect_all, grouped_onto, groups_at, members, parts, with_asked}
-use Rattle.store_model.specs.Reaches.{from_each, links_followed, links_under, links_of, reach_asked, reach_at, reach_groups, reach_stand}
-use Rattle.store_model.specs.Walks.{Fields, Slots, field_of, standing_of, type_of_record}
-use Rattle.store_record.specs.Keys.{Text}
-use Rattle.store_record.specs.declared.record.Slot.{Slot}
-use Rattle.store_record.specs.declared.record.Slot.TheVariants.{Deleted, Alive}
+use Rattle.plan_ir.specs.store_model.Items.{Ask, Asked, Group, Item, asked, pointed, asked_of, collect_all, grouped_onto, groups_at, members, parts, with_asked}
+use Rattle.plan_ir.specs.store_model.Reaches.{from_each, links_followed, links_under, links_of, reach_asked, reach_at, reach_groups, reach_stand}
+use Rattle.plan_ir.specs.store_model.Walks.{Fields, Slots, field_of, standing_of, type_of_record}
+use Rattle.plan_ir.specs.store_record.Keys.{Text}
+use Rattle.plan_ir.specs.store_record.declared.record.Slot.{Slot}
+use Rattle.plan_ir.specs.store_record.declared.record.Slot.TheVariants.{Deleted, Alive}
 use Rattle.store_retain.specs.Reach.{after_each, reach_step}
 use Rattle.store_retain.specs.Stands.{IsAsked, IsWayOf, StandsFor}
 use Rattle.store_retain.specs.Steps.{Step, is_possible, roads_steps, slot_steps, steps_to, way_links, ways_steps}

@@ -1,9 +1,9 @@
 -- Rounds find what the reach holds.
 use Rattle.std.proofs.Common.{◌≡◌, ℕ, zero, suc, Bool, true, false, cond, ◌||◌, ◌&&◌, List, [], ◌∷◌, ◌++◌, bytes_eq, refl, sym, ap, ◌∙◌}
 use Rattle.std.specs.List.{list_any}
-use Rattle.gql_plain.specs.Order.{has_text}
-use Rattle.store_model.specs.Walks.{Slots}
-use Rattle.store_record.specs.Keys.{Text}
+use Rattle.plan_ir.specs.gql_plain.Order.{has_text}
+use Rattle.plan_ir.specs.store_model.Walks.{Slots}
+use Rattle.plan_ir.specs.store_record.Keys.{Text}
 use Rattle.store_retain.proofs.Bools.{or_assoc, or_false, any_append, any_either}
 use Rattle.store_retain.specs.Reach.{after_each, reach_step}
 use Rattle.store_retain.specs.Steps.{Found, Follows, Stand, Step, is_possible, stand_steps, stands_steps}

@@ -7,8 +7,8 @@ use Rattle.std.specs.List.{list_any}
 use Rattle.std.specs.Ordering.{nat_cmp, is_eq, match_ordering, ordering_then}
 use Rattle.std.specs.declared.cmp.Ordering.{Ordering}
 use Rattle.std.specs.declared.cmp.Ordering.TheVariants.{Less, Equal, Greater}
-use Rattle.gql_graph.proofs.TextSteps.{same_text}
-use Rattle.store_record.specs.Keys.{Text}
+use Rattle.plan_ir.proofs.gql_graph_laws.TextSteps.{same_text}
+use Rattle.plan_ir.specs.store_record.Keys.{Text}
 use Rattle.store_retain.proofs.Bools.{or_assoc, or_false, or_twice}
 use Rattle.store_retain.specs.FoundView.{stand_of}
 use Rattle.store_retain.specs.Steps.{Stand}

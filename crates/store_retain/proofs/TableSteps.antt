@@ -2,8 +2,8 @@
 use Rattle.std.proofs.Common.{◌≡◌, ℕ, zero, suc, ◌+◌, ◌<◌, ◌≤◌, Bool, true, false, cond, ◌&&◌, List, [], ◌∷◌, ◌++◌, drop, length, get_or, Option, Some, None, refl, sym, ap, ◌∙◌, subst, append_assoc, arith}
 use Rattle.std.proofs.lemmas.List.{append-nil}
 use Rattle.std.specs.List.{AllZip}
-use Rattle.gql_ast.specs.Value.{Val}
-use Rattle.gql_plain.specs.declared.ids.Conn.{Conn}
+use Rattle.plan_ir.specs.gql_ast.Value.{Val}
+use Rattle.plan_ir.specs.gql_plain.declared.ids.Conn.{Conn}
 use Rattle.plan_ir.specs.Normal.{Normal, depth, done, guarded}
 use Rattle.plan_ir.specs.NormalMeaning.{Plan, ask_step, below_step, collect_steps, guard_passes, object_form, type_passes, typename_ask}
 use Rattle.plan_ir.specs.NormalView.{step_before, step_of, steps_of}
@@ -11,10 +11,10 @@ use Rattle.plan_ir.specs.declared.guard.Guard.{Guard}
 use Rattle.plan_ir.specs.declared.normal.NormalPlan.{NormalPlan}
 use Rattle.plan_ir.specs.declared.normal.NormalStep.{NormalStep}
 use Rattle.plan_ir.specs.declared.normal.NormalStep.TheVariants as N
-use Rattle.schema_types.specs.Environments.{Values}
-use Rattle.store_model.specs.Items.{Asked, Below, Item, asked, pointed, asked_of, handle_of, key_of, leaf}
-use Rattle.store_model.specs.Reaches.{types_of}
-use Rattle.store_record.specs.Keys.{Text}
+use Rattle.plan_ir.specs.schema_types.Environments.{Values}
+use Rattle.plan_ir.specs.store_model.Items.{Asked, Below, Item, asked, pointed, asked_of, handle_of, key_of, leaf}
+use Rattle.plan_ir.specs.store_model.Reaches.{types_of}
+use Rattle.plan_ir.specs.store_record.Keys.{Text}
 use Rattle.store_retain.proofs.Follow.{drop_at}
 use Rattle.store_retain.proofs.Reaching.{zip_append}
 use Rattle.store_retain.specs.Stands.{Adds, Begins, IsAsked, IsWayOf, StandsFor, asked_by}

@@ -2,10 +2,10 @@
 use Rattle.std.specs.Prelude.{ℕ, Bool, List, [], ◌∷◌, ◌++◌, map, cond, bytes_eq, Option, Some, None}
 use Rattle.std.specs.List.{list_any}
 use Rattle.circular_buffer.specs.Buffer.{keep_last}
-use Rattle.gql_plain.specs.Order.{has_text}
+use Rattle.plan_ir.specs.gql_plain.Order.{has_text}
 use Rattle.plan_ir.specs.NormalReach.{plan_reaches}
-use Rattle.store_model.specs.Walks.{Slots, type_of_record}
-use Rattle.store_record.specs.Keys.{Text, root}
+use Rattle.plan_ir.specs.store_model.Walks.{Slots, type_of_record}
+use Rattle.plan_ir.specs.store_record.Keys.{Text, root}
 use Rattle.store_retain.specs.declared.held.Held.{Held}
 
 -- how many released operations are kept at most, the live handles in order of start, and the released operations, the latest last

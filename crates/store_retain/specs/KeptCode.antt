@@ -1,7 +1,7 @@
 -- The code of what is retained.
 use Rattle.std.specs.Prelude.{ℕ, List, refl}
 use Rattle.std.specs.Coded.{Coded, code_by, coded×, coded_list, coded_ℕ}
-use Rattle.store_record.specs.Keys.{Text}
+use Rattle.plan_ir.specs.store_record.Keys.{Text}
 use Rattle.store_retain.specs.Kept.{Kept}
 use Rattle.store_retain.specs.contracts.held.Held as held
 use Rattle.store_retain.specs.declared.held.Held.{Held}

@@ -1,8 +1,8 @@
 -- What is followed, as it is kept.
 use Rattle.std.specs.Prelude.{◌≡◌, ℕ, zero, suc, List, [], ◌∷◌, ◌++◌, map, Option, Some, None}
 use Rattle.std.specs.List.{AllByRecursion}
-use Rattle.store_model.specs.Walks.{Fields}
-use Rattle.store_record.specs.Keys.{Text}
+use Rattle.plan_ir.specs.store_model.Walks.{Fields}
+use Rattle.plan_ir.specs.store_record.Keys.{Text}
 use Rattle.store_retain.specs.Steps.{Alike, Step, road_steps, roads_steps, row_steps, ways_steps}
 use Rattle.store_retain.specs.TrailView.{way_at}
 use Rattle.store_retain.specs.Ways.{Parts, Road}

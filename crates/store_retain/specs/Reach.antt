@@ -1,7 +1,7 @@
 -- The ids that a walk by ways stands at.
 use Rattle.std.specs.Prelude.{ℕ, zero, suc, List, [], ◌∷◌, ◌++◌, cond}
-use Rattle.store_record.specs.Keys.{Text}
-use Rattle.store_model.specs.Walks.{Slots}
+use Rattle.plan_ir.specs.store_record.Keys.{Text}
+use Rattle.plan_ir.specs.store_model.Walks.{Slots}
 use Rattle.store_retain.specs.Ways.{Parts}
 use Rattle.store_retain.specs.Steps.{Step, is_possible, stand_steps}
 

@@ -5,8 +5,8 @@ use Rattle.std.specs.Cmp.Lexicographic.{slice_cmp}
 use Rattle.std.specs.Ordering.{nat_cmp}
 use Rattle.std.specs.declared.alloc.Global.{Global}
 use Rattle.std.specs.declared.vec.Vec.{Vec}
-use Rattle.schema_tables.specs.Places.{first_at}
-use Rattle.store_record.specs.Keys.{Text}
+use Rattle.plan_ir.specs.schema_tables.Places.{first_at}
+use Rattle.plan_ir.specs.store_record.Keys.{Text}
 use Rattle.store_retain.specs.TrailView.{way_at, way_of}
 use Rattle.store_retain.specs.Ways as ways
 use Rattle.store_retain.specs.Ways.{Parts, Way}

@@ -4,10 +4,10 @@ use Rattle.std.specs.Prelude.{◌≡◌, ℕ, zero, suc, List, [], ◌∷◌, �
 use Rattle.std.specs.List.{AllZip}
 use Rattle.plan_ir.specs.Normal.{Normal}
 use Rattle.plan_ir.specs.NormalMeaning.{Plan, collect_plan, collect_steps}
-use Rattle.schema_types.specs.Environments.{Values}
-use Rattle.store_model.specs.Items.{Ask, Asked, asked_of, handle_of, key_of}
-use Rattle.store_model.specs.Reaches.{types_of}
-use Rattle.store_record.specs.Keys.{Text}
+use Rattle.plan_ir.specs.schema_types.Environments.{Values}
+use Rattle.plan_ir.specs.store_model.Items.{Ask, Asked, asked_of, handle_of, key_of}
+use Rattle.plan_ir.specs.store_model.Reaches.{types_of}
+use Rattle.plan_ir.specs.store_record.Keys.{Text}
 use Rattle.store_retain.specs.Ways.{Parts, Way, is_on, ways_in, ways_on}
 
 -- a way is what is asked

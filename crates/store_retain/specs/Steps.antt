@@ -2,12 +2,12 @@
 use Rattle.std.specs.Prelude.{◌≡◌, ℕ, Bool, false, ◌&&◌, ◌||◌, List, [], ◌∷◌, ◌++◌, map, bytes_eq, Option, Some, None}
 use Rattle.std.specs.FinMap as map
 use Rattle.std.specs.List.{list_any}
-use Rattle.gql_plain.specs.Order.{has_text}
-use Rattle.store_record.specs.Keys.{Text}
-use Rattle.store_record.specs.declared.record.Slot.{Slot}
-use Rattle.store_record.specs.declared.record.Slot.TheVariants.{Deleted, Alive}
-use Rattle.store_model.specs.Reaches.{links_of, links_under}
-use Rattle.store_model.specs.Walks.{Fields, Slots, field_of, type_of_record}
+use Rattle.plan_ir.specs.gql_plain.Order.{has_text}
+use Rattle.plan_ir.specs.store_record.Keys.{Text}
+use Rattle.plan_ir.specs.store_record.declared.record.Slot.{Slot}
+use Rattle.plan_ir.specs.store_record.declared.record.Slot.TheVariants.{Deleted, Alive}
+use Rattle.plan_ir.specs.store_model.Reaches.{links_of, links_under}
+use Rattle.plan_ir.specs.store_model.Walks.{Fields, Slots, field_of, type_of_record}
 use Rattle.store_source.specs.Records.{Records}
 use Rattle.store_retain.specs.Ways.{Parts, Way, Road, below_all, roads_of, ways_of}
 

@@ -1,9 +1,9 @@
 -- What a walk follows from the records of a plan (this project's own).
 use Rattle.std.specs.Prelude.{ℕ, Bool, true, ◌&&◌, List, [], ◌∷◌, ◌++◌, map, cond, bytes_eq, get_or, Option, Some, None}
 use Rattle.std.specs.Option.{option_eq}
-use Rattle.gql_plain.specs.Equal.{texts_eq}
-use Rattle.gql_plain.specs.Order.{has_text}
-use Rattle.store_record.specs.Keys.{Text}
+use Rattle.plan_ir.specs.gql_plain.Equal.{texts_eq}
+use Rattle.plan_ir.specs.gql_plain.Order.{has_text}
+use Rattle.plan_ir.specs.store_record.Keys.{Text}
 
 -- a field that is followed: the object types that it is asked of, none where of every one; its response key; the key that it is
 -- stored under, and that of its connection; the possible types of what it leads to; the number of the part that stands below

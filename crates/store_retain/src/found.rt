@@ -1,12 +1,12 @@
 //! What a walk finds.
 ghost use Rattle.std.specs.Prelude.{◌≡◌, ◌||◌, Bool, [], map, bytes_eq, IfOk, OnOk};
 ghost use Rattle.std.specs.List.{list_any};
-ghost use Rattle.gql_plain.specs.Order.{has_text};
-ghost use Rattle.store_record.specs.Keys.{Text};
+ghost use Rattle.plan_ir.specs.gql_plain.Order.{has_text};
+ghost use Rattle.plan_ir.specs.store_record.Keys.{Text};
 ghost use Rattle.store_retain.specs.FoundView.{stand_of};
 ghost use Rattle.store_retain.specs.Steps.{Stand};
 
-use gql_plain::{Ids, NoMemory, Words};
+use plan_ir::{Ids, NoMemory, Words};
 use std::alloc::Global;
 use std::collections::BTreeSet;
 use std::marker::Model;

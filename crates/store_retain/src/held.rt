@@ -1,8 +1,6 @@
 //! What is held under a handle.
-use gql_plain::Name;
-use plan_ir::NormalPlan;
+use plan_ir::{Env, Name, NormalPlan};
 use plan_order::KeptReader;
-use schema_values::Env;
 use std::rc::Rc;
 
 /// An operation, its plans, and the values of its variables.

@@ -3,8 +3,7 @@ ghost use Rattle.std.specs.Prelude.{◌≡◌, ◌+◌, IfOk};
 ghost use Rattle.plan_ir.specs.NormalReach as reach;
 ghost use Rattle.plan_ir.specs.NormalView.{step_of};
 
-use gql_plain::NoMemory;
-use plan_ir::{NormalStep, NormalSteps};
+use plan_ir::{NoMemory, NormalStep, NormalSteps};
 
 /// How many records a walk by these steps stands at one below another, the first one not counted.
 #[cycle(levels)]

@@ -19,3 +19,4 @@ mod walk;
 
 pub use held::Held;
 pub use retained::Retained;
+pub use store_source::{Flat, RecordSource, Versions};

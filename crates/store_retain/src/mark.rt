@@ -1,7 +1,7 @@
 //! The ids that held operations keep.
 ghost use Rattle.std.specs.Prelude.{◌≡◌, ◌∷◌, ◌||◌, [], map, IfOk, OnOk};
-ghost use Rattle.gql_plain.specs.Order.{has_text};
-ghost use Rattle.store_record.specs.Keys.{Text};
+ghost use Rattle.plan_ir.specs.gql_plain.Order.{has_text};
+ghost use Rattle.plan_ir.specs.store_record.Keys.{Text};
 ghost use Rattle.store_retain.specs.Kept.{is_kept, reaches};
 ghost use Rattle.store_retain.specs.Steps.{slots_of};
 
@@ -11,8 +11,8 @@ use crate::levels::{one_more, records_below};
 use crate::table::Table;
 use crate::walk::{Store, walk};
 use circular_buffer::HeapCircularBuffer;
-use gql_plain::{Ids, NoMemory, Words};
 use indexmap::IndexMap;
+use plan_ir::{Ids, NoMemory, Words};
 use std::alloc::Global;
 use store_source::RecordSource;
 

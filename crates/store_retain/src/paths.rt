@@ -5,7 +5,7 @@ ghost use Rattle.store_retain.specs.RoadView.{road_of, table_of};
 
 use crate::roads::{Road, numbers_below, roads_from, unlike};
 use crate::trail::{Trail, TrailAt};
-use gql_plain::NoMemory;
+use plan_ir::NoMemory;
 use std::alloc::Global;
 use std::collections::BTreeMap;
 

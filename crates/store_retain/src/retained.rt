@@ -1,7 +1,7 @@
 //! The operations that are retained.
 ghost use Rattle.std.specs.Prelude.{◌≡◌, ◌≤◌, [], true, false, length, option_copied, IfOk, OnOk, OnErr};
-ghost use Rattle.gql_plain.specs.Order.{has_text};
-ghost use Rattle.store_record.specs.Keys.{Text};
+ghost use Rattle.plan_ir.specs.gql_plain.Order.{has_text};
+ghost use Rattle.plan_ir.specs.store_record.Keys.{Text};
 ghost use Rattle.store_retain.specs.Kept as spec;
 ghost use Rattle.store_retain.specs.Kept.{all_held, held_under, is_kept, is_live};
 ghost use Rattle.store_retain.specs.KeptView.{live_of};
@@ -11,8 +11,8 @@ use crate::found::Found;
 use crate::held::Held;
 use crate::mark::{mark_live, mark_released};
 use circular_buffer::HeapCircularBuffer;
-use gql_plain::{Ids, NoMemory, Words};
 use indexmap::IndexMap;
+use plan_ir::{Ids, NoMemory, Words};
 use std::alloc::Global;
 use std::marker::Model;
 use store_source::RecordSource;

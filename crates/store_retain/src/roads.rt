@@ -6,7 +6,7 @@ ghost use Rattle.store_retain.specs.TrailView.{way_at, way_of};
 ghost use Rattle.store_retain.specs.Ways.{below_all, roads_of, roads_onto, ways_in, ways_of, ways_on, with_way};
 
 use crate::trail::{Trail, TrailAt};
-use gql_plain::NoMemory;
+use plan_ir::NoMemory;
 use std::alloc::Global;
 use std::collections::BTreeMap;
 

@@ -1,26 +1,25 @@
 //! The parts of a plan in the environment of its operation, each by its number.
 ghost use Rattle.std.specs.Prelude.{◌≡◌, ◌&&◌, ◌||◌, ℕ, [], ◌∷◌, map, bytes_eq, None, option_map, IfOk, OnOk};
-ghost use Rattle.gql_plain.specs.Order.{has_text};
+ghost use Rattle.plan_ir.specs.gql_plain.Order.{has_text};
 ghost use Rattle.plan_ir.specs.Normal.{done, guarded};
 ghost use Rattle.plan_ir.specs.NormalMeaning.{ask_step, connection_of_step, guard_passes as passes, type_passes, typename_ask};
 ghost use Rattle.plan_ir.specs.NormalView.{step_of};
-ghost use Rattle.store_model.specs.Items as items;
-ghost use Rattle.store_model.specs.Items.{handle_of, key_of};
-ghost use Rattle.store_record.specs.Keys as keys;
-ghost use Rattle.store_record.specs.Keys.{Text};
+ghost use Rattle.plan_ir.specs.store_model.Items as items;
+ghost use Rattle.plan_ir.specs.store_model.Items.{handle_of, key_of};
+ghost use Rattle.plan_ir.specs.store_record.Keys as keys;
+ghost use Rattle.plan_ir.specs.store_record.Keys.{Text};
 ghost use Rattle.store_retain.specs.RoadView.{table_of};
 ghost use Rattle.store_retain.specs.Stands.{Adds, Begins, StandsFor, asked_by};
 ghost use Rattle.store_retain.specs.TrailView.{way_of};
 ghost use Rattle.store_retain.specs.Ways.{Parts, is_on};
 
 use crate::trail::Trail;
-use gql_ast::Arguments;
-use gql_plain::{Conn, Ids, Name, NoMemory, Pairs, Words};
 use plan_groups::guard_passes;
-use plan_ir::{Guard, NormalStep, NormalSteps};
-use schema_values::{Env, evaluate_arguments};
+use plan_ir::{
+    Arguments, Conn, Env, Guard, Ids, Name, NoMemory, NormalStep, NormalSteps, Pairs, Words,
+    evaluate_arguments, field_key, handle_key,
+};
 use std::alloc::Global;
-use store_record::{field_key, handle_key};
 
 /// Parts by their numbers. Number 0 has no trail: it stands below leaves.
 #[derive(Drop)]

@@ -3,7 +3,7 @@ ghost use Rattle.std.specs.Prelude.{◌≡◌};
 ghost use Rattle.store_retain.specs.TrailView.{way_of};
 ghost use Rattle.store_retain.specs.Ways.{is_like, is_on};
 
-use gql_plain::{Ids, Words};
+use plan_ir::{Ids, Words};
 
 /// A field that is followed.
 #[derive(Drop)]

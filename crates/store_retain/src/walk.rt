@@ -4,12 +4,12 @@
 //! step further. Where it goes on next is a set, so a record is opened once for the same parts at
 //! the same depth, however many ways lead to it.
 ghost use Rattle.std.specs.Prelude.{◌≡◌, ◌||◌, [], ◌∷◌, map, Some, option_copied, OnOk};
-ghost use Rattle.gql_plain.specs.Order.{has_text};
-ghost use Rattle.store_model.specs.Entries.{some_id, some_ids};
-ghost use Rattle.store_model.specs.Reaches.{links_of, links_under};
-ghost use Rattle.store_model.specs.Walks.{field_of, type_of_record};
-ghost use Rattle.store_record.specs.Keys.{Text};
-ghost use Rattle.store_record.specs.declared.record.Slot.TheVariants.{Alive};
+ghost use Rattle.plan_ir.specs.gql_plain.Order.{has_text};
+ghost use Rattle.plan_ir.specs.store_model.Entries.{some_id, some_ids};
+ghost use Rattle.plan_ir.specs.store_model.Reaches.{links_of, links_under};
+ghost use Rattle.plan_ir.specs.store_model.Walks.{field_of, type_of_record};
+ghost use Rattle.plan_ir.specs.store_record.Keys.{Text};
+ghost use Rattle.plan_ir.specs.store_record.declared.record.Slot.TheVariants.{Alive};
 ghost use Rattle.store_retain.specs.FoundView.{stand_of};
 ghost use Rattle.store_retain.specs.PathView.{AreRight, path_steps, paths_steps};
 ghost use Rattle.store_retain.specs.Reach.{reach_step};
@@ -21,9 +21,8 @@ ghost use Rattle.store_retain.specs.TrailView.{way_of};
 use crate::found::{Found, Stands};
 use crate::paths::{Known, Path};
 use crate::trail::Trail;
-use gql_plain::{Id, Ids, NoMemory, OptIds, Words};
+use plan_ir::{Field, Id, Ids, NoMemory, OptIds, Record, Slot, Words};
 use std::alloc::Global;
-use store_record::{Field, Record, Slot};
 use store_source::RecordSource;
 
 /// Where records are looked up, and the root type of the operation.

@@ -2,15 +2,15 @@
 use Rattle.std.proofs.Common.{◌≡◌, ℕ, ◌+◌, List, [], ◌∷◌, subst, sym, ◌∙◌}
 use Rattle.std.proofs.lemmas.List.Sorted.{IsPermutation-sym, length_permutation}
 use Rattle.std.specs.List.Sorted.{IsPermutation}
-use Rattle.gql_order.proofs.Moved.{sorted_of_moved}
-use Rattle.gql_plain.proofs.SortedTexts.{AreInOrder-sorted_texts, AreSortedOf-is, has_text-Decides, has_text-sorted_texts}
-use Rattle.gql_plain.specs.Order.{AreSortedOf, sorted_texts}
+use Rattle.store_read.proofs.gql_order_laws.Moved.{sorted_of_moved}
+use Rattle.plan_ir.proofs.gql_plain_laws.SortedTexts.{AreInOrder-sorted_texts, AreSortedOf-is, has_text-Decides, has_text-sorted_texts}
+use Rattle.plan_ir.specs.gql_plain.Order.{AreSortedOf, sorted_texts}
 use Rattle.plan_ir.specs.Reader.{Reader}
 use Rattle.plan_ir.specs.ReaderMeaning.{collect_reader, plan_reads, records_below}
 use Rattle.plan_order.specs.Alike.{AreAlike, ReadAlike, part_of}
-use Rattle.schema_types.specs.Environments.{Values}
-use Rattle.store_model.specs.Walks.{Found, Slots, or_null, read_at, reading, standings}
-use Rattle.store_record.specs.Keys.{Text}
+use Rattle.plan_ir.specs.schema_types.Environments.{Values}
+use Rattle.plan_ir.specs.store_model.Walks.{Found, Slots, or_null, read_at, reading, standings}
+use Rattle.plan_ir.specs.store_record.Keys.{Text}
 
 are_sorted : (texts : List (List ℕ)) → AreSortedOf texts (sorted_texts texts)
 are_sorted texts = (

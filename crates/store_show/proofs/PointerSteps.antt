@@ -9,12 +9,12 @@ use Rattle.plan_ir.specs.declared.reader.ReaderStep.{ReaderStep}
 use Rattle.plan_ir.specs.declared.reader.ReaderStep.TheVariants as N
 use Rattle.plan_order.specs.Responses.{fragments}
 use Rattle.plan_order.specs.Walk.{is_none}
-use Rattle.schema_types.specs.Environments.{Values}
-use Rattle.store_model.specs.Items.{Item, asked, pointed}
+use Rattle.plan_ir.specs.schema_types.Environments.{Values}
+use Rattle.plan_ir.specs.store_model.Items.{Item, asked, pointed}
 use Rattle.store_read.proofs.GatherSteps.{steps_left}
 use Rattle.store_read.proofs.LoopSteps.{drop_at}
 use Rattle.store_show.specs.Showing.{has_pointed}
-use Rattle.store_record.specs.Keys.{Text}
+use Rattle.plan_ir.specs.store_record.Keys.{Text}
 
 -- ---- whether no step is a pointer
 

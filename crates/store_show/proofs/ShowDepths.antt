@@ -1,18 +1,18 @@
 -- What stands below a step is less deep than the step.
 use Rattle.std.proofs.Common.{◌≡◌, ℕ, ◌+◌, ◌<◌, Bool, List, Option, Some, None, ap, ◌∙◌, arith}
-use Rattle.gql_ast.specs.Value.{Val}
-use Rattle.gql_plain.specs.declared.ids.Conn.{Conn}
+use Rattle.plan_ir.specs.gql_ast.Value.{Val}
+use Rattle.plan_ir.specs.gql_plain.declared.ids.Conn.{Conn}
 use Rattle.plan_ir.specs.Reader.{depth, done}
 use Rattle.plan_ir.specs.ReaderMeaning.{ReaderPart, field_item}
 use Rattle.plan_ir.specs.ReaderView.{step_of}
 use Rattle.plan_ir.specs.declared.reader.ReaderPlan.{ReaderPlan}
 use Rattle.plan_ir.specs.declared.reader.ReaderStep.{ReaderStep}
 use Rattle.plan_ir.specs.declared.reader.ReaderStep.TheVariants as N
-use Rattle.schema_types.specs.Environments.{Values}
-use Rattle.store_model.specs.Items.{Ask, Item, Pointer, asked, pointed}
+use Rattle.plan_ir.specs.schema_types.Environments.{Values}
+use Rattle.plan_ir.specs.store_model.Items.{Ask, Item, Pointer, asked, pointed}
 use Rattle.store_read.specs.FieldView.{asked_at, part_at, pointer_of}
 use Rattle.store_read.specs.declared.field.FieldAt.{FieldAt}
-use Rattle.store_record.specs.Keys.{Text}
+use Rattle.plan_ir.specs.store_record.Keys.{Text}
 
 item_depth : Item ReaderPart → ℕ
 item_depth (asked a) = depth a.part.steps

@@ -1,22 +1,22 @@
 -- What a step shows and meets by the items that it gives.
 use Rattle.std.proofs.Common.{◌≡◌, Bool, true, false, codes, List, [], ◌∷◌, ◌++◌, length, Option, option_map, append-nil, refl, sym, ap, ◌∙◌}
-use Rattle.gql_ast.specs.Value.{Val}
-use Rattle.gql_plain.specs.declared.ids.Conn.{Conn}
+use Rattle.plan_ir.specs.gql_ast.Value.{Val}
+use Rattle.plan_ir.specs.gql_plain.declared.ids.Conn.{Conn}
 use Rattle.json.specs.Token as token
 use Rattle.json.specs.Token.{Token}
 use Rattle.plan_ir.specs.NormalMeaning.{below_step, connection_of_step, object_form}
 use Rattle.plan_ir.specs.Reader.{Reader, done, object}
 use Rattle.plan_ir.specs.ReaderMeaning.{ReaderPart, collect_reading}
 use Rattle.plan_order.specs.Walk.{Span, field_met, field_shown, fields_met, fields_shown, is_taken, pointers_met, pointers_shown}
-use Rattle.schema_types.specs.Environments.{Values, arguments_in_environment}
-use Rattle.store_model.specs.Items.{Asked, Form, Item, Pointer, asked, pointed}
-use Rattle.store_model.specs.Walks.{Fields, Next, Trace, join_traces, mark_members, pointer_at, still}
+use Rattle.plan_ir.specs.schema_types.Environments.{Values, arguments_in_environment}
+use Rattle.plan_ir.specs.store_model.Items.{Asked, Form, Item, Pointer, asked, pointed}
+use Rattle.plan_ir.specs.store_model.Walks.{Fields, Next, Trace, join_traces, mark_members, pointer_at, still}
 use Rattle.store_show.proofs.StoodSteps.{stood_joined, stood_still}
 use Rattle.store_read.specs.Meeting.{Meeting}
 use Rattle.store_show.specs.Showing.{has_pointed, identity, pairs_tokens}
 use Rattle.store_show.proofs.ShowTokens.{marks_written}
 use Rattle.store_show.specs.Stood.{stood_onto}
-use Rattle.store_record.specs.Keys.{Text}
+use Rattle.plan_ir.specs.store_record.Keys.{Text}
 
 -- nothing behind a trace
 joined_still : (m : Meeting) (t : Trace) → stood_onto m t ≡ stood_onto m (join_traces t still)

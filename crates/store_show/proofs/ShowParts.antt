@@ -1,21 +1,21 @@
 -- Fields around pointers, one part after another, and a record of a possible type.
 use Rattle.std.proofs.Common.{◌≡◌, ℕ, ◌+◌, ◌≤◌, Bool, true, false, cond, List, ◌++◌, length, Some, sym, ap, arith}
 use Rattle.std.proofs.lemmas.List.{length-append}
-use Rattle.gql_plain.specs.Tree.{Tree}
+use Rattle.plan_ir.specs.gql_plain.Tree.{Tree}
 use Rattle.json.specs.Token.{Token}
 use Rattle.plan_ir.specs.Reader.{Reader}
 use Rattle.plan_ir.specs.ReaderMeaning.{ReaderPart, collect_reading}
 use Rattle.plan_order.specs.Responses.{fragments}
 use Rattle.plan_order.specs.Walk.{fields_alone, fields_around, is_none, object_in_order}
-use Rattle.schema_types.specs.Environments.{Values}
-use Rattle.store_model.specs.Walks.{Fields, Next, Shown, Trace, join_traces, shown_object}
+use Rattle.plan_ir.specs.schema_types.Environments.{Values}
+use Rattle.plan_ir.specs.store_model.Walks.{Fields, Next, Shown, Trace, join_traces, shown_object}
 use Rattle.store_show.proofs.StoodSteps.{stood_twice}
 use Rattle.store_read.specs.Meeting.{Meeting}
 use Rattle.store_read.specs.Walked.{if_possible}
 use Rattle.store_show.proofs.ShowTokens.{pairs-append, then_two}
 use Rattle.store_show.specs.Showing.{pairs_tokens}
 use Rattle.store_show.specs.Stood.{stood_onto}
-use Rattle.store_record.specs.Keys.{Text}
+use Rattle.plan_ir.specs.store_record.Keys.{Text}
 
 -- ---- three parts
 

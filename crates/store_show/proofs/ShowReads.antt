@@ -1,19 +1,19 @@
 -- What the walk that writes gives at an id, by what stands there.
 use Rattle.std.proofs.Common.{◌≡◌, ℕ, suc, List, Option, Some, sym, ap, ◌∙◌}
-use Rattle.gql_plain.specs.Order.{has_text}
+use Rattle.plan_ir.specs.gql_plain.Order.{has_text}
 use Rattle.plan_ir.specs.Reader.{Reader}
 use Rattle.plan_order.specs.Walk.{object_in_order, stand_in_order}
-use Rattle.schema_types.specs.Environments.{Values}
-use Rattle.store_model.specs.Walks.{Found, field_of, standing_of, type_of_record}
+use Rattle.plan_ir.specs.schema_types.Environments.{Values}
+use Rattle.plan_ir.specs.store_model.Walks.{Found, field_of, standing_of, type_of_record}
 use Rattle.store_read.proofs.ReadSteps.{possible_stood, stood_and}
 use Rattle.store_read.specs.Reading.{slots}
 use Rattle.store_show.specs.Showing.{below, walks}
 use Rattle.store_read.specs.Walked.{if_possible}
-use Rattle.store_record.specs.Keys.{Text}
-use Rattle.store_record.specs.declared.record.Record.{Record}
-use Rattle.store_record.specs.declared.record.Slot.{Slot}
-use Rattle.store_record.specs.declared.record.Slot.TheVariants.{Alive}
-use Rattle.store_source.specs.Records.{Records}
+use Rattle.plan_ir.specs.store_record.Keys.{Text}
+use Rattle.plan_ir.specs.store_record.declared.record.Record.{Record}
+use Rattle.plan_ir.specs.store_record.declared.record.Slot.{Slot}
+use Rattle.plan_ir.specs.store_record.declared.record.Slot.TheVariants.{Alive}
+use Rattle.store_read.specs.store_source.Records.{Records}
 
 module _ (m : Records) (root owner : Text) (env : Values) (types : List Text) (steps : Reader) (id : Text) where
   abbrev stands : ℕ → Option Slot → Found

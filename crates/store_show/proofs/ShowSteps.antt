@@ -6,16 +6,16 @@ use Rattle.plan_ir.specs.ReaderMeaning.{ReaderPart, collect_reading}
 use Rattle.plan_ir.specs.ReaderView.{step_of, steps_of}
 use Rattle.plan_ir.specs.declared.reader.ReaderStep.{ReaderStep}
 use Rattle.plan_order.specs.Walk.{Span, field_met, field_shown, fields_met, fields_shown, is_taken, pointers_met, pointers_shown}
-use Rattle.schema_types.specs.Environments.{Values}
-use Rattle.store_model.specs.Items.{Item, asked, pointed}
-use Rattle.store_model.specs.Walks.{Fields, Next, Trace, join_traces, pointer_at}
+use Rattle.plan_ir.specs.schema_types.Environments.{Values}
+use Rattle.plan_ir.specs.store_model.Items.{Item, asked, pointed}
+use Rattle.plan_ir.specs.store_model.Walks.{Fields, Next, Trace, join_traces, pointer_at}
 use Rattle.store_read.proofs.GatherSteps.{steps_left}
 use Rattle.store_show.proofs.StoodSteps.{stood_joined}
 use Rattle.store_read.specs.Meeting.{Meeting}
 use Rattle.store_show.proofs.ShowTokens.{pairs-append}
 use Rattle.store_show.specs.Showing.{pairs_tokens}
 use Rattle.store_show.specs.Stood.{stood_onto}
-use Rattle.store_record.specs.Keys.{Text}
+use Rattle.plan_ir.specs.store_record.Keys.{Text}
 
 -- ---- traces
 

@@ -1,15 +1,15 @@
 -- What is written part by part is the whole.
 use Rattle.std.proofs.Common.{◌≡◌, codes, List, [], ◌∷◌, ◌++◌, Option, Some, None, append_assoc, append-nil, refl, sym, ap, ◌∙◌}
-use Rattle.gql_plain.specs.ToJson.{members_tokens, tree_tokens, trees_tokens}
-use Rattle.gql_plain.specs.Tree.{Tree, members_of, trees_of}
+use Rattle.plan_ir.specs.gql_plain.ToJson.{members_tokens, tree_tokens, trees_tokens}
+use Rattle.plan_ir.specs.gql_plain.Tree.{Tree, members_of, trees_of}
 use Rattle.json.specs.Token as token
 use Rattle.json.specs.Token.{Token}
 use Rattle.plan_order.specs.Walk.{found_member}
-use Rattle.store_model.specs.Walks.{Shown, mark_members, or_null, shown_object}
+use Rattle.plan_ir.specs.store_model.Walks.{Shown, mark_members, or_null, shown_object}
 use Rattle.store_show.specs.Showing.{elements_tokens, identity, lead_of, led, pairs_tokens}
 use Rattle.store_show.specs.declared.lead.Lead.{Lead}
 use Rattle.store_show.specs.declared.lead.Lead.TheVariants.{Member, Alone}
-use Rattle.store_record.specs.Keys.{Text}
+use Rattle.plan_ir.specs.store_record.Keys.{Text}
 
 pub then_two : (a b c x y w : List Token) → b ≡ a ++ x → c ≡ b ++ y → x ++ y ≡ w → c ≡ a ++ w
 then_two a b c x y w first second whole = second ∙ ap (λ ts. ts ++ y) first ∙ append_assoc a x y ∙ ap (λ ts. a ++ ts) whole

@@ -1,27 +1,27 @@
 -- The walk that writes tells what the read by the plan tells.
 use Rattle.std.proofs.Common.{◌≡◌, ℕ, ◌+◌, ◌≤◌, false, List, [], ◌++◌, length, subst, sym, ap, ◌∙◌, arith}
 use Rattle.std.proofs.lemmas.List.Sorted.{IsPermutation-sym, length_permutation}
-use Rattle.gql_order.proofs.Moved.{sorted_of_moved}
-use Rattle.gql_plain.proofs.SortedTexts.{AreSortedOf-is}
-use Rattle.gql_plain.specs.Order.{AreSortedOf}
-use Rattle.gql_plain.specs.ToJson.{tree_tokens}
+use Rattle.store_read.proofs.gql_order_laws.Moved.{sorted_of_moved}
+use Rattle.plan_ir.proofs.gql_plain_laws.SortedTexts.{AreSortedOf-is}
+use Rattle.plan_ir.specs.gql_plain.Order.{AreSortedOf}
+use Rattle.plan_ir.specs.gql_plain.ToJson.{tree_tokens}
 use Rattle.json.specs.Token.{Token}
 use Rattle.plan_ir.specs.Reader.{Reader}
 use Rattle.plan_ir.specs.ReaderMeaning.{plan_reads, records_below}
 use Rattle.plan_order.proofs.OrderedReads.{ordered_walks_read_alike}
 use Rattle.plan_order.specs.Alike.{AreAlike}
 use Rattle.plan_order.specs.Ordered.{IsOrdered}
-use Rattle.schema_types.specs.Environments.{Values}
-use Rattle.store_model.specs.Walks.{Found, or_null, reading, standings, type_of_record}
+use Rattle.plan_ir.specs.schema_types.Environments.{Values}
+use Rattle.plan_ir.specs.store_model.Walks.{Found, or_null, reading, standings, type_of_record}
 use Rattle.store_read.specs.Meeting.{Meeting}
 use Rattle.store_read.specs.Reading.{slots}
 use Rattle.store_show.proofs.ShowTokens.{led_alone}
 use Rattle.store_show.proofs.StoodSteps.{stood_sorted}
 use Rattle.store_show.specs.Showing.{led, walks}
 use Rattle.store_show.specs.declared.lead.Lead.TheVariants.{Alone}
-use Rattle.store_record.specs.Keys.{Text}
+use Rattle.plan_ir.specs.store_record.Keys.{Text}
 use Rattle.store_show.specs.Stood.{stood_all, stood_onto}
-use Rattle.store_source.specs.Records.{Records}
+use Rattle.store_read.specs.store_source.Records.{Records}
 
 module _ (w r : Found) (alike : AreAlike w r) where
   pub alike_tokens : (a b : List Token) → b ≡ a ++ led Alone w.0 → b ≡ a ++ tree_tokens (reading r).value

@@ -3,12 +3,12 @@ use Rattle.std.proofs.Common.{◌≡◌, ℕ, suc, ◌+◌, ◌-◌, Bool, true,
 use Rattle.std.proofs.lemmas.Slice.Eq.{bytes_eq-Decides}
 use Rattle.std.specs.List.{last_or}
 use Rattle.std.specs.Str.{bytes_eq}
-use Rattle.gql_plain.proofs.SortedTexts.{has_text-Decides}
-use Rattle.gql_plain.specs.Order.{AreSortedOf, has_text}
-use Rattle.store_model.specs.Walks.{Found, Trace, join_traces, still, trace_at}
+use Rattle.plan_ir.proofs.gql_plain_laws.SortedTexts.{has_text-Decides}
+use Rattle.plan_ir.specs.gql_plain.Order.{AreSortedOf, has_text}
+use Rattle.plan_ir.specs.store_model.Walks.{Found, Trace, join_traces, still, trace_at}
 use Rattle.store_read.proofs.ReadSteps.{stood_and}
 use Rattle.store_read.specs.Meeting.{Meeting}
-use Rattle.store_record.specs.Keys.{Text}
+use Rattle.plan_ir.specs.store_record.Keys.{Text}
 use Rattle.store_show.specs.Stood.{ends_with, is_text, stood_all, stood_at, stood_onto}
 
 or_false : (b : Bool) → (b || false) ≡ b

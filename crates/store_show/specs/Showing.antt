@@ -1,22 +1,22 @@
 -- What is written of values and members, and the walk of plans by which it is.
 use Rattle.std.specs.Prelude.{ℕ, Bool, true, false, codes, List, [], ◌∷◌, ◌++◌, Option, Some, None}
-use Rattle.gql_plain.specs.ToJson.{tree_tokens}
-use Rattle.gql_plain.specs.Tree.{Tree}
+use Rattle.plan_ir.specs.gql_plain.ToJson.{tree_tokens}
+use Rattle.plan_ir.specs.gql_plain.Tree.{Tree}
 use Rattle.json.specs.Token as token
 use Rattle.json.specs.Token.{Token}
 use Rattle.plan_ir.specs.Reader.{Reader}
 use Rattle.plan_ir.specs.ReaderMeaning.{ReaderPart, collect_reading}
 use Rattle.plan_order.specs.Walk.{Span, fields_around, fields_met, fields_shown, first_part, object_in_order, ordered_at, pointers_met, pointers_shown}
-use Rattle.schema_types.specs.Environments.{Values}
-use Rattle.store_model.specs.Items.{Item, asked, pointed}
-use Rattle.store_model.specs.Walks.{Fields, Found, Next, Shown, Trace, field_of, type_of_record}
+use Rattle.plan_ir.specs.schema_types.Environments.{Values}
+use Rattle.plan_ir.specs.store_model.Items.{Item, asked, pointed}
+use Rattle.plan_ir.specs.store_model.Walks.{Fields, Found, Next, Shown, Trace, field_of, type_of_record}
 use Rattle.store_read.specs.Reading.{slots}
 use Rattle.store_show.specs.declared.lead.Lead.{Lead}
 use Rattle.store_show.specs.declared.lead.Lead.TheVariants.{Member, Alone}
 use Rattle.store_show.specs.declared.row_at.RowAt.{RowAt}
-use Rattle.store_record.specs.Keys.{Text}
-use Rattle.store_record.specs.declared.record.Slot.TheVariants.{Alive}
-use Rattle.store_source.specs.Records.{Records}
+use Rattle.plan_ir.specs.store_record.Keys.{Text}
+use Rattle.plan_ir.specs.store_record.declared.record.Slot.TheVariants.{Alive}
+use Rattle.store_read.specs.store_source.Records.{Records}
 
 -- the members of an object, without its brackets
 abbrev pub pairs_tokens : List (Text × Tree) → List Token

@@ -2,9 +2,9 @@
 use Rattle.std.specs.Prelude.{Bool, false, ◌||◌, cond, List, [], ◌∷◌, ◌++◌, Option, Some, None}
 use Rattle.std.specs.List.{last_or}
 use Rattle.std.specs.Str.{bytes_eq}
-use Rattle.store_model.specs.Walks.{Trace}
+use Rattle.plan_ir.specs.store_model.Walks.{Trace}
 use Rattle.store_read.specs.Meeting.{Meeting}
-use Rattle.store_record.specs.Keys.{Text}
+use Rattle.plan_ir.specs.store_record.Keys.{Text}
 
 -- whether there is a text, and it is this one
 abbrev pub is_text : Option Text → Text → Bool

@@ -3,8 +3,8 @@ ghost use Rattle.std.specs.Prelude.{◌≡◌, ◌++◌, ◌∷◌, [], None, On
 ghost use Rattle.json.specs.Token.{null};
 ghost use Rattle.store_show.specs.Showing.{lead_of, led};
 
-use gql_plain::NoMemory;
 use json::Writer;
+use plan_ir::NoMemory;
 
 /// Where a value is written.
 #[derive(Clone, Copy)]

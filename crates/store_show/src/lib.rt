@@ -12,4 +12,6 @@ mod span;
 mod standings;
 mod values;
 
+pub use plan_order::{KeptReader, ordered};
 pub use shown::{Seen, show};
+pub use store_read::{Flat, RecordSource, Snapshot, read};

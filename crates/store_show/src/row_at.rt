@@ -1,6 +1,5 @@
 //! The record that is shown.
-use schema_values::Env;
-use store_record::Record;
+use plan_ir::{Env, Record};
 
 /// A live record that is shown.
 #[derive(Clone, Copy)]

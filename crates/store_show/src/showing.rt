@@ -1,16 +1,16 @@
 //! The walk along records that writes what it shows.
 ghost use Rattle.std.specs.Prelude.{◌≡◌, ◌+◌, ◌≤◌, ◌++◌, ◌∷◌, [], Some, length, option_copied, IfOk, OnOk};
-ghost use Rattle.gql_plain.specs.Order.{has_text};
-ghost use Rattle.gql_plain.specs.ToJson.{tree_tokens};
-ghost use Rattle.plan_groups.specs.FieldView.{form_at};
+ghost use Rattle.plan_ir.specs.gql_plain.Order.{has_text};
+ghost use Rattle.plan_ir.specs.gql_plain.ToJson.{tree_tokens};
+ghost use Rattle.store_read.specs.plan_groups.FieldView.{form_at};
 ghost use Rattle.plan_ir.specs.Reader.{done, guarded};
 ghost use Rattle.plan_ir.specs.ReaderKeys.{keys_of};
 ghost use Rattle.plan_ir.specs.ReaderView.{step_of};
 ghost use Rattle.plan_order.specs.Responses.{fragments};
 ghost use Rattle.plan_order.specs.Walk.{field_met, field_shown, is_none, is_taken};
-ghost use Rattle.store_model.specs.Walks as walks;
-ghost use Rattle.store_model.specs.Walks.{mark_members, shown_object};
-ghost use Rattle.store_record.specs.declared.record.Slot.TheVariants.{Alive};
+ghost use Rattle.plan_ir.specs.store_model.Walks as walks;
+ghost use Rattle.plan_ir.specs.store_model.Walks.{mark_members, shown_object};
+ghost use Rattle.plan_ir.specs.store_record.declared.record.Slot.TheVariants.{Alive};
 ghost use Rattle.store_read.specs.FieldView.{asked_at, part_at, spread_at, IsKept};
 ghost use Rattle.store_show.specs.Showing.{around_at, below, elements_tokens, fields_of, has_pointed, identity, items_at, led, members_at, members_met_at, next_at, object_shown_at, pairs_tokens, pointers_at, pointers_met_at};
 ghost use Rattle.store_show.specs.Spans.{span_of};
@@ -22,16 +22,16 @@ use crate::row_at::RowAt;
 use crate::span::Span;
 use crate::standings::Standings;
 use crate::values::{lost, show_leaf, show_null};
-use gql_plain::{Id, Ids, NoMemory, Plain, SharedText, Words, write_plain};
 use json::Writer;
-use plan_groups::{Call, FormAt, connection_in, form_of_objects, guard_passes};
-use plan_ir::{Guard, ReaderPlan, ReaderStep, ReaderSteps};
+use plan_ir::{
+    Field, Guard, Id, Ids, NoMemory, Plain, ReaderPlan, ReaderStep, ReaderSteps, SharedText, Slot,
+    Words, write_plain,
+};
 use std::alloc::Global;
 use store_read::field::{FieldAt, PartAt};
 use store_read::spread::SpreadAt;
 use store_read::store::{Store, one_name, type_of};
-use store_record::{Field, Slot};
-use store_source::RecordSource;
+use store_read::{Call, FormAt, RecordSource, connection_in, form_of_objects, guard_passes};
 
 /// Writes what the record at an id shows, which may be of these types.
 #[cycle(show)]

@@ -1,24 +1,21 @@
 //! Reading a record by a plan that is in order, straight into a text.
 ghost use Rattle.std.specs.Prelude.{◌≡◌, ◌+◌, ◌≤◌, ◌++◌, map, IfOk};
-ghost use Rattle.gql_plain.specs.ToJson.{tree_tokens};
+ghost use Rattle.plan_ir.specs.gql_plain.ToJson.{tree_tokens};
 ghost use Rattle.plan_ir.specs.ReaderMeaning.{plan_reads};
 ghost use Rattle.plan_order.specs.Ordered.{IsOrdered};
-ghost use Rattle.store_model.specs.Walks.{reading, standings, type_of_record};
+ghost use Rattle.plan_ir.specs.store_model.Walks.{reading, standings, type_of_record};
 ghost use Rattle.store_read.specs.Reading.{slots};
 
 use crate::lead::Lead;
 use crate::showing::show_record;
 use crate::standings::Standings;
-use gql_order::sorted_texts;
-use gql_plain::{Id, Ids, NoMemory, Words};
 use json::Writer;
-use plan_ir::ReaderPlan;
-use schema_values::Env;
+use plan_ir::{Env, Id, Ids, NoMemory, ReaderPlan, Words};
 use std::alloc::Global;
 use store_read::field::PartAt;
 use store_read::levels::{one_more, records_below};
 use store_read::store::Store;
-use store_source::RecordSource;
+use store_read::{RecordSource, sorted_texts};
 
 /// What a read met whose data is written.
 #[derive(Drop)]

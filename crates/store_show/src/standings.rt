@@ -1,9 +1,9 @@
 //! Where a walk that writes stood.
 ghost use Rattle.std.specs.Prelude.{◌≡◌, false, [], OnOk};
-ghost use Rattle.store_model.specs.Walks.{missing_trace, trace_at};
+ghost use Rattle.plan_ir.specs.store_model.Walks.{missing_trace, trace_at};
 ghost use Rattle.store_show.specs.Stood.{ends_with, stood_onto};
 
-use gql_plain::NoMemory;
+use plan_ir::NoMemory;
 use std::alloc::Global;
 use std::marker::Model;
 

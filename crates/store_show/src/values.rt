@@ -1,14 +1,13 @@
 //! Values that no record stands below.
 ghost use Rattle.std.specs.Prelude.{◌≡◌, ◌++◌, None, option_copied, OnOk};
-ghost use Rattle.store_model.specs.Walks as walks;
+ghost use Rattle.plan_ir.specs.store_model.Walks as walks;
 ghost use Rattle.store_show.specs.Showing.{led};
 ghost use Rattle.store_show.specs.Stood.{stood_onto};
 
 use crate::lead::Lead;
 use crate::standings::Standings;
-use gql_plain::{NoMemory, Plain, write_plain};
 use json::Writer;
-use store_record::Field;
+use plan_ir::{Field, NoMemory, Plain, write_plain};
 
 /// Notes that a value is missing, and writes what stands for it.
 pub(crate) fn lost(

@@ -11,7 +11,7 @@ use Rattle.std.specs.Map.{lookup, keys_of}
 use Rattle.std.specs.Ordering.{eq_by_cmp}
 use Rattle.std.specs.String.{string_cmp}
 use Rattle.std.specs.declared.rc.Rc.{Rc}
-use Rattle.gql_plain.specs.Order.{AreInOrder}
+use Rattle.store_tree.specs.gql_plain.Order.{AreInOrder}
 use Rattle.store_record.specs.declared.record.Slot.{Slot}
 use Rattle.store_tree.proofs.ByBytes.{sorted_keys}
 use Rattle.store_tree.specs.Contents.{by_bytes}

@@ -6,7 +6,7 @@ use Rattle.std.specs.Cmp.Lexicographic.{slice_cmp, nat_list_cmp_total}
 use Rattle.std.specs.FinMap.{find, put, get, insert, remove, keys, len, contains_key, from_sorted, from_entries, get-from_sorted, get-from_entries, get-insert, get-remove, len-insert, same_map, slice_cmp-IsAntisymmetric, nat_cmp-IsAntisymmetric}
 use Rattle.std.specs.FinMap.Entries.{find-where_key}
 use Rattle.std.specs.Ordering.{eq_by_cmp, is_eq}
-use Rattle.gql_plain.specs.Order.{AreSortedOf}
+use Rattle.store_tree.specs.gql_plain.Order.{AreSortedOf}
 use Rattle.store_record.specs.declared.record.Slot.{Slot}
 use Rattle.store_tree.specs.Contents.{KeysRise, binary_digits, keys_of, without_key}
 use Rattle.store_tree.proofs.AsMap.{from_sorted-put, from_sorted-without_key}

@@ -5,12 +5,12 @@ ghost use Rattle.std.specs.Option.{option_copied};
 ghost use Rattle.store_source.specs.Entries.{records_of};
 
 use crate::source::RecordSource;
-use gql_plain::{Counts, Id, Ids, NoMemory, Steps, Words};
 use std::alloc::Global;
 use std::collections::BTreeMap;
 use std::marker::Model;
 use std::rc::Rc;
 use store_record::{Record, Shared, Slot};
+use store_tree::gql_plain::{Counts, Id, Ids, NoMemory, Steps, Words};
 
 /// The slots of ids. Copies share the slots.
 type Slots = BTreeMap<String, Rc<Slot>>;

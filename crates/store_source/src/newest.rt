@@ -4,13 +4,13 @@ ghost use Rattle.std.specs.Cmp.Lexicographic.{slice_cmp};
 ghost use Rattle.std.specs.FinMap.{find};
 ghost use Rattle.std.specs.Option.{option_copied};
 ghost use Rattle.std.specs.Ordering.{nat_cmp, eq_by_cmp};
-ghost use Rattle.gql_plain.specs.Order.{AreSortedOf};
+ghost use Rattle.store_tree.specs.gql_plain.Order.{AreSortedOf};
 ghost use Rattle.store_tree.specs.Contents.{keys_of, without_key};
 
-use gql_plain::{Ids, NoMemory, Words};
 use std::alloc::Global;
 use store_record::Slot;
 use store_tree::Item;
+use store_tree::gql_plain::{Ids, NoMemory, Words};
 
 /// The newest slot of an id, or None where no change is of the id; takes no memory.
 pub(crate) fn newest_of<'a>(changes: &'a [Item<Slot>], id: &str) -> Option<&'a Slot>

@@ -2,13 +2,13 @@
 ghost use Rattle.std.specs.Prelude.{◌≡◌, ◌+◌, ◌≤◌, IfOk};
 ghost use Rattle.std.specs.FinMap as map;
 ghost use Rattle.std.specs.Option.{option_copied};
-ghost use Rattle.gql_plain.specs.Counted.{next_count};
+ghost use Rattle.store_tree.specs.gql_plain.Counted.{next_count};
 ghost use Rattle.store_record.specs.declared.record.Slot.TheVariants.{Alive, Deleted};
 ghost use Rattle.store_source.specs.Records.{Records, most_nodes};
 
-use gql_plain::{Id, Ids, NoMemory, Steps};
 use std::rc::Rc;
 use store_record::{Record, Slot};
+use store_tree::gql_plain::{Id, Ids, NoMemory, Steps};
 
 /// A map from ids to records, live or deleted. An id without a slot is absent.
 ///

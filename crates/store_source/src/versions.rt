@@ -5,11 +5,11 @@ ghost use Rattle.store_source.specs.Records.{most_nodes};
 
 use crate::newest::{copy_all, copy_without, ids_with, newest_of, put_newest};
 use crate::source::RecordSource;
-use gql_plain::{Counts, Id, Ids, NoMemory, Steps};
 use std::alloc::Global;
 use std::marker::Model;
 use std::rc::Rc;
 use store_record::{Record, Shared, Slot};
+use store_tree::gql_plain::{Counts, Id, Ids, NoMemory, Steps};
 use store_tree::{Item, Tree};
 
 /// How many of the newest changes stand beside the tree.

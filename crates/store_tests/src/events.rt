@@ -1,5 +1,5 @@
+use event_script::gql_plain::NoMemory;
 use event_script::{Command, Event, LineFault, LineReader, read_event};
-use gql_plain::NoMemory;
 use serde_json::Value;
 use std::alloc::{AllocError, Global};
 use std::test::Fail;

@@ -1,14 +1,14 @@
 ghost use Rattle.std.specs.Prelude.{◌≡◌, IfOk};
-ghost use Rattle.store_model.specs.FactRows.{IsFactRow};
+ghost use Rattle.event_script.specs.store_model.FactRows.{IsFactRow};
 
-use gql_plain::{NoMemory, OptIds, Pairs, Plain, Words};
-use std::alloc::Global;
-use std::test::Fail;
-use store_model::{
+use event_script::gql_plain::{NoMemory, OptIds, Pairs, Plain, Words};
+use event_script::store_model::{
     Command, Commands, EdgeEdit, Entry, Fact, FactList, FactRow, Facts, HandleFact, HandleFacts,
     PathStep, PathSteps,
 };
-use store_record::{Field, Fields};
+use event_script::store_record::{Field, Fields};
+use std::alloc::Global;
+use std::test::Fail;
 
 fn word(alloc: Global, text: &str) -> Result<Words, NoMemory>
     ensures { IfOk result (λ w. w ≡ text.now) }

@@ -1,10 +1,12 @@
-use gql_plain::{Conn, Ids, NoMemory, OptIds, Pairs, Plain, SharedText, Words, plain_of};
+use event_script::gql_plain::{
+    Conn, Ids, NoMemory, OptIds, Pairs, Plain, SharedText, Words, plain_of,
+};
+use event_script::store_record::{
+    Field, Fields, Record, Shared, SharedField, Slot, client_id, field_key, handle_key,
+};
 use serde_json::Value;
 use std::alloc::Global;
 use std::test::Fail;
-use store_record::{
-    Field, Fields, Record, Shared, SharedField, Slot, client_id, field_key, handle_key,
-};
 
 /// A key of a field, its name, and its arguments.
 const FIELD_KEYS: &str = r#"team(size:2) team {"size":2}

@@ -1,3 +1,4 @@
+pub use Rattle.gql_plain.specs as gql_plain
 pub mod Contents
 pub mod Heights
 pub mod KeyOrder

@@ -11,5 +11,6 @@ mod leaves;
 pub mod tree;
 mod written;
 
+pub use gql_plain;
 pub use item::Item;
 pub use tree::Tree;

@@ -5,17 +5,17 @@ use Rattle.std.proofs.lemmas.Slice.Eq.{bytes_eq-Decides}
 use Rattle.std.specs.Cmp.Lexicographic.{slice_cmp, nat_list_cmp_total}
 use Rattle.std.specs.FinMap as finmap
 use Rattle.std.specs.Ordering.{eq_by_cmp}
-use Rattle.store_record.specs.Keys.{Text, field_key}
-use Rattle.store_record.specs.declared.field.Field.TheVariants.{Leaf, Links}
-use Rattle.store_record.specs.declared.record.Record.{Record}
-use Rattle.store_record.specs.declared.record.Slot.{Slot}
-use Rattle.store_record.specs.declared.record.Slot.TheVariants.{Deleted, Alive}
-use Rattle.store_model.specs.FactRows.{row_onto, with_row}
-use Rattle.store_model.specs.Records.{Records, slot_at, alive, with_slot, with_record, with_field, record_of}
-use Rattle.store_model.specs.Updates.{create_record, delete_record, act, add_to_field, link_or_null}
-use Rattle.store_model.specs.declared.command.Command.{Command}
-use Rattle.store_model.specs.declared.command.Command.TheVariants as C
-use Rattle.store_model.specs.declared.facts.FactRow.{FactRow}
+use Rattle.store_conn.specs.store_record.Keys.{Text, field_key}
+use Rattle.store_conn.specs.store_record.declared.field.Field.TheVariants.{Leaf, Links}
+use Rattle.store_conn.specs.store_record.declared.record.Record.{Record}
+use Rattle.store_conn.specs.store_record.declared.record.Slot.{Slot}
+use Rattle.store_conn.specs.store_record.declared.record.Slot.TheVariants.{Deleted, Alive}
+use Rattle.store_conn.specs.store_model.FactRows.{row_onto, with_row}
+use Rattle.store_conn.specs.store_model.Records.{Records, slot_at, alive, with_slot, with_record, with_field, record_of}
+use Rattle.store_conn.specs.store_model.Updates.{create_record, delete_record, act, add_to_field, link_or_null}
+use Rattle.store_conn.specs.store_model.declared.command.Command.{Command}
+use Rattle.store_conn.specs.store_model.declared.command.Command.TheVariants as C
+use Rattle.store_conn.specs.store_model.declared.facts.FactRow.{FactRow}
 use Rattle.store_update.specs.Slots.{slot_after, with_change, slot_by_row, slot_changed, slot_created, slot_deleted, slot_by_command, id_of}
 use Rattle.store_update.specs.Turns.{is_of_record}
 

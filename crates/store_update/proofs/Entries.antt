@@ -2,15 +2,15 @@
 use Rattle.std.proofs.Common.{◌≡◌, ◌+◌, ◌*◌, ◌≤◌, ◌⊎◌, true, List, [], ◌++◌, map, length, length-append, refl, sym, ap, ◌∙◌, subst, arith}
 use Rattle.std.proofs.lemmas.List.{length-map}
 use Rattle.std.specs.List.{list_all, prefix_len}
-use Rattle.store_model.proofs.FactRows.{put_rows_is}
-use Rattle.store_model.specs.Entries.{apply, asked_by_commands, asked_by_pages, merge_all, weight, weights}
-use Rattle.store_model.specs.FactRows.{AreFactRows, facts_of, put_rows}
-use Rattle.store_model.specs.Records.{Records, put}
-use Rattle.store_model.specs.Updates.{act_all}
-use Rattle.store_model.specs.declared.command.Command.{Command}
-use Rattle.store_model.specs.declared.entry.Entry.{Entry}
-use Rattle.store_model.specs.declared.facts.FactRow.{FactRow}
-use Rattle.store_model.specs.declared.facts.HandleFact.{HandleFact}
+use Rattle.store_conn.proofs.store_model_laws.FactRows.{put_rows_is}
+use Rattle.store_conn.specs.store_model.Entries.{apply, asked_by_commands, asked_by_pages, merge_all, weight, weights}
+use Rattle.store_conn.specs.store_model.FactRows.{AreFactRows, facts_of, put_rows}
+use Rattle.store_conn.specs.store_model.Records.{Records, put}
+use Rattle.store_conn.specs.store_model.Updates.{act_all}
+use Rattle.store_conn.specs.store_model.declared.command.Command.{Command}
+use Rattle.store_conn.specs.store_model.declared.entry.Entry.{Entry}
+use Rattle.store_conn.specs.store_model.declared.facts.FactRow.{FactRow}
+use Rattle.store_conn.specs.store_model.declared.facts.HandleFact.{HandleFact}
 use Rattle.store_update.proofs.Runs.{parted_acts, parted_commands, parted_pages}
 use Rattle.store_update.proofs.Turns.{entry_turns}
 use Rattle.store_update.proofs.Weights.{rows_few, weight_is}

@@ -1,9 +1,9 @@
 -- Equality of slots decides whether they are the same.
 use Rattle.std.proofs.Common.{◌≡◌, true, true≢false, Option, Some, None, refl, sym, ap, subst}
 use Rattle.std.specs.Bool.{Decides}
-use Rattle.store_record.specs.Equal.{record_eq-Decides}
-use Rattle.store_record.specs.declared.record.Slot.{Slot}
-use Rattle.store_record.specs.declared.record.Slot.TheVariants.{Deleted, Alive}
+use Rattle.store_conn.specs.store_record.Equal.{record_eq-Decides}
+use Rattle.store_conn.specs.store_record.declared.record.Slot.{Slot}
+use Rattle.store_conn.specs.store_record.declared.record.Slot.TheVariants.{Deleted, Alive}
 use Rattle.store_update.specs.Slots.{slot_eq}
 
 sound : (a b : Option Slot) → slot_eq a b ≡ true → a ≡ b

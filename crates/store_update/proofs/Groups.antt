@@ -14,10 +14,10 @@ use Rattle.std.specs.List.{AllByRecursion, IsAllAdjacentAnswer, count_by, list_a
 use Rattle.std.specs.List.Sorted.{IsSorted, IsStrictlySortedBy}
 use Rattle.std.specs.Bool.{⊤}
 use Rattle.std.specs.Ordering.{is_eq, is_lt, ordering_reverse}
-use Rattle.gql_plain.proofs.Booleans.{and_false, or_false, or_true}
-use Rattle.gql_plain.specs.Order.{AreInOrder, has_text}
-use Rattle.store_record.specs.Keys.{Text}
-use Rattle.store_model.specs.Records.{Records, slot_at}
+use Rattle.store_conn.proofs.gql_plain_laws.Booleans.{and_false, or_false, or_true}
+use Rattle.store_conn.specs.gql_plain.Order.{AreInOrder, has_text}
+use Rattle.store_conn.specs.store_record.Keys.{Text}
+use Rattle.store_conn.specs.store_model.Records.{Records, slot_at}
 use Rattle.store_update.proofs.Noted.{is_there, not_there, times-append, times-cons}
 use Rattle.store_update.proofs.Turns.{first_fails, front_passes, none_behind}
 use Rattle.store_update.specs.Touched.{AreNoted, AreTouched}

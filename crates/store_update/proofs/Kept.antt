@@ -9,14 +9,14 @@ use Rattle.std.specs.List.{AllByRecursion, list_all}
 use Rattle.std.specs.List.Sorted.{IsStrictlySortedBy}
 use Rattle.std.specs.Map.{keys_of}
 use Rattle.std.specs.Ordering.{ordering_reverse}
-use Rattle.gql_plain.specs.Order.{AreInOrder, member_at}
-use Rattle.store_record.specs.Equal.{field_eq-Decides}
-use Rattle.store_record.specs.Keys.{Text}
-use Rattle.store_record.specs.declared.field.Field.{Field}
-use Rattle.store_record.specs.declared.record.Record.{Record}
-use Rattle.store_model.specs.FactRows.{row_onto, with_fields}
-use Rattle.store_model.specs.Records.{with_field}
-use Rattle.store_model.specs.declared.facts.FactRow.{FactRow}
+use Rattle.store_conn.specs.gql_plain.Order.{AreInOrder, member_at}
+use Rattle.store_conn.specs.store_record.Equal.{field_eq-Decides}
+use Rattle.store_conn.specs.store_record.Keys.{Text}
+use Rattle.store_conn.specs.store_record.declared.field.Field.{Field}
+use Rattle.store_conn.specs.store_record.declared.record.Record.{Record}
+use Rattle.store_conn.specs.store_model.FactRows.{row_onto, with_fields}
+use Rattle.store_conn.specs.store_model.Records.{with_field}
+use Rattle.store_conn.specs.store_model.declared.facts.FactRow.{FactRow}
 use Rattle.store_update.specs.Fields.{is_field, has_field, has_row}
 
 abbrev order : Text → Text → Ordering

@@ -11,12 +11,12 @@ use Rattle.std.specs.Cmp.Lexicographic.{nat_list_cmp_total, nat_list_eq_equiv}
 use Rattle.std.specs.FinMap as finmap
 use Rattle.std.specs.List.{count_by, filter, sum_by, Contains}
 use Rattle.std.specs.List.Sorted.{IsPermutation}
-use Rattle.gql_plain.proofs.SortedTexts.{has_text-Decides}
-use Rattle.gql_plain.specs.Order.{AreSortedOf, has_text}
-use Rattle.store_record.specs.Keys.{Text}
-use Rattle.store_record.specs.declared.record.Slot.{Slot}
-use Rattle.store_record.specs.declared.record.Slot.TheVariants.{Alive}
-use Rattle.store_model.specs.Records.{Records, slot_at, with_slot, with_record}
+use Rattle.store_conn.proofs.gql_plain_laws.SortedTexts.{has_text-Decides}
+use Rattle.store_conn.specs.gql_plain.Order.{AreSortedOf, has_text}
+use Rattle.store_conn.specs.store_record.Keys.{Text}
+use Rattle.store_conn.specs.store_record.declared.record.Slot.{Slot}
+use Rattle.store_conn.specs.store_record.declared.record.Slot.TheVariants.{Alive}
+use Rattle.store_conn.specs.store_model.Records.{Records, slot_at, with_slot, with_record}
 use Rattle.store_conn.specs.Changes.{put_all}
 use Rattle.store_conn.specs.declared.changes.Change.{Change}
 use Rattle.store_update.proofs.Equal.{slot_eq-Decides}

@@ -7,18 +7,18 @@ use Rattle.std.specs.FinMap as finmap
 use Rattle.std.specs.List.{list_all}
 use Rattle.std.specs.Prelude.{is_some}
 use Rattle.std.specs.Str.{bytes_eq}
-use Rattle.store_record.specs.Keys.{Text}
-use Rattle.store_record.specs.declared.record.Slot.{Slot}
-use Rattle.store_record.specs.declared.record.Slot.TheVariants.{Deleted, Alive}
-use Rattle.store_model.proofs.FactRows.{inserted_twice}
-use Rattle.store_model.specs.Entries.{asked_by_commands, asked_by_pages, merge_all, weights}
-use Rattle.store_model.specs.FactRows.{with_row}
-use Rattle.store_model.specs.Records.{Records, slot_at}
-use Rattle.store_model.specs.Updates.{act, act_all}
-use Rattle.store_model.specs.declared.command.Command.{Command}
-use Rattle.store_model.specs.declared.command.Command.TheVariants as C
-use Rattle.store_model.specs.declared.facts.FactRow.{FactRow}
-use Rattle.store_model.specs.declared.facts.HandleFact.{HandleFact}
+use Rattle.store_conn.specs.store_record.Keys.{Text}
+use Rattle.store_conn.specs.store_record.declared.record.Slot.{Slot}
+use Rattle.store_conn.specs.store_record.declared.record.Slot.TheVariants.{Deleted, Alive}
+use Rattle.store_conn.proofs.store_model_laws.FactRows.{inserted_twice}
+use Rattle.store_conn.specs.store_model.Entries.{asked_by_commands, asked_by_pages, merge_all, weights}
+use Rattle.store_conn.specs.store_model.FactRows.{with_row}
+use Rattle.store_conn.specs.store_model.Records.{Records, slot_at}
+use Rattle.store_conn.specs.store_model.Updates.{act, act_all}
+use Rattle.store_conn.specs.store_model.declared.command.Command.{Command}
+use Rattle.store_conn.specs.store_model.declared.command.Command.TheVariants as C
+use Rattle.store_conn.specs.store_model.declared.facts.FactRow.{FactRow}
+use Rattle.store_conn.specs.store_model.declared.facts.HandleFact.{HandleFact}
 use Rattle.store_update.proofs.Changes.{command_is, row_is, stays}
 use Rattle.store_update.specs.Slots.{id_of, slot_after, slot_by_command, slot_by_commands, slot_by_row, with_change}
 use Rattle.store_update.specs.Turns.{AreOf, goes_with, is_of_record}

@@ -1,12 +1,12 @@
 -- A number added to a field of a record.
 use Rattle.std.proofs.Common.{◌≡◌, ℤ, Some, sym, ap, ◌∙◌, unwrap_or, option_map}
 use Rattle.std.specs.Map.{keys_of}
-use Rattle.gql_plain.specs.Order.{AreInOrder, member_at}
-use Rattle.store_record.specs.Keys.{Text}
-use Rattle.store_record.specs.declared.field.Field.{Field}
-use Rattle.store_record.specs.declared.record.Record.{Record}
-use Rattle.store_model.specs.Records.{with_field}
-use Rattle.store_model.specs.Updates.{field_plus, add_to_field}
+use Rattle.store_conn.specs.gql_plain.Order.{AreInOrder, member_at}
+use Rattle.store_conn.specs.store_record.Keys.{Text}
+use Rattle.store_conn.specs.store_record.declared.field.Field.{Field}
+use Rattle.store_conn.specs.store_record.declared.record.Record.{Record}
+use Rattle.store_conn.specs.store_model.Records.{with_field}
+use Rattle.store_conn.specs.store_model.Updates.{field_plus, add_to_field}
 use Rattle.store_update.proofs.Kept.{put_same}
 
 pub sum_put : (key : Text) (by : ℤ) (r : Record) (old new : Field) → Some old ≡ member_at r.fields key → new ≡ field_plus by old → with_field key new r ≡ add_to_field key by r

@@ -10,15 +10,15 @@ use Rattle.std.specs.Cmp.Lexicographic.{nat_list_eq_equiv}
 use Rattle.std.specs.List.{list_all, prefix_len}
 use Rattle.std.specs.List.Sorted.{IsStrictlySortedBy}
 use Rattle.std.specs.Ordering.{is_eq}
-use Rattle.store_record.specs.Keys.{Text}
-use Rattle.store_record.specs.declared.field.Field.{Field}
-use Rattle.store_model.specs.FactOrder.{text_cmp}
-use Rattle.store_model.specs.FactRows.{fact_at, facts_of, facts_of_row, fields_of, put_rows, with_row}
-use Rattle.store_model.specs.Records.{Records}
-use Rattle.store_model.specs.declared.command.Command.{Command}
-use Rattle.store_model.specs.declared.entry.Entry.{Entry}
-use Rattle.store_model.specs.declared.facts.Fact.{Fact}
-use Rattle.store_model.specs.declared.facts.FactRow.{FactRow}
+use Rattle.store_conn.specs.store_record.Keys.{Text}
+use Rattle.store_conn.specs.store_record.declared.field.Field.{Field}
+use Rattle.store_conn.specs.store_model.FactOrder.{text_cmp}
+use Rattle.store_conn.specs.store_model.FactRows.{fact_at, facts_of, facts_of_row, fields_of, put_rows, with_row}
+use Rattle.store_conn.specs.store_model.Records.{Records}
+use Rattle.store_conn.specs.store_model.declared.command.Command.{Command}
+use Rattle.store_conn.specs.store_model.declared.entry.Entry.{Entry}
+use Rattle.store_conn.specs.store_model.declared.facts.Fact.{Fact}
+use Rattle.store_conn.specs.store_model.declared.facts.FactRow.{FactRow}
 use Rattle.store_update.proofs.Weights.{fields_there}
 use Rattle.store_update.specs.Slots.{id_of}
 use Rattle.store_update.specs.Turns.{AreOf, goes_on, goes_with, is_of_record, last_id, run_behind, turn_before, turns, turns_of}

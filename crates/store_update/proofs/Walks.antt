@@ -1,13 +1,13 @@
 -- One step of going over rows, pages, commands and ids.
 use Rattle.std.proofs.Common.{◌≡◌, ℕ, ◌+◌, ◌<◌, List, [], ◌∷◌, ◌++◌, map, length, get_or, drop, take, sym, ap, ◌∙◌}
 use Rattle.std.proofs.lemmas.List.{drop_more, map-append, take_more}
-use Rattle.store_record.specs.Keys.{Text}
-use Rattle.store_model.specs.Entries.{asked_by_page, asked_by_pages, merge_all, number_asked, weights}
-use Rattle.store_model.specs.FactRows.{with_row, put_rows}
-use Rattle.store_model.specs.Merge.{merge}
-use Rattle.store_model.specs.Records.{Records}
-use Rattle.store_model.specs.declared.facts.FactRow.{FactRow}
-use Rattle.store_model.specs.declared.facts.HandleFact.{HandleFact}
+use Rattle.store_conn.specs.store_record.Keys.{Text}
+use Rattle.store_conn.specs.store_model.Entries.{asked_by_page, asked_by_pages, merge_all, number_asked, weights}
+use Rattle.store_conn.specs.store_model.FactRows.{with_row, put_rows}
+use Rattle.store_conn.specs.store_model.Merge.{merge}
+use Rattle.store_conn.specs.store_model.Records.{Records}
+use Rattle.store_conn.specs.store_model.declared.facts.FactRow.{FactRow}
+use Rattle.store_conn.specs.store_model.declared.facts.HandleFact.{HandleFact}
 
 module _ {X : Type 0} where
   pub next_of : (xs : List X) (i : ℕ) (x : X) → i < length xs → x ≡ get_or xs i x → drop i xs ≡ x ∷ drop (i + 1) xs

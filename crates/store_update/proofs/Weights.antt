@@ -2,19 +2,19 @@
 use Rattle.std.proofs.Common.{◌≡◌, ◌+◌, ◌*◌, ◌≤◌, List, [], ◌∷◌, ◌++◌, map, length, refl, ap, ◌∙◌, arith, length-append, Ordering, Less, Equal, Greater}
 use Rattle.std.specs.FinMap.Entries.{by_order, put as put_entry}
 use Rattle.std.specs.Ordering.{match_ordering}
-use Rattle.gql_plain.specs.Order.{sorted_texts, with_text}
-use Rattle.gql_plain.specs.declared.plain.Plain.TheVariants.{Text as Words}
-use Rattle.store_record.specs.Keys.{Text}
-use Rattle.store_record.specs.declared.field.Field.{Field}
-use Rattle.store_record.specs.declared.field.Field.TheVariants.{Leaf}
-use Rattle.store_model.specs.Entries.{Looks, asked_by_facts, asked_by_page, asked_by_pages, asked_by_commands, asked_of_parent, weights, weight, merge_all, not_among, number_asked, of_ids}
-use Rattle.store_model.specs.FactOrder.{text_cmp}
-use Rattle.store_model.specs.FactRows.{fact_at, facts_of, facts_of_row, fields_of}
-use Rattle.store_model.specs.Records.{Records, live, put, typename}
-use Rattle.store_model.specs.declared.entry.Entry.{Entry}
-use Rattle.store_model.specs.declared.facts.Fact.{Fact}
-use Rattle.store_model.specs.declared.facts.FactRow.{FactRow}
-use Rattle.store_model.specs.declared.facts.HandleFact.{HandleFact}
+use Rattle.store_conn.specs.gql_plain.Order.{sorted_texts, with_text}
+use Rattle.store_conn.specs.gql_plain.declared.plain.Plain.TheVariants.{Text as Words}
+use Rattle.store_conn.specs.store_record.Keys.{Text}
+use Rattle.store_conn.specs.store_record.declared.field.Field.{Field}
+use Rattle.store_conn.specs.store_record.declared.field.Field.TheVariants.{Leaf}
+use Rattle.store_conn.specs.store_model.Entries.{Looks, asked_by_facts, asked_by_page, asked_by_pages, asked_by_commands, asked_of_parent, weights, weight, merge_all, not_among, number_asked, of_ids}
+use Rattle.store_conn.specs.store_model.FactOrder.{text_cmp}
+use Rattle.store_conn.specs.store_model.FactRows.{fact_at, facts_of, facts_of_row, fields_of}
+use Rattle.store_conn.specs.store_model.Records.{Records, live, put, typename}
+use Rattle.store_conn.specs.store_model.declared.entry.Entry.{Entry}
+use Rattle.store_conn.specs.store_model.declared.facts.Fact.{Fact}
+use Rattle.store_conn.specs.store_model.declared.facts.FactRow.{FactRow}
+use Rattle.store_conn.specs.store_model.declared.facts.HandleFact.{HandleFact}
 use Rattle.store_update.specs.Touched.{most}
 
 pub weights-append : (xs ys : List Looks) → weights (xs ++ ys) ≡ weights xs + weights ys

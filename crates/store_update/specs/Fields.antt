@@ -2,12 +2,12 @@
 use Rattle.std.specs.Prelude.{◌&&◌, List, Bool, false, Option, Some, None}
 use Rattle.std.specs.List.{list_all}
 use Rattle.std.specs.Str.{bytes_eq}
-use Rattle.gql_plain.specs.Order.{member_at}
-use Rattle.store_record.specs.Equal.{field_eq}
-use Rattle.store_record.specs.Keys.{Text}
-use Rattle.store_record.specs.declared.field.Field.{Field}
-use Rattle.store_record.specs.declared.record.Record.{Record}
-use Rattle.store_model.specs.declared.facts.FactRow.{FactRow}
+use Rattle.store_conn.specs.gql_plain.Order.{member_at}
+use Rattle.store_conn.specs.store_record.Equal.{field_eq}
+use Rattle.store_conn.specs.store_record.Keys.{Text}
+use Rattle.store_conn.specs.store_record.declared.field.Field.{Field}
+use Rattle.store_conn.specs.store_record.declared.record.Record.{Record}
+use Rattle.store_conn.specs.store_model.declared.facts.FactRow.{FactRow}
 
 abbrev pub is_field : Option Field → Field → Bool
 is_field None field = false

@@ -1,17 +1,17 @@
 -- What a row and a command make of the slot of their id.
 use Rattle.std.specs.Prelude.{Bool, true, false, List, [], ◌∷◌, Option, Some, None, option_and_then, unwrap_or}
-use Rattle.store_record.specs.Equal.{record_eq}
-use Rattle.store_record.specs.Keys.{Text, field_key}
-use Rattle.store_record.specs.declared.field.Field.TheVariants.{Leaf, Links}
-use Rattle.store_record.specs.declared.record.Record.{Record}
-use Rattle.store_record.specs.declared.record.Slot.{Slot}
-use Rattle.store_record.specs.declared.record.Slot.TheVariants.{Deleted, Alive}
-use Rattle.store_model.specs.FactRows.{row_onto}
-use Rattle.store_model.specs.Records.{Records, alive, with_slot, with_field, record_of}
-use Rattle.store_model.specs.Updates.{add_to_field, link_or_null}
-use Rattle.store_model.specs.declared.command.Command.{Command}
-use Rattle.store_model.specs.declared.command.Command.TheVariants as C
-use Rattle.store_model.specs.declared.facts.FactRow.{FactRow}
+use Rattle.store_conn.specs.store_record.Equal.{record_eq}
+use Rattle.store_conn.specs.store_record.Keys.{Text, field_key}
+use Rattle.store_conn.specs.store_record.declared.field.Field.TheVariants.{Leaf, Links}
+use Rattle.store_conn.specs.store_record.declared.record.Record.{Record}
+use Rattle.store_conn.specs.store_record.declared.record.Slot.{Slot}
+use Rattle.store_conn.specs.store_record.declared.record.Slot.TheVariants.{Deleted, Alive}
+use Rattle.store_conn.specs.store_model.FactRows.{row_onto}
+use Rattle.store_conn.specs.store_model.Records.{Records, alive, with_slot, with_field, record_of}
+use Rattle.store_conn.specs.store_model.Updates.{add_to_field, link_or_null}
+use Rattle.store_conn.specs.store_model.declared.command.Command.{Command}
+use Rattle.store_conn.specs.store_model.declared.command.Command.TheVariants as C
+use Rattle.store_conn.specs.store_model.declared.facts.FactRow.{FactRow}
 use Rattle.store_update.specs.declared.command.Effect.{Effect}
 use Rattle.store_update.specs.declared.command.Effect.TheVariants.{Stays, Deletes, Puts}
 

@@ -1,11 +1,11 @@
 -- The ids whose slot an entry changes.
 use Rattle.std.specs.Prelude.{◌≡◌, ◌↔◌, ◌+◌, ◌*◌, ◌≤◌, ℕ, Bool, false, not, List, [], ◌∷◌, ◌++◌, Option, Some, None}
 use Rattle.std.specs.List.{sum_by}
-use Rattle.gql_plain.specs.Order.{has_text}
-use Rattle.store_record.specs.Keys.{Text}
-use Rattle.store_record.specs.declared.record.Slot.{Slot}
-use Rattle.store_model.specs.Entries.{Looks, number_asked}
-use Rattle.store_model.specs.Records.{Records, slot_at}
+use Rattle.store_conn.specs.gql_plain.Order.{has_text}
+use Rattle.store_conn.specs.store_record.Keys.{Text}
+use Rattle.store_conn.specs.store_record.declared.record.Slot.{Slot}
+use Rattle.store_conn.specs.store_model.Entries.{Looks, number_asked}
+use Rattle.store_conn.specs.store_model.Records.{Records, slot_at}
 use Rattle.store_conn.specs.declared.changes.Change.{Change}
 use Rattle.store_update.specs.Slots.{slot_eq, slot_after}
 use Rattle.store_update.specs.Turns.{times}

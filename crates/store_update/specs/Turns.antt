@@ -2,12 +2,12 @@
 use Rattle.std.specs.Prelude.{◌≡◌, ◌&&◌, ℕ, leb, Bool, true, false, List, [], ◌∷◌, ◌++◌, map, cond, Option, Some, None}
 use Rattle.std.specs.List.{count_by, list_all, prefix_len}
 use Rattle.std.specs.Str.{bytes_eq}
-use Rattle.store_record.specs.Keys.{Text}
-use Rattle.store_model.specs.declared.command.Command.{Command}
-use Rattle.store_model.specs.declared.command.Command.TheVariants as C
-use Rattle.store_model.specs.declared.entry.Entry.{Entry}
-use Rattle.store_model.specs.declared.facts.Fact.{Fact}
-use Rattle.store_model.specs.declared.facts.FactRow.{FactRow}
+use Rattle.store_conn.specs.store_record.Keys.{Text}
+use Rattle.store_conn.specs.store_model.declared.command.Command.{Command}
+use Rattle.store_conn.specs.store_model.declared.command.Command.TheVariants as C
+use Rattle.store_conn.specs.store_model.declared.entry.Entry.{Entry}
+use Rattle.store_conn.specs.store_model.declared.facts.Fact.{Fact}
+use Rattle.store_conn.specs.store_model.declared.facts.FactRow.{FactRow}
 use Rattle.store_update.specs.Slots.{id_of}
 
 -- ---- commands of one id

@@ -1,21 +1,21 @@
 //! What a command makes of the slot of its id.
 ghost use Rattle.std.specs.Prelude.{◌≡◌, Some, None, option_map, unwrap_or, IfOk};
 ghost use Rattle.std.specs.Option.{option_copied};
-ghost use Rattle.gql_plain.specs.declared.plain.Plain.TheVariants.{Int};
-ghost use Rattle.store_record.specs.Keys.{field_key};
-ghost use Rattle.store_record.specs.declared.field.Field.TheVariants.{Leaf, Links};
-ghost use Rattle.store_record.specs.declared.record.Slot.TheVariants.{Alive, Deleted};
-ghost use Rattle.store_model.specs.Records.{with_field};
-ghost use Rattle.store_model.specs.Updates.{add_to_field, field_plus, link_or_null};
+ghost use Rattle.store_conn.specs.gql_plain.declared.plain.Plain.TheVariants.{Int};
+ghost use Rattle.store_conn.specs.store_record.Keys.{field_key};
+ghost use Rattle.store_conn.specs.store_record.declared.field.Field.TheVariants.{Leaf, Links};
+ghost use Rattle.store_conn.specs.store_record.declared.record.Slot.TheVariants.{Alive, Deleted};
+ghost use Rattle.store_conn.specs.store_model.Records.{with_field};
+ghost use Rattle.store_conn.specs.store_model.Updates.{add_to_field, field_plus, link_or_null};
 ghost use Rattle.store_update.specs.Slots as spec;
 
 use crate::row::{has_field, in_order};
 use crate::slot::live_slot;
-use gql_plain::{Id, Name, NoMemory, Pairs, Plain, Words};
 use std::alloc::Global;
 use std::rc::Rc;
-use store_model::Command;
-use store_record::{Field, Fields, Record, Shared, Slot, field_key};
+use store_conn::gql_plain::{Id, Name, NoMemory, Pairs, Plain, Words};
+use store_conn::store_model::Command;
+use store_conn::store_record::{Field, Fields, Record, Shared, Slot, field_key};
 
 /// The id whose slot a command looks at; takes no memory.
 pub(crate) fn id_of(command: &Command) -> &Id

@@ -1,8 +1,8 @@
 //! Commands that act on a record map.
 ghost use Rattle.std.specs.Prelude.{◌≡◌, ◌+◌, ◌*◌, ◌≤◌, [], ◌∷◌, map, length, true, false, IfOk};
 ghost use Rattle.std.specs.List.{list_all};
-ghost use Rattle.store_model.specs.Entries as entries;
-ghost use Rattle.store_model.specs.Updates as updates;
+ghost use Rattle.store_conn.specs.store_model.Entries as entries;
+ghost use Rattle.store_conn.specs.store_model.Updates as updates;
 ghost use Rattle.store_update.specs.Slots.{id_of};
 ghost use Rattle.store_update.specs.Touched.{AreNoted, ArePicked, most};
 ghost use Rattle.store_update.specs.Turns.{AreOf, is_of_record, turns};
@@ -11,11 +11,11 @@ use crate::command::{id_of, slot_by_command};
 use crate::draft::{Draft, change_slot, put_changes};
 use crate::run::{run_behind, slot_by_run};
 use crate::slot::new_slot_of;
-use gql_plain::NoMemory;
 use std::alloc::Global;
+use store_conn::gql_plain::NoMemory;
+use store_conn::store_model::{Command, EdgeEdit};
+use store_conn::store_source::RecordSource;
 use store_conn::{changes_of_deletion, changes_of_insertion};
-use store_model::{Command, EdgeEdit};
-use store_source::RecordSource;
 
 /// The map after commands, one after another. Those of records that name one id in a row take one look and at most
 /// one new record.

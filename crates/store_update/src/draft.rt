@@ -1,14 +1,14 @@
 //! A record map while an entry is applied to it.
 ghost use Rattle.std.specs.Prelude.{◌≡◌, ◌++◌, ◌∷◌, [], IfOk, OnOk};
-ghost use Rattle.store_model.specs.Records as records_spec;
+ghost use Rattle.store_conn.specs.store_model.Records as records_spec;
 ghost use Rattle.store_conn.specs.Changes as conn;
 ghost use Rattle.store_update.specs.Slots as slots;
 ghost use Rattle.store_update.specs.Touched.{ids_put, noted};
 
-use gql_plain::{Id, NoMemory};
+use store_conn::gql_plain::{Id, NoMemory};
+use store_conn::store_record::Slot;
+use store_conn::store_source::RecordSource;
 use store_conn::{Change, put_all};
-use store_record::Slot;
-use store_source::RecordSource;
 
 /// A map, and the ids that had a slot put, in the order of the puts: one that is known to differ from the one before
 /// stands there once, and else twice.

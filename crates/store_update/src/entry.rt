@@ -1,7 +1,7 @@
 //! Applying an entry to a record map.
 ghost use Rattle.std.specs.Prelude.{◌≡◌, ◌+◌, ◌*◌, ◌≤◌, [], length, IfOk};
-ghost use Rattle.gql_plain.specs.Counted.{next_count};
-ghost use Rattle.store_model.specs.Entries as entries;
+ghost use Rattle.store_conn.specs.gql_plain.Counted.{next_count};
+ghost use Rattle.store_conn.specs.store_model.Entries as entries;
 ghost use Rattle.store_update.specs.Touched.{AreNoted, ArePicked, AreTouched};
 ghost use Rattle.store_update.specs.Turns.{IsOfRecords, number_again, turns_of};
 
@@ -11,9 +11,9 @@ use crate::facts::put_facts;
 use crate::pages::put_pages;
 use crate::run::parted;
 use crate::touched::touched;
-use gql_plain::{Ids, NoMemory, Steps};
-use store_model::Entry;
-use store_source::RecordSource;
+use store_conn::gql_plain::{Ids, NoMemory, Steps};
+use store_conn::store_model::Entry;
+use store_conn::store_source::RecordSource;
 
 /// A map after an entry, and the ids whose slot is not the one before, in byte order.
 #[derive(Drop)]

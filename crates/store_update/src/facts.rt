@@ -1,9 +1,9 @@
 //! Facts that are put into a record map.
 ghost use Rattle.std.specs.Prelude.{◌≡◌, ◌+◌, ◌≤◌, [], ◌∷◌, ◌++◌, map, true, length, IfOk};
 ghost use Rattle.std.specs.List.{list_all};
-ghost use Rattle.store_model.specs.FactRows as rows_spec;
-ghost use Rattle.store_model.specs.Updates as updates;
-ghost use Rattle.store_model.specs.declared.facts.FactRow.{FactRow};
+ghost use Rattle.store_conn.specs.store_model.FactRows as rows_spec;
+ghost use Rattle.store_conn.specs.store_model.Updates as updates;
+ghost use Rattle.store_conn.specs.store_model.declared.facts.FactRow.{FactRow};
 ghost use Rattle.store_update.specs.Touched.{AreNoted, ArePicked};
 ghost use Rattle.store_update.specs.Turns.{AreOf, goes_on, last_id};
 
@@ -11,10 +11,10 @@ use crate::draft::{Draft, change_slot};
 use crate::row::slot_by_row;
 use crate::run::slot_by_run;
 use crate::slot::new_slot_of;
-use gql_plain::NoMemory;
 use std::alloc::Global;
-use store_model::{Command, FactRow};
-use store_source::RecordSource;
+use store_conn::gql_plain::NoMemory;
+use store_conn::store_model::{Command, FactRow};
+use store_conn::store_source::RecordSource;
 
 /// The map with rows put into it, one after another, and after commands on the id of the last; takes one look and at
 /// most one new record a row.

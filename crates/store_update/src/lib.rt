@@ -13,3 +13,5 @@ mod slot;
 mod touched;
 
 pub use entry::{Changed, apply};
+pub use store_conn;
+pub use store_conn::{gql_plain, store_model, store_record, store_source};

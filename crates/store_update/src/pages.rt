@@ -1,15 +1,15 @@
 //! Pages that are merged into a record map.
 ghost use Rattle.std.specs.Prelude.{◌≡◌, ◌+◌, ◌*◌, ◌≤◌, [], length, IfOk};
-ghost use Rattle.store_model.specs.Entries as entries;
-ghost use Rattle.store_model.specs.Merge as merge;
+ghost use Rattle.store_conn.specs.store_model.Entries as entries;
+ghost use Rattle.store_conn.specs.store_model.Merge as merge;
 ghost use Rattle.store_update.specs.Touched.{AreNoted, most};
 
 use crate::draft::{Draft, put_changes};
-use gql_plain::NoMemory;
 use std::alloc::Global;
 use store_conn::changes_of_page;
-use store_model::HandleFact;
-use store_source::RecordSource;
+use store_conn::gql_plain::NoMemory;
+use store_conn::store_model::HandleFact;
+use store_conn::store_source::RecordSource;
 
 /// The map with pages merged, one after another.
 pub(crate) fn put_pages<S: RecordSource>(

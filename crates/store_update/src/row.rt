@@ -3,18 +3,18 @@ ghost use Rattle.std.specs.Prelude.{◌≡◌, Some, [], IfOk};
 ghost use Rattle.std.specs.List.{list_all};
 ghost use Rattle.std.specs.Map.{keys_of};
 ghost use Rattle.std.specs.Option.{option_copied};
-ghost use Rattle.gql_plain.specs.Order.{AreInOrder};
-ghost use Rattle.store_record.specs.declared.record.Slot.TheVariants.{Alive};
-ghost use Rattle.store_model.specs.FactRows.{row_onto, with_fields};
-ghost use Rattle.store_model.specs.Records.{record_of};
+ghost use Rattle.store_conn.specs.gql_plain.Order.{AreInOrder};
+ghost use Rattle.store_conn.specs.store_record.declared.record.Slot.TheVariants.{Alive};
+ghost use Rattle.store_conn.specs.store_model.FactRows.{row_onto, with_fields};
+ghost use Rattle.store_conn.specs.store_model.Records.{record_of};
 ghost use Rattle.store_update.specs.Fields as spec;
 ghost use Rattle.store_update.specs.Slots.{slot_after, slot_by_row};
 
 use crate::slot::live_slot;
-use gql_plain::NoMemory;
 use std::alloc::Global;
-use store_model::FactRow;
-use store_record::{Field, Fields, Record, SharedField, Slot};
+use store_conn::gql_plain::NoMemory;
+use store_conn::store_model::FactRow;
+use store_conn::store_record::{Field, Fields, Record, SharedField, Slot};
 
 /// The new slot of a row's id, or None where the record has all that the row says.
 pub(crate) fn slot_by_row(

@@ -6,10 +6,10 @@ ghost use Rattle.store_update.specs.Slots.{id_of, slot_after, slot_by_command, s
 ghost use Rattle.store_update.specs.Turns.{goes_on, goes_with, is_of_record, last_id, run_behind};
 
 use crate::command::{edit, id_of, slot_by_command};
-use gql_plain::NoMemory;
 use std::alloc::Global;
-use store_model::{Command, FactRow, HandleFact};
-use store_record::Slot;
+use store_conn::gql_plain::NoMemory;
+use store_conn::store_model::{Command, FactRow, HandleFact};
+use store_conn::store_record::Slot;
 
 /// The new slot of an id after commands on it behind a change, or None where it stays. The record of the change, or the
 /// one that the first command makes, is changed in place by those behind it.

@@ -1,13 +1,13 @@
 //! Slots.
 ghost use Rattle.std.specs.Prelude.{◌≡◌, Some, IfOk};
 ghost use Rattle.std.specs.Option.{option_copied};
-ghost use Rattle.store_record.specs.declared.record.Slot.TheVariants.{Alive};
+ghost use Rattle.store_conn.specs.store_record.declared.record.Slot.TheVariants.{Alive};
 ghost use Rattle.store_update.specs.Slots.{slot_after, slot_eq};
 ghost use Rattle.store_update.specs.Touched.{IsNew};
 
-use gql_plain::{Name, NoMemory};
 use std::alloc::Global;
-use store_record::{Fields, Record, Shared, Slot};
+use store_conn::gql_plain::{Name, NoMemory};
+use store_conn::store_record::{Fields, Record, Shared, Slot};
 
 /// A live slot.
 pub(crate) fn live_slot(

@@ -5,15 +5,15 @@ ghost use Rattle.std.specs.List.Sorted.{IsSorted};
 ghost use Rattle.std.specs.Cmp.Lexicographic.{slice_cmp};
 ghost use Rattle.std.specs.Ordering.{nat_cmp};
 ghost use Rattle.std.specs.Str.{bytes_eq};
-ghost use Rattle.gql_plain.specs.Order.{AreInOrder, AreSortedOf, has_text};
-ghost use Rattle.store_record.specs.Keys.{Text};
+ghost use Rattle.store_conn.specs.gql_plain.Order.{AreInOrder, AreSortedOf, has_text};
+ghost use Rattle.store_conn.specs.store_record.Keys.{Text};
 ghost use Rattle.store_update.specs.Touched.{AreNoted, AreTouched, is_changed};
 ghost use Rattle.store_update.specs.Turns.{number_again, stands_again};
 
 use crate::slot::are_equal;
-use gql_plain::{Id, Ids, NoMemory};
 use std::alloc::Global;
-use store_source::RecordSource;
+use store_conn::gql_plain::{Id, Ids, NoMemory};
+use store_conn::store_source::RecordSource;
 
 /// The ids whose slot differs between two maps, of those that were noted, in byte order. One that was noted once
 /// differs; one that was noted several times takes two looks.

@@ -4,8 +4,8 @@ use Rattle.std.proofs.lemmas.List.{append_assoc, drop_all, drop_more}
 use Rattle.std.proofs.lemmas.Slice.Eq.{bytes_eq-Decides}
 use Rattle.std.specs.Cmp.Lexicographic.{nat_list_eq_equiv}
 use Rattle.std.specs.List.{AllByRecursion, list_any}
-use Rattle.gql_plain.specs.Order.{has_text}
-use Rattle.store_record.specs.Keys.{Text}
+use Rattle.plan_ir.specs.gql_plain.Order.{has_text}
+use Rattle.plan_ir.specs.store_record.Keys.{Text}
 use Rattle.store_watch.proofs.Held.{same, itself, has_append, or_left, or_right}
 use Rattle.store_watch.specs.Numbers.{has, Seen, Table, named, number_at, StandsUnder, IsFound, IsComplete, IsPut, Grows}
 use Rattle.store_watch.specs.Places.{passes_at}

@@ -8,7 +8,7 @@ use Rattle.std.specs.List.{AllByRecursion, HoldsAt}
 use Rattle.std.specs.List.Sorted.{IsNonDecreasingBy, IsBinarySearchResult}
 use Rattle.std.specs.Option.{MatchOption}
 use Rattle.std.specs.Ordering.{ordering_index}
-use Rattle.store_record.specs.Keys.{Text}
+use Rattle.plan_ir.specs.store_record.Keys.{Text}
 use Rattle.store_watch.specs.Numbers.{IsPut, Rises, Seen, StandsUnder, Table, number_at, numbers_of, seen_at}
 use Rattle.store_watch.specs.Places.{passes_at}
 use Rattle.store_watch.specs.Rows.{seen_of}

@@ -5,11 +5,11 @@ use Rattle.std.specs.Borrow.{Bor}
 use Rattle.std.specs.List.{list_any}
 use Rattle.std.specs.Map.{lookup, remove_entry, values_of}
 use Rattle.indexmap.specs.IndexMap.{set_value_at}
-use Rattle.gql_plain.specs.Equal.{texts_eq}
-use Rattle.store_model.specs.Walks.{Reading}
+use Rattle.plan_ir.specs.gql_plain.Equal.{texts_eq}
+use Rattle.plan_ir.specs.store_model.Walks.{Reading}
 use Rattle.store_read.specs.Reading.{reading_of}
 use Rattle.store_read.specs.declared.snapshot.Snapshot.{Snapshot}
-use Rattle.store_record.specs.Keys.{Text}
+use Rattle.plan_ir.specs.store_record.Keys.{Text}
 use Rattle.store_watch.specs.Numbers.{number_at, seen_at}
 use Rattle.store_watch.specs.Rows.{IsNumberAt, look_of, seen_of, watch_of, watches_of, with_snapshot}
 use Rattle.store_watch.specs.Watching.{Watch, is_live, uses, with_kept, without}

@@ -3,7 +3,7 @@ use Rattle.std.proofs.Common.{◌≡◌, ℕ, zero, suc, ◌<◌, ◌≤◌, ◌
 use Rattle.std.specs.List.{AllByRecursion}
 use Rattle.std.specs.Map.{remove_entry, values_of}
 use Rattle.store_read.specs.declared.snapshot.Snapshot.{Snapshot}
-use Rattle.store_record.specs.Keys.{Text}
+use Rattle.plan_ir.specs.store_record.Keys.{Text}
 use Rattle.store_watch.proofs.Found.{stands_grows}
 use Rattle.store_watch.proofs.Held.{has_append, has_first, or_right}
 use Rattle.store_watch.specs.Numbers.{has, noted, Rises, Seen, numbers_of, number_at, seen_at, Table, IsFound, IsComplete, Grows}

@@ -5,13 +5,13 @@ use Rattle.std.proofs.lemmas.Slice.Eq.{bytes_eq-Decides}
 use Rattle.std.specs.List.{AllByRecursion, list_any}
 use Rattle.std.specs.Map.{values_of}
 use Rattle.std.specs.Option.{option_map_or}
-use Rattle.gql_plain.proofs.SortedTexts.{has_text-sorted_texts}
-use Rattle.gql_plain.specs.Order.{has_text, sorted_texts}
+use Rattle.plan_ir.proofs.gql_plain_laws.SortedTexts.{has_text-sorted_texts}
+use Rattle.plan_ir.specs.gql_plain.Order.{has_text, sorted_texts}
 use Rattle.plan_ir.specs.ReaderMeaning.{collect_reader, records_below}
-use Rattle.store_model.proofs.SameSlots.{read_same_seen}
-use Rattle.store_model.specs.Walks.{Found, Reading, Slots, reading, standings, type_of_record}
+use Rattle.plan_ir.proofs.store_model_laws.SameSlots.{read_same_seen}
+use Rattle.plan_ir.specs.store_model.Walks.{Found, Reading, Slots, reading, standings, type_of_record}
 use Rattle.store_read.specs.Reading.{reading_of}
-use Rattle.store_record.specs.Keys.{Text}
+use Rattle.plan_ir.specs.store_record.Keys.{Text}
 use Rattle.store_watch.proofs.Held.{or_left, or_right}
 use Rattle.store_watch.specs.Numbers.{Rises}
 use Rattle.store_watch.specs.Places.{places_from}

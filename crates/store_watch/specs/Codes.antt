@@ -1,13 +1,13 @@
 -- The codes of watches and of notices.
 use Rattle.std.specs.Prelude.{ℕ, Bool, List, Option, refl}
 use Rattle.std.specs.Coded.{Coded, code_by, coded×, coded_bool, coded_list, coded_option, coded_ℕ}
-use Rattle.gql_plain.specs.Codes.{coded_members, coded_text, coded_tree}
-use Rattle.gql_plain.specs.Tree.{Tree}
+use Rattle.plan_ir.specs.gql_plain.Codes.{coded_members, coded_text, coded_tree}
+use Rattle.plan_ir.specs.gql_plain.Tree.{Tree}
 use Rattle.plan_ir.specs.Reader.{Reader}
 use Rattle.plan_ir.specs.ReaderCode.{coded_reader}
-use Rattle.schema_types.specs.Environments.{Values}
-use Rattle.store_model.specs.Walks.{Reading}
-use Rattle.store_record.specs.Keys.{Text}
+use Rattle.plan_ir.specs.schema_types.Environments.{Values}
+use Rattle.plan_ir.specs.store_model.Walks.{Reading}
+use Rattle.plan_ir.specs.store_record.Keys.{Text}
 use Rattle.store_watch.specs.Watching.{Look, Telling, Watch}
 
 abbrev pub coded_reading : Coded Reading

@@ -1,3 +1,4 @@
+pub use Rattle.store_read.specs as store_read
 pub mod Codes
 pub mod Lists
 pub mod Numbers

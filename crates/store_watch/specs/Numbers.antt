@@ -1,7 +1,7 @@
 -- Numbers of watches in order of start, and what an index from ids to them says.
 use Rattle.std.specs.Prelude.{◌≡◌, ℕ, zero, suc, ◌<◌, Bool, true, false, List, [], ◌∷◌, ◌++◌, nat_eq, map, Option, Some, None}
 use Rattle.std.specs.List.{list_any, AllByRecursion}
-use Rattle.store_record.specs.Keys.{Text}
+use Rattle.plan_ir.specs.store_record.Keys.{Text}
 
 -- whether the number is in the list
 abbrev pub has : List ℕ → ℕ → Bool

@@ -1,7 +1,7 @@
 -- What is read at places of rows.
 use Rattle.std.specs.Prelude.{ℕ, ◌+◌, List, [], ◌∷◌, ◌++◌, slice_get}
 use Rattle.std.specs.Option.{option_map_or}
-use Rattle.store_model.specs.Walks.{Slots, standings}
+use Rattle.plan_ir.specs.store_model.Walks.{Slots, standings}
 use Rattle.store_read.specs.Reading.{reading_of}
 use Rattle.store_watch.specs.Rows.{look_of}
 use Rattle.store_watch.specs.Watching.{Telling, differs, read_of, shows}

@@ -4,7 +4,7 @@ use Rattle.std.specs.List.{AllByRecursion}
 use Rattle.std.specs.declared.alloc.Global.{Global}
 use Rattle.store_read.specs.Reading.{reading_of}
 use Rattle.store_read.specs.declared.snapshot.Snapshot.{Snapshot}
-use Rattle.store_record.specs.Keys.{Text}
+use Rattle.plan_ir.specs.store_record.Keys.{Text}
 use Rattle.store_watch.specs.Numbers.{IsComplete, Rises, Seen, Table, number_at, numbers_of, seen_at}
 use Rattle.store_watch.specs.Watching.{Look, Telling, Watch, meets}
 use Rattle.store_watch.specs.declared.notices.Notice.{Notice}

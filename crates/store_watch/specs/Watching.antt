@@ -2,13 +2,13 @@
 use Rattle.std.specs.Prelude.{◌≡◌, ℕ, zero, suc, ◌+◌, ◌||◌, Bool, true, false, not, List, [], ◌∷◌, cond, bytes_eq, Option}
 use Rattle.std.specs.Bool.{beq}
 use Rattle.std.specs.List.{AllByRecursion, list_any}
-use Rattle.gql_plain.specs.Equal.{tree_eq}
-use Rattle.gql_plain.specs.Order.{has_text}
+use Rattle.plan_ir.specs.gql_plain.Equal.{tree_eq}
+use Rattle.plan_ir.specs.gql_plain.Order.{has_text}
 use Rattle.plan_ir.specs.Reader.{Reader}
 use Rattle.plan_ir.specs.ReaderMeaning.{plan_reads}
-use Rattle.schema_types.specs.Environments.{Values}
-use Rattle.store_model.specs.Walks.{Found, Reading, Slots, reading, standings, type_of_record}
-use Rattle.store_record.specs.Keys.{Text}
+use Rattle.plan_ir.specs.schema_types.Environments.{Values}
+use Rattle.plan_ir.specs.store_model.Walks.{Found, Reading, Slots, reading, standings, type_of_record}
+use Rattle.plan_ir.specs.store_record.Keys.{Text}
 
 -- what a watch shows: the plan of an operation, or of a fragment, under an environment, of the record at an id, which may be of these types
 pub record Look : Type 0 where

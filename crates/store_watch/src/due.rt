@@ -1,7 +1,7 @@
 //! The watches that a change may concern.
 ghost use Rattle.std.specs.Prelude.{◌≡◌, ◌<◌, ℕ, false, true, [], ◌∷◌, ◌++◌, filter, length, IfOk, OnOk};
 ghost use Rattle.std.specs.List.{list_any};
-ghost use Rattle.gql_plain.specs.Order.{has_text};
+ghost use Rattle.plan_ir.specs.gql_plain.Order.{has_text};
 ghost use Rattle.store_watch.specs.Lists.{under};
 ghost use Rattle.store_watch.specs.Numbers.{Grows, IsComplete, IsPut, Rises, has, named, noted, number_at, numbers_of};
 ghost use Rattle.store_watch.specs.Places.{passes_at, places_from};
@@ -10,7 +10,7 @@ ghost use Rattle.store_watch.specs.Watching.{meets};
 
 use crate::index::Index;
 use crate::rows::{Row, place_of, row_at, row_of};
-use gql_plain::{Ids, NoMemory, Words};
+use plan_ir::{Ids, NoMemory, Words};
 use std::alloc::Global;
 
 /// The places of the rows that saw a touched id, in order.

@@ -3,7 +3,7 @@ ghost use Rattle.std.specs.Prelude.{◌≡◌, ℕ, true, List, [], OnOk};
 ghost use Rattle.store_watch.specs.Lists.{under};
 ghost use Rattle.store_watch.specs.Numbers.{Grows, StandsUnder, has};
 
-use gql_plain::{Ids, NoMemory};
+use plan_ir::{Ids, NoMemory};
 use std::alloc::Global;
 use std::collections::BTreeMap;
 

@@ -11,5 +11,7 @@ pub mod watched;
 pub mod watches;
 
 pub use notices::{Notice, Notices};
+pub use plan_order::KeptReader;
+pub use store_read::{Snapshot, read};
 pub use watched::Watched;
 pub use watches::Watches;

@@ -1,6 +1,6 @@
 //! Reading watches again.
 ghost use Rattle.std.specs.Prelude.{◌≡◌, ◌+◌, ◌≤◌, ◌++◌, IfOk, OnOk};
-ghost use Rattle.store_model.specs.Walks.{standings};
+ghost use Rattle.plan_ir.specs.store_model.Walks.{standings};
 ghost use Rattle.store_read.specs.Reading.{slots};
 ghost use Rattle.store_watch.specs.Reads.{telling_at, told_at, told_of, work_at, work_of};
 ghost use Rattle.store_watch.specs.Rows.{look_of, telling_of, tellings_of};
@@ -8,10 +8,9 @@ ghost use Rattle.store_watch.specs.Watching.{read_of};
 
 use crate::notices::Notice;
 use crate::rows::{Row, differs, row_at};
-use gql_plain::NoMemory;
+use plan_ir::NoMemory;
 use std::alloc::Global;
-use store_read::read;
-use store_source::RecordSource;
+use store_read::{RecordSource, read};
 
 /// The notices of the rows at places.
 pub(crate) fn read_rows<S: RecordSource>(

@@ -10,8 +10,8 @@ ghost use Rattle.store_watch.specs.Watching as spec;
 ghost use Rattle.store_watch.specs.declared.rows.Row as row;
 
 use crate::watched::Watched;
-use gql_plain::NoMemory;
 use indexmap::IndexMap;
+use plan_ir::NoMemory;
 use std::alloc::Global;
 use store_read::Snapshot;
 

@@ -1,7 +1,6 @@
 //! What watches show.
-use gql_plain::{Id, Ids, Name, Words};
+use plan_ir::{Env, Id, Ids, Name, Words};
 use plan_order::KeptReader;
-use schema_values::Env;
 use std::rc::Rc;
 
 /// What a watch shows: the plan of an operation, or of a fragment, under an environment, of the record

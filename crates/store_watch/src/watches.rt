@@ -1,7 +1,7 @@
 //! Watches in order of start.
 ghost use Rattle.std.specs.Prelude.{◌≡◌, ◌+◌, ◌<◌, ◌≤◌, ◌++◌, ℕ, false, List, [], ◌∷◌, length, map, slice_index_or, IfOk, OnOk, OnErr};
 ghost use Rattle.std.specs.List.{AllByRecursion};
-ghost use Rattle.store_model.specs.Walks.{Slots};
+ghost use Rattle.plan_ir.specs.store_model.Walks.{Slots};
 ghost use Rattle.store_read.specs.Reading.{reading_of, slots};
 ghost use Rattle.store_watch.specs.Numbers.{Rises};
 ghost use Rattle.store_watch.specs.Rows.{look_of};
@@ -14,12 +14,11 @@ use crate::notices::Notices;
 use crate::reads::read_rows;
 use crate::rows::{Row, Rows, all_numbers, in_order, is_named, is_used, put_row, put_snapshot};
 use crate::watched::Watched;
-use gql_plain::{Ids, NoMemory, Words};
 use indexmap::IndexMap;
+use plan_ir::{Ids, NoMemory, Words};
 use std::alloc::Global;
 use std::marker::Model;
-use store_read::Snapshot;
-use store_source::RecordSource;
+use store_read::{RecordSource, Snapshot};
 
 /// Watches in order of start, seen as the list of their names, what they show, and what their reads
 /// gave the last time.

@@ -1,16 +1,16 @@
 -- The nodes of a document are counted in one way, where places are given and where rules number names.
 use Rattle.std.proofs.Common.{◌≡◌, ◌+◌, List, [], ◌∷◌, Option, Some, None, refl, ap, arith}
-use Rattle.gql_ast.specs.Sels as sels
-use Rattle.gql_ast.specs.Sels.{Sels, end}
-use Rattle.gql_ast.specs.TypeView.{ty_of}
-use Rattle.gql_ast.specs.Value.{members_of}
-use Rattle.gql_ast.specs.declared.document.Definition.{Definition}
-use Rattle.gql_ast.specs.declared.document.Definition.TheVariants as D
-use Rattle.gql_ast.specs.declared.document.Document.{Document}
-use Rattle.gql_ast.specs.declared.variable.VariableDef.{VariableDef}
-use Rattle.gql_graph.specs.Texts.{Text}
+use Rattle.gql_parse.specs.gql_ast.Sels as sels
+use Rattle.gql_parse.specs.gql_ast.Sels.{Sels, end}
+use Rattle.gql_parse.specs.gql_ast.TypeView.{ty_of}
+use Rattle.gql_parse.specs.gql_ast.Value.{members_of}
+use Rattle.gql_parse.specs.gql_ast.declared.document.Definition.{Definition}
+use Rattle.gql_parse.specs.gql_ast.declared.document.Definition.TheVariants as D
+use Rattle.gql_parse.specs.gql_ast.declared.document.Document.{Document}
+use Rattle.gql_parse.specs.gql_ast.declared.variable.VariableDef.{VariableDef}
+use Rattle.schema_types.specs.gql_graph.Texts.{Text}
 use Rattle.gql_parse.specs.Nodes as text
-use Rattle.gql_syntax.specs.Nodes as parts
+use Rattle.gql_parse.specs.gql_syntax.Nodes as parts
 use Rattle.schema_types.specs.Sites as rules
 use Rattle.text_places.proofs.SchemaCounts.{members_count, directives_count, type_count, default_count}
 

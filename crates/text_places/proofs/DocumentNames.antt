@@ -2,22 +2,22 @@
 -- token.
 use Rattle.std.proofs.Common.{◌≡◌, ℕ, ◌+◌, List, [], ◌∷◌, ◌++◌, length, map, replicate, Some, refl, ap, sym, ◌∙◌, subst, append_assoc}
 use Rattle.std.proofs.lemmas.List.{append-nil, length-append, length-replicate}
-use Rattle.gql_ast.specs.Value.{Val}
-use Rattle.gql_ast.specs.Value as v
-use Rattle.gql_ast.specs.declared.document.Definition.{Definition}
-use Rattle.gql_ast.specs.declared.document.Document.{Document}
-use Rattle.gql_ast.specs.declared.place.FilePlace.{FilePlace}
-use Rattle.gql_ast.specs.declared.place.Placed.{Placed}
-use Rattle.gql_graph.specs.Texts.{Text}
-use Rattle.gql_lex.specs.Sources.{Piece, lex_from}
-use Rattle.gql_lex.specs.Toks as tok
-use Rattle.gql_lex.specs.Toks.{Tok, tok_of_piece, toks_of}
+use Rattle.gql_parse.specs.gql_ast.Value.{Val}
+use Rattle.gql_parse.specs.gql_ast.Value as v
+use Rattle.gql_parse.specs.gql_ast.declared.document.Definition.{Definition}
+use Rattle.gql_parse.specs.gql_ast.declared.document.Document.{Document}
+use Rattle.gql_parse.specs.gql_ast.declared.place.FilePlace.{FilePlace}
+use Rattle.gql_parse.specs.gql_ast.declared.place.Placed.{Placed}
+use Rattle.schema_types.specs.gql_graph.Texts.{Text}
+use Rattle.gql_parse.specs.gql_lex.Sources.{Piece, lex_from}
+use Rattle.gql_parse.specs.gql_lex.Toks as tok
+use Rattle.gql_parse.specs.gql_lex.Toks.{Tok, tok_of_piece, toks_of}
 use Rattle.gql_parse.proofs.Mapped.{map-definition}
 use Rattle.gql_parse.specs.Documents.{Written, definition_of, documents, nodes_of, spell_definition, spell_definitions}
 use Rattle.gql_parse.specs.Trees.{IsDocument}
-use Rattle.gql_syntax.proofs.Marks.{map_mark}
-use Rattle.gql_syntax.specs.Places.{file_place, place_nodes}
-use Rattle.schema_tables.specs.Types.{Defs}
+use Rattle.gql_parse.proofs.gql_syntax_laws.Marks.{map_mark}
+use Rattle.gql_parse.specs.gql_syntax.Places.{file_place, place_nodes}
+use Rattle.schema_types.specs.schema_tables.Types.{Defs}
 use Rattle.schema_types.specs.DocumentRules.{places_of}
 use Rattle.schema_types.specs.Sites.{definitions_at, document_nodes}
 use Rattle.text_places.specs.DocumentNaming.{first_token, HoldsInside, Opens, OpensAt, ValueBeginsAt, AreWritten, Reading, placed_of, AreAllWritten}

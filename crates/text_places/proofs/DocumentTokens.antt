@@ -1,26 +1,26 @@
 -- The numbers that rules give to what stands in a document are those of the tokens that spell it.
 use Rattle.std.proofs.Common.{◌≡◌, ℕ, ◌+◌, List, [], ◌∷◌, map, Option, Some, None, IfSome, refl, arith}
 use Rattle.std.specs.List.{AllByRecursion}
-use Rattle.gql_ast.specs.Sels as sels
-use Rattle.gql_ast.specs.Sels.{Sels, end}
-use Rattle.gql_ast.specs.TypeView.{ty_of}
-use Rattle.gql_ast.specs.Value.{Val, Vals, Members, no_vals, val, no_members, member, members_of}
-use Rattle.gql_ast.specs.Value as v
-use Rattle.gql_ast.specs.ValueView.{value_of}
-use Rattle.gql_ast.specs.declared.directive.Directive.{Directive}
-use Rattle.gql_ast.specs.declared.document.Definition.TheVariants as D
-use Rattle.gql_ast.specs.declared.value.ValueTree.{ValueTree}
-use Rattle.gql_ast.specs.declared.variable.VariableDef.{VariableDef}
-use Rattle.gql_graph.specs.Texts.{Text}
-use Rattle.gql_lex.specs.Toks as tok
-use Rattle.gql_lex.specs.Toks.{Tok}
+use Rattle.gql_parse.specs.gql_ast.Sels as sels
+use Rattle.gql_parse.specs.gql_ast.Sels.{Sels, end}
+use Rattle.gql_parse.specs.gql_ast.TypeView.{ty_of}
+use Rattle.gql_parse.specs.gql_ast.Value.{Val, Vals, Members, no_vals, val, no_members, member, members_of}
+use Rattle.gql_parse.specs.gql_ast.Value as v
+use Rattle.gql_parse.specs.gql_ast.ValueView.{value_of}
+use Rattle.gql_parse.specs.gql_ast.declared.directive.Directive.{Directive}
+use Rattle.gql_parse.specs.gql_ast.declared.document.Definition.TheVariants as D
+use Rattle.gql_parse.specs.gql_ast.declared.value.ValueTree.{ValueTree}
+use Rattle.gql_parse.specs.gql_ast.declared.variable.VariableDef.{VariableDef}
+use Rattle.schema_types.specs.gql_graph.Texts.{Text}
+use Rattle.gql_parse.specs.gql_lex.Toks as tok
+use Rattle.gql_parse.specs.gql_lex.Toks.{Tok}
 use Rattle.gql_parse.specs.Documents.{fragment_word, spell_name, spell_on, spell_braces, spell_selections, spell_set, spell_optional_name, spell_variables, spell_variables_part, Written, bare, full, definition_of, spell_definition, spell_definitions}
-use Rattle.gql_syntax.specs.Spelling.{spell_value, spell_values, spell_members, spell_arguments, spell_directives, spell_default}
-use Rattle.gql_syntax.specs.Words.{on_word, kind_word, truth_word, null_word}
-use Rattle.schema_tables.specs.Types.{Defs, root}
-use Rattle.schema_trees.proofs.BelowSteps.{all_append}
-use Rattle.schema_trees.specs.Located.{value_nodes, directives_nodes, type_nodes, default_nodes}
-use Rattle.schema_trees.specs.Numbers.{HoldsName}
+use Rattle.gql_parse.specs.gql_syntax.Spelling.{spell_value, spell_values, spell_members, spell_arguments, spell_directives, spell_default}
+use Rattle.gql_parse.specs.gql_syntax.Words.{on_word, kind_word, truth_word, null_word}
+use Rattle.schema_types.specs.schema_tables.Types.{Defs, root}
+use Rattle.schema_types.proofs.schema_trees_laws.BelowSteps.{all_append}
+use Rattle.schema_types.specs.schema_trees.Located.{value_nodes, directives_nodes, type_nodes, default_nodes}
+use Rattle.schema_types.specs.schema_trees.Numbers.{HoldsName}
 use Rattle.schema_types.specs.SiteNumbers.{HoldsValue, HoldsArgument, HoldsDirective, HoldsVariable, HoldsSite, HoldsDefinition}
 use Rattle.schema_types.specs.Sites.{optional_name_nodes, arguments_nodes, head_nodes, selections_nodes, variables_nodes, definition_nodes, arguments_at, directives_at, value_at, variables_at, optional_name_at, below, condition_or, sites, definition_at, definitions_at}
 use Rattle.text_places.proofs.SchemaTokens.{value_walk, default_walk, type_walk}

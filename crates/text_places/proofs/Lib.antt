@@ -1,3 +1,4 @@
+pub use Rattle.gql_parse.proofs as gql_parse_laws
 pub mod SchemaCounts
 pub mod PlaceCounts
 pub mod TokenSteps

@@ -1,25 +1,25 @@
 -- The nodes of a schema are counted in one way, where places are given and where rules number names.
 use Rattle.std.proofs.Common.{◌≡◌, ◌+◌, List, [], ◌∷◌, length, Option, Some, None, refl, ap, arith}
-use Rattle.gql_ast.specs.Ty as ty
-use Rattle.gql_ast.specs.Ty.{Ty}
-use Rattle.gql_ast.specs.TypeView.{ty_of}
-use Rattle.gql_ast.specs.Value.{Val, Vals, Members, no_vals, val, no_members, member, members_of}
-use Rattle.gql_ast.specs.Value as v
-use Rattle.gql_ast.specs.ValueView.{value_of}
-use Rattle.gql_ast.specs.declared.directive.Directive.{Directive}
-use Rattle.gql_ast.specs.declared.member.EnumValue.{EnumValue}
-use Rattle.gql_ast.specs.declared.member.FieldTree.{FieldTree}
-use Rattle.gql_ast.specs.declared.member.InputTree.{InputTree}
-use Rattle.gql_ast.specs.declared.schema.Root.{Root}
-use Rattle.gql_ast.specs.declared.schema.SchemaDef.{SchemaDef}
-use Rattle.gql_ast.specs.declared.schema.SchemaDef.TheVariants as S
-use Rattle.gql_ast.specs.declared.schema.SchemaTree.{SchemaTree}
-use Rattle.gql_ast.specs.declared.value.ValueTree.{ValueTree}
-use Rattle.gql_graph.specs.Texts.{Text}
+use Rattle.gql_parse.specs.gql_ast.Ty as ty
+use Rattle.gql_parse.specs.gql_ast.Ty.{Ty}
+use Rattle.gql_parse.specs.gql_ast.TypeView.{ty_of}
+use Rattle.gql_parse.specs.gql_ast.Value.{Val, Vals, Members, no_vals, val, no_members, member, members_of}
+use Rattle.gql_parse.specs.gql_ast.Value as v
+use Rattle.gql_parse.specs.gql_ast.ValueView.{value_of}
+use Rattle.gql_parse.specs.gql_ast.declared.directive.Directive.{Directive}
+use Rattle.gql_parse.specs.gql_ast.declared.member.EnumValue.{EnumValue}
+use Rattle.gql_parse.specs.gql_ast.declared.member.FieldTree.{FieldTree}
+use Rattle.gql_parse.specs.gql_ast.declared.member.InputTree.{InputTree}
+use Rattle.gql_parse.specs.gql_ast.declared.schema.Root.{Root}
+use Rattle.gql_parse.specs.gql_ast.declared.schema.SchemaDef.{SchemaDef}
+use Rattle.gql_parse.specs.gql_ast.declared.schema.SchemaDef.TheVariants as S
+use Rattle.gql_parse.specs.gql_ast.declared.schema.SchemaTree.{SchemaTree}
+use Rattle.gql_parse.specs.gql_ast.declared.value.ValueTree.{ValueTree}
+use Rattle.schema_types.specs.gql_graph.Texts.{Text}
 use Rattle.gql_sdl.specs.Nodes as text
-use Rattle.gql_syntax.specs.Nodes as parts
-use Rattle.schema_trees.specs.Located as rules
-use Rattle.schema_trees.specs.Numbers as numbers
+use Rattle.gql_parse.specs.gql_syntax.Nodes as parts
+use Rattle.schema_types.specs.schema_trees.Located as rules
+use Rattle.schema_types.specs.schema_trees.Numbers as numbers
 
 mutual
   -- values

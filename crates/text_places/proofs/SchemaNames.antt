@@ -1,18 +1,18 @@
 -- The node of each name of a schema that was read begins at a Name of the text that spells it.
 use Rattle.std.proofs.Common.{◌≡◌, inl, inr, ℕ, List, [], map, codes, Some, refl, ap, sym, ◌∙◌, subst}
-use Rattle.gql_ast.specs.declared.place.FilePlace.{FilePlace}
-use Rattle.gql_ast.specs.declared.place.Placed.{Placed}
-use Rattle.gql_ast.specs.declared.schema.SchemaDef.{SchemaDef}
-use Rattle.gql_ast.specs.declared.schema.SchemaTree.{SchemaTree}
-use Rattle.gql_graph.specs.Texts.{Text}
-use Rattle.gql_lex.specs.Sources.{Piece, lex_from}
-use Rattle.gql_lex.specs.Toks as tok
-use Rattle.gql_lex.specs.Toks.{Tok, tok_of_piece, toks_of}
+use Rattle.gql_parse.specs.gql_ast.declared.place.FilePlace.{FilePlace}
+use Rattle.gql_parse.specs.gql_ast.declared.place.Placed.{Placed}
+use Rattle.gql_parse.specs.gql_ast.declared.schema.SchemaDef.{SchemaDef}
+use Rattle.gql_parse.specs.gql_ast.declared.schema.SchemaTree.{SchemaTree}
+use Rattle.schema_types.specs.gql_graph.Texts.{Text}
+use Rattle.gql_parse.specs.gql_lex.Sources.{Piece, lex_from}
+use Rattle.gql_parse.specs.gql_lex.Toks as tok
+use Rattle.gql_parse.specs.gql_lex.Toks.{Tok, tok_of_piece, toks_of}
 use Rattle.gql_sdl.proofs.Wholes.{map-definitions}
 use Rattle.gql_sdl.specs.Schemas.{Described, definition_of, schemas, nodes_of, spell_definitions}
 use Rattle.gql_sdl.specs.Trees.{IsSchema}
-use Rattle.gql_syntax.specs.Places.{file_place, place_nodes}
-use Rattle.schema_trees.specs.Located.{locate}
+use Rattle.gql_parse.specs.gql_syntax.Places.{file_place, place_nodes}
+use Rattle.schema_types.specs.schema_trees.Located.{locate}
 use Rattle.text_places.specs.Naming.{node_pieces, element_at, BeginsAt, NamedAt, SchemaAt, AreSpelled}
 use Rattle.text_places.proofs.SchemaTokens.{IsHead, located_walk}
 use Rattle.text_places.proofs.TokenPieces.{piece_tokens, piece_places, element_map, piece_at, name_piece, text_piece}

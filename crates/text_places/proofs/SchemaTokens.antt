@@ -1,24 +1,24 @@
 -- The numbers that rules give to the names of a schema are those of the tokens that spell them.
 use Rattle.std.proofs.Common.{◌≡◌, ◌⊎◌, inl, inr, ℕ, zero, suc, ◌+◌, Bool, true, false, List, [], ◌∷◌, map, codes, Option, Some, None, refl, ap, sym, ◌∙◌, arith}
 use Rattle.std.specs.List.{AllByRecursion}
-use Rattle.gql_ast.specs.Ty as ty
-use Rattle.gql_ast.specs.Ty.{Ty}
-use Rattle.gql_ast.specs.TypeView.{ty_of}
-use Rattle.gql_ast.specs.Value.{Val, Vals, Members, no_vals, val, no_members, member, members_of}
-use Rattle.gql_ast.specs.Value as v
-use Rattle.gql_ast.specs.ValueView.{value_of}
-use Rattle.gql_ast.specs.declared.directive.Directive.{Directive}
-use Rattle.gql_ast.specs.declared.schema.Root.{Root}
-use Rattle.gql_ast.specs.declared.value.ValueTree.{ValueTree}
-use Rattle.gql_graph.specs.Texts.{Text}
-use Rattle.gql_lex.specs.Toks as tok
-use Rattle.gql_lex.specs.Toks.{Tok}
+use Rattle.gql_parse.specs.gql_ast.Ty as ty
+use Rattle.gql_parse.specs.gql_ast.Ty.{Ty}
+use Rattle.gql_parse.specs.gql_ast.TypeView.{ty_of}
+use Rattle.gql_parse.specs.gql_ast.Value.{Val, Vals, Members, no_vals, val, no_members, member, members_of}
+use Rattle.gql_parse.specs.gql_ast.Value as v
+use Rattle.gql_parse.specs.gql_ast.ValueView.{value_of}
+use Rattle.gql_parse.specs.gql_ast.declared.directive.Directive.{Directive}
+use Rattle.gql_parse.specs.gql_ast.declared.schema.Root.{Root}
+use Rattle.gql_parse.specs.gql_ast.declared.value.ValueTree.{ValueTree}
+use Rattle.schema_types.specs.gql_graph.Texts.{Text}
+use Rattle.gql_parse.specs.gql_lex.Toks as tok
+use Rattle.gql_parse.specs.gql_lex.Toks.{Tok}
 use Rattle.gql_sdl.specs.Schemas.{location_word, Description, WrittenInput, WrittenField, WrittenValue, Written, schema, scalar, object, interface, union, enum, input, directive, Described, inputs_of, field_of, values_of, written_of, definition_of, spell_description, spell_inputs, spell_argument_defs, spell_input_fields, spell_fields, spell_fields_part, spell_enum_values, spell_enum_values_part, spell_roots, spell_leading, spell_further, spell_separated, spell_implements, spell_members_part, spell_repeatable, spell_written, spell_described, spell_definitions}
-use Rattle.gql_syntax.specs.Spelling.{spell_value, spell_values, spell_members, spell_arguments, spell_directives, spell_type, spell_default}
-use Rattle.gql_syntax.specs.Words.{on_word, kind_word, truth_word, null_word}
-use Rattle.schema_tables.specs.Types.{base_of}
-use Rattle.schema_trees.specs.Located.{type_at, inputs_at, fields_at, names_at, enum_values_at, roots_at, def_at, defs_at, value_nodes, values_nodes, members_nodes, directives_nodes, type_nodes, default_nodes, inputs_nodes, fields_nodes, names_nodes, enum_values_nodes, roots_nodes, def_nodes}
-use Rattle.schema_trees.specs.Numbers.{HoldsName, HoldsInput, HoldsField, HoldsRoot, HoldsDef}
+use Rattle.gql_parse.specs.gql_syntax.Spelling.{spell_value, spell_values, spell_members, spell_arguments, spell_directives, spell_type, spell_default}
+use Rattle.gql_parse.specs.gql_syntax.Words.{on_word, kind_word, truth_word, null_word}
+use Rattle.schema_types.specs.schema_tables.Types.{base_of}
+use Rattle.schema_types.specs.schema_trees.Located.{type_at, inputs_at, fields_at, names_at, enum_values_at, roots_at, def_at, defs_at, value_nodes, values_nodes, members_nodes, directives_nodes, type_nodes, default_nodes, inputs_nodes, fields_nodes, names_nodes, enum_values_nodes, roots_nodes, def_nodes}
+use Rattle.schema_types.specs.schema_trees.Numbers.{HoldsName, HoldsInput, HoldsField, HoldsRoot, HoldsDef}
 use Rattle.text_places.specs.Naming.{element_at}
 use Rattle.text_places.proofs.TokenSteps.{both, At, move_to, pass, pass_none, token_at}
 

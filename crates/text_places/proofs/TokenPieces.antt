@@ -1,14 +1,14 @@
 -- The tokens of nodes are those of the pieces of the text at which the nodes begin.
 use Rattle.std.proofs.Common.{◌≡◌, ◌⊎◌, inl, inr, ℕ, zero, suc, Bool, true, false, cond, ◌==◌, List, [], ◌∷◌, ◌++◌, map, replicate, slice_index, length, Option, Some, None, option_map, refl, ap, sym, ◌∙◌, subst}
 use Rattle.std.proofs.lemmas.List.{map-append, append-nil, append_assoc}
-use Rattle.gql_ast.specs.declared.place.FilePlace.{FilePlace}
-use Rattle.gql_graph.specs.Texts.{Text}
-use Rattle.gql_lex.specs.Sources.{Piece, Source, ended, faulty, token}
-use Rattle.gql_lex.specs.Toks as tok
-use Rattle.gql_lex.specs.Toks.{Tok, tok_of, tok_of_piece, punctuator_of, toks_of}
-use Rattle.gql_lex.specs.declared.tokens.TokenKind.{TokenKind}
-use Rattle.gql_lex.specs.declared.tokens.TokenKind.TheVariants as K
-use Rattle.gql_syntax.specs.Places.{file_place, place_nodes}
+use Rattle.gql_parse.specs.gql_ast.declared.place.FilePlace.{FilePlace}
+use Rattle.schema_types.specs.gql_graph.Texts.{Text}
+use Rattle.gql_parse.specs.gql_lex.Sources.{Piece, Source, ended, faulty, token}
+use Rattle.gql_parse.specs.gql_lex.Toks as tok
+use Rattle.gql_parse.specs.gql_lex.Toks.{Tok, tok_of, tok_of_piece, punctuator_of, toks_of}
+use Rattle.gql_parse.specs.gql_lex.declared.tokens.TokenKind.{TokenKind}
+use Rattle.gql_parse.specs.gql_lex.declared.tokens.TokenKind.TheVariants as K
+use Rattle.gql_parse.specs.gql_syntax.Places.{file_place, place_nodes}
 use Rattle.text_places.specs.Naming.{node_pieces, element_at, element_from}
 use Rattle.text_places.proofs.TokenSteps.{node_tokens}
 

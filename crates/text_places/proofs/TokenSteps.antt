@@ -1,8 +1,8 @@
 -- Steps along the tokens of a tree, each with the number of nodes that begin at it.
 use Rattle.std.proofs.Common.{◌≡◌, ℕ, zero, suc, ◌+◌, ◌<◌, List, [], ◌∷◌, ◌++◌, length, replicate, Some, refl, ap, sym, ◌∙◌, subst, append_assoc, arith}
 use Rattle.std.proofs.lemmas.List.{length-append, length-replicate}
-use Rattle.gql_lex.specs.Toks.{Tok}
-use Rattle.gql_syntax.specs.Spelling.{Mark}
+use Rattle.gql_parse.specs.gql_lex.Toks.{Tok}
+use Rattle.gql_parse.specs.gql_syntax.Spelling.{Mark}
 use Rattle.text_places.specs.Naming.{element_at}
 
 abbrev pub both : Mark (Tok × ℕ)

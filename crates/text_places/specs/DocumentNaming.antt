@@ -2,20 +2,20 @@
 -- fragments.
 use Rattle.std.specs.Prelude.{◌≡◌, ℕ, ◌+◌, List, [], ◌∷◌, map}
 use Rattle.std.specs.List.{AllByRecursion}
-use Rattle.gql_ast.specs.Value.{Val, Vals, Members, variable, int, text, truth, null, enum, list, object, no_vals, val, no_members, member}
-use Rattle.gql_ast.specs.declared.document.Document.{Document}
-use Rattle.gql_ast.specs.declared.document.Kind.{Kind}
-use Rattle.gql_ast.specs.declared.place.FilePlace.{FilePlace}
-use Rattle.gql_ast.specs.declared.place.Placed.{Placed}
-use Rattle.gql_graph.specs.Texts.{Text}
-use Rattle.gql_lex.specs.Sources.{Piece}
-use Rattle.gql_lex.specs.Toks as tok
-use Rattle.gql_lex.specs.Toks.{Tok, tok_of_piece}
+use Rattle.gql_parse.specs.gql_ast.Value.{Val, Vals, Members, variable, int, text, truth, null, enum, list, object, no_vals, val, no_members, member}
+use Rattle.gql_parse.specs.gql_ast.declared.document.Document.{Document}
+use Rattle.gql_parse.specs.gql_ast.declared.document.Kind.{Kind}
+use Rattle.gql_parse.specs.gql_ast.declared.place.FilePlace.{FilePlace}
+use Rattle.gql_parse.specs.gql_ast.declared.place.Placed.{Placed}
+use Rattle.schema_types.specs.gql_graph.Texts.{Text}
+use Rattle.gql_parse.specs.gql_lex.Sources.{Piece}
+use Rattle.gql_parse.specs.gql_lex.Toks as tok
+use Rattle.gql_parse.specs.gql_lex.Toks.{Tok, tok_of_piece}
 use Rattle.gql_parse.specs.Documents.{nodes_of}
 use Rattle.gql_parse.specs.Trees.{IsDocument}
-use Rattle.gql_syntax.specs.Words.{kind_word, truth_word, null_word}
-use Rattle.schema_tables.specs.Types.{Defs}
-use Rattle.schema_trees.specs.Located.{value_nodes}
+use Rattle.gql_parse.specs.gql_syntax.Words.{kind_word, truth_word, null_word}
+use Rattle.schema_types.specs.schema_tables.Types.{Defs}
+use Rattle.schema_types.specs.schema_trees.Located.{value_nodes}
 use Rattle.schema_types.specs.SiteNumbers.{HoldsDefinition}
 use Rattle.schema_types.specs.Sites.{DefinitionAt, definitions_at, document_nodes}
 use Rattle.text_places.specs.Naming.{BeginsAt, NamedAt}

@@ -1,14 +1,14 @@
 -- The tokens at which the nodes of a tree begin, and what it is that a node is a name.
 use Rattle.std.specs.Prelude.{◌≡◌, ◌⊎◌, ℕ, zero, suc, List, [], ◌∷◌, ◌++◌, codes, replicate, Option, Some, None}
 use Rattle.std.specs.List.{AllByRecursion}
-use Rattle.gql_ast.specs.declared.place.FilePlace.{FilePlace}
-use Rattle.gql_graph.specs.Texts.{Text}
-use Rattle.gql_lex.specs.Sources.{Piece, Source, ended, faulty, token, lex_from}
-use Rattle.gql_lex.specs.declared.tokens.TokenKind.TheVariants as K
-use Rattle.gql_syntax.specs.Places.{file_place}
-use Rattle.schema_tables.specs.Types.{base_of}
-use Rattle.schema_trees.specs.Located.{DefAt}
-use Rattle.schema_trees.specs.Numbers.{HoldsDef}
+use Rattle.gql_parse.specs.gql_ast.declared.place.FilePlace.{FilePlace}
+use Rattle.schema_types.specs.gql_graph.Texts.{Text}
+use Rattle.gql_parse.specs.gql_lex.Sources.{Piece, Source, ended, faulty, token, lex_from}
+use Rattle.gql_parse.specs.gql_lex.declared.tokens.TokenKind.TheVariants as K
+use Rattle.gql_parse.specs.gql_syntax.Places.{file_place}
+use Rattle.schema_types.specs.schema_tables.Types.{base_of}
+use Rattle.schema_types.specs.schema_trees.Located.{DefAt}
+use Rattle.schema_types.specs.schema_trees.Numbers.{HoldsDef}
 
 -- of each token its piece of the text, as many times as nodes begin at it
 abbrev pub node_pieces : (nodes : List ℕ) → Source → List Piece

@@ -1,17 +1,17 @@
 //! What holds of every tree that was read.
 ghost use Rattle.std.specs.Prelude.{◌≡◌, ℕ, List, length};
-ghost use Rattle.gql_ast.specs.declared.document.Document.{Document};
-ghost use Rattle.gql_ast.specs.declared.place.Placed.{Placed};
-ghost use Rattle.gql_ast.specs.declared.schema.SchemaTree.{SchemaTree};
+ghost use Rattle.gql_parse.specs.gql_ast.declared.document.Document.{Document};
+ghost use Rattle.gql_parse.specs.gql_ast.declared.place.Placed.{Placed};
+ghost use Rattle.gql_parse.specs.gql_ast.declared.schema.SchemaTree.{SchemaTree};
 ghost use Rattle.gql_parse.specs.Documents as documents;
 ghost use Rattle.gql_parse.specs.Nodes.{document_nodes};
 ghost use Rattle.gql_parse.specs.Trees.{IsDocument};
 ghost use Rattle.gql_sdl.specs.Nodes.{schema_nodes};
 ghost use Rattle.gql_sdl.specs.Schemas.{nodes_of};
 ghost use Rattle.gql_sdl.specs.Trees.{IsSchema};
-ghost use Rattle.schema_tables.specs.Types.{Defs};
-ghost use Rattle.schema_trees.specs.Located.{locate};
-ghost use Rattle.schema_trees.specs.Numbers as rules;
+ghost use Rattle.schema_types.specs.schema_tables.Types.{Defs};
+ghost use Rattle.schema_types.specs.schema_trees.Located.{locate};
+ghost use Rattle.schema_types.specs.schema_trees.Numbers as rules;
 ghost use Rattle.schema_types.specs.DocumentRules.{places_of};
 ghost use Rattle.schema_types.specs.Sites as sites;
 ghost use Rattle.text_places.specs.DocumentNaming.{AreAllWritten, AreWritten, Reading, placed_of};

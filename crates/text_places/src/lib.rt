@@ -2,3 +2,6 @@
 #![tactic(auto)]
 
 pub mod laws;
+
+pub use gql_parse::parse_document;
+pub use gql_sdl::parse_schema;

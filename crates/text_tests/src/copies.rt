@@ -1,6 +1,6 @@
 //! Copies of trees, of each form that a document or a schema has.
 use crate::texts::short;
-use gql_ast::{Documents, Placed, SchemaTree};
+use gql_parse::gql_ast::{Documents, Placed, SchemaTree};
 use gql_parse::parse_document;
 use gql_sdl::parse_schema;
 use std::alloc::Global;

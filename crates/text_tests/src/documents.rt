@@ -1,6 +1,6 @@
 //! Documents with their trees and the places of their nodes, and faults with their places.
 use crate::texts::{list_places, short, times};
-use gql_ast::{Document, ParseFault, Placed};
+use gql_parse::gql_ast::{Document, ParseFault, Placed};
 use gql_parse::parse_document;
 use std::alloc::Global;
 use std::test::Fail;

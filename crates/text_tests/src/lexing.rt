@@ -1,5 +1,5 @@
 //! Texts of the GraphQL specification (October 2021, section 2), and faults with their places.
-use gql_lex::{LexFault, Lexer, Place, TokenKind, place, string_value};
+use gql_parse::gql_lex::{LexFault, Lexer, Place, TokenKind, place, string_value};
 use std::alloc::Global;
 use std::test::Fail;
 

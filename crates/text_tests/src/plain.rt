@@ -1,4 +1,4 @@
-use gql_plain::{
+use gql_parse::gql_plain::{
     Conn, Ids, NoMemory, OptIds, Pairs, Plain, PlainFault, SharedText, Words, is_name, plain_of,
     text_of, value_of,
 };

@@ -1,7 +1,7 @@
 //! Schemas after the GraphQL specification (October 2021, section 3), with the places of their nodes, and
 //! faults with theirs. The trees, the places and the faults are those of graphql-core 3.2.8.
 use crate::texts::{list_places, short, times};
-use gql_ast::ParseFault;
+use gql_parse::gql_ast::ParseFault;
 use gql_sdl::parse_schema;
 use std::alloc::Global;
 use std::test::Fail;

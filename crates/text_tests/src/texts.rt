@@ -1,7 +1,7 @@
 //! Texts for tests, and places as texts.
 ghost use Rattle.std.specs.Prelude.{◌<◌, length};
 
-use gql_ast::FilePlaces;
+use gql_parse::gql_ast::FilePlaces;
 use std::alloc::Global;
 use std::test::Fail;
 

@@ -1,8 +1,8 @@
 //! Texts of the GraphQL specification (October 2021, section 2) with the places of their nodes, and
 //! faults with their offsets.
 use crate::texts::{list_places, times};
-use gql_ast::Kind;
-use gql_syntax::{
+use gql_parse::gql_ast::Kind;
+use gql_parse::gql_syntax::{
     Cursor, Fault, NESTING_LIMIT, expect_word, kind_of, read_arguments, read_default,
     read_directives, read_type, read_value,
 };

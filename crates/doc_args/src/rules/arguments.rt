@@ -1,21 +1,20 @@
 //! V12, argument names (GraphQL, October 2021, sections 5.4.1 and 5.4.2): the arguments of fields
 //! and directives are defined, and differ. `{ team(sise: 2) { name } }` breaks it at `sise`.
 ghost use Rattle.std.specs.Prelude.{◌≡◌, [], map, IfOk, OnOk};
-ghost use Rattle.schema_types.specs.ArgumentRules as rules;
+ghost use Rattle.doc_uses.specs.schema_types.ArgumentRules as rules;
 ghost use Rattle.gql_graph.specs.Leasts.{least_from};
-ghost use Rattle.schema_trees.specs.LocatedView.{name_of};
+ghost use Rattle.doc_uses.specs.schema_trees.LocatedView.{name_of};
 ghost use Rattle.gql_graph.specs.Rules.{each};
-ghost use Rattle.doc_sites.specs.SitesView.{argument_of, definition_of};
+ghost use Rattle.doc_uses.specs.doc_sites.SitesView.{argument_of, definition_of};
 ghost use Rattle.doc_args.specs.CallView.{call_of, takes_of};
 
 use crate::call::{Call, Takes, has_input};
 use crate::calls::calls_of;
-use doc_sites::{ArgumentAt, DefinitionAt};
+use doc_uses::located::NameAt;
+use doc_uses::repeats::note_repeated;
+use doc_uses::{ArgumentAt, DefinitionAt, InputDefs, Schema};
+use gql_graph::gql_plain::NoMemory;
 use gql_graph::least::Least;
-use gql_plain::NoMemory;
-use schema_trees::located::NameAt;
-use schema_trees::repeats::note_repeated;
-use schema_types::{InputDefs, Schema};
 use std::alloc::Global;
 
 /// V12: arguments of fields and directives are defined, and those of one field or directive differ

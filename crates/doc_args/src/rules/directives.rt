@@ -3,22 +3,19 @@
 //! `deprecated`.
 ghost use Rattle.std.specs.Prelude.{◌≡◌, ◌++◌, map, IfOk, OnOk};
 ghost use Rattle.std.specs.List.{list_any};
-ghost use Rattle.schema_types.specs.ArgumentRules as rules;
-ghost use Rattle.schema_tables.specs.BuiltIn as known;
+ghost use Rattle.doc_uses.specs.schema_types.ArgumentRules as rules;
+ghost use Rattle.doc_uses.specs.schema_tables.BuiltIn as known;
 ghost use Rattle.gql_graph.specs.Leasts.{least_from};
-ghost use Rattle.schema_trees.specs.LocatedView.{name_of};
+ghost use Rattle.doc_uses.specs.schema_trees.LocatedView.{name_of};
 ghost use Rattle.gql_graph.specs.Rules.{each};
-ghost use Rattle.doc_sites.specs.SitesView.{definition_of, directive_of, site_of, variable_of};
+ghost use Rattle.doc_uses.specs.doc_sites.SitesView.{definition_of, directive_of, site_of, variable_of};
 ghost use Rattle.doc_args.specs.Directives.{directives_at, once_name};
 
-use doc_sites::{DefinitionAt, DirectiveAt, Site, VariableAt};
-use gql_ast::document::Kind;
-use gql_ast::{Location, Locations};
+use doc_uses::located::NameAt;
+use doc_uses::repeats::note_repeated;
+use doc_uses::{DefinitionAt, DirectiveAt, Kind, Location, Locations, Schema, Site, VariableAt};
+use gql_graph::gql_plain::NoMemory;
 use gql_graph::least::Least;
-use gql_plain::NoMemory;
-use schema_trees::located::NameAt;
-use schema_trees::repeats::note_repeated;
-use schema_types::Schema;
 use std::alloc::Global;
 
 /// V15: directives are known, stand where they may, and those that are not repeatable stand once at

@@ -2,26 +2,27 @@
 //! object literal differ, and for an input type they are defined and the required ones given.
 //! `{ team(size: "2") { name } }` breaks it at `"2"`, where size is an Int.
 ghost use Rattle.std.specs.Prelude.{◌≡◌, ◌&&◌, map, not, option_copied, IfOk, OnOk};
-ghost use Rattle.gql_ast.specs.TypeView.{ty_of};
-ghost use Rattle.gql_ast.specs.Value.{members_of, vals_of};
-ghost use Rattle.gql_ast.specs.ValueView as tree;
-ghost use Rattle.schema_types.specs.ArgumentRules as rules;
+ghost use Rattle.doc_uses.specs.gql_ast.TypeView.{ty_of};
+ghost use Rattle.doc_uses.specs.gql_ast.Value.{members_of, vals_of};
+ghost use Rattle.doc_uses.specs.gql_ast.ValueView as tree;
+ghost use Rattle.doc_uses.specs.schema_types.ArgumentRules as rules;
 ghost use Rattle.gql_graph.specs.Leasts.{least_from};
 ghost use Rattle.gql_graph.specs.Rules.{each};
-ghost use Rattle.schema_tables.specs.Types as types;
-ghost use Rattle.doc_sites.specs.SitesView.{argument_of, definition_of, variable_of};
+ghost use Rattle.doc_uses.specs.schema_tables.Types as types;
+ghost use Rattle.doc_uses.specs.doc_sites.SitesView.{argument_of, definition_of, variable_of};
 ghost use Rattle.doc_args.specs.CallView.{call_of, takes_of};
 ghost use Rattle.doc_args.specs.Literals.{default_of_unfit, repeating, unfit_in};
 
 use crate::call::{Call, Takes, find_input};
 use crate::calls::calls_of;
-use doc_sites::{ArgumentAt, DefinitionAt, VariableAt};
-use gql_ast::{Arguments, TypeTree, ValueTree, ValueTrees};
+use doc_uses::type_forms::base_of;
+use doc_uses::{
+    ArgumentAt, Arguments, DefinitionAt, InputDef, InputDefs, Schema, TypeKind, TypeTree,
+    ValueTree, ValueTrees, VariableAt,
+};
+use gql_graph::gql_plain::NoMemory;
 use gql_graph::least::Least;
 use gql_graph::seen::Seen;
-use gql_plain::NoMemory;
-use schema_tables::type_forms::base_of;
-use schema_types::{InputDef, InputDefs, Schema, TypeKind};
 use std::alloc::Global;
 
 /// V14: literals fit the types of their places, and the names of each object differ (GraphQL,

@@ -3,26 +3,24 @@
 //! `node(id: ID!)` is wanted.
 ghost use Rattle.std.specs.Prelude.{◌≡◌, [], ◌++◌, ◌&&◌, map, IfOk, OnOk};
 ghost use Rattle.std.specs.List.{list_any};
-ghost use Rattle.gql_ast.specs.ValueView.{value_of};
-ghost use Rattle.gql_plain.specs.Order.{has_text};
-ghost use Rattle.schema_types.specs.ArgumentRules as rules;
-ghost use Rattle.schema_tables.specs.Required.{required_names};
+ghost use Rattle.doc_uses.specs.gql_ast.ValueView.{value_of};
+ghost use Rattle.gql_graph.specs.gql_plain.Order.{has_text};
+ghost use Rattle.doc_uses.specs.schema_types.ArgumentRules as rules;
+ghost use Rattle.doc_uses.specs.schema_tables.Required.{required_names};
 ghost use Rattle.gql_graph.specs.Leasts.{least_from};
-ghost use Rattle.schema_trees.specs.LocatedView.{name_of};
-ghost use Rattle.schema_rules.specs.Rules.{each, names_of};
-ghost use Rattle.doc_sites.specs.SitesView.{argument_of, definition_of};
+ghost use Rattle.doc_uses.specs.schema_trees.LocatedView.{name_of};
+ghost use Rattle.doc_uses.specs.schema_rules.Rules.{each, names_of};
+ghost use Rattle.doc_uses.specs.doc_sites.SitesView.{argument_of, definition_of};
 ghost use Rattle.doc_args.specs.CallView.{call_of, takes_of};
 ghost use Rattle.doc_args.specs.GivenNames.{count_new, given_name, given_names};
 
 use crate::call::{Call, Takes};
 use crate::calls::calls_of;
-use doc_sites::{ArgumentAt, DefinitionAt};
-use gql_ast::ValueTree;
+use doc_uses::located::NameAt;
+use doc_uses::{ArgumentAt, DefinitionAt, InputDefs, Schema, ValueTree};
+use gql_graph::gql_plain::NoMemory;
 use gql_graph::least::Least;
 use gql_graph::seen::Seen;
-use gql_plain::NoMemory;
-use schema_trees::located::NameAt;
-use schema_types::{InputDefs, Schema};
 use std::alloc::Global;
 
 /// V13: an argument of a non-null type without a default is given, and not as `null` (GraphQL,

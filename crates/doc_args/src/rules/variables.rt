@@ -2,26 +2,24 @@
 //! variable that is used is defined, and its use is allowed. `query Q { team(size: $n) { name } }`
 //! breaks it at `n`.
 ghost use Rattle.std.specs.Prelude.{◌≡◌, ◌++◌, [], List, map, IfOk, OnOk};
-ghost use Rattle.schema_types.specs.ArgumentRules as rules;
+ghost use Rattle.doc_uses.specs.schema_types.ArgumentRules as rules;
 ghost use Rattle.gql_graph.specs.Leasts.{least_from};
-ghost use Rattle.schema_trees.specs.LocatedView.{name_of};
-ghost use Rattle.schema_rules.specs.Rules.{each, repeated_names};
-ghost use Rattle.schema_types.specs.Sites as spec;
-ghost use Rattle.doc_sites.specs.Definitions.{on_operation};
-ghost use Rattle.doc_sites.specs.SitesView.{definition_of, operation_of, variable_of};
+ghost use Rattle.doc_uses.specs.schema_trees.LocatedView.{name_of};
+ghost use Rattle.doc_uses.specs.schema_rules.Rules.{each, repeated_names};
+ghost use Rattle.doc_uses.specs.schema_types.Sites as spec;
+ghost use Rattle.doc_uses.specs.doc_sites.Definitions.{on_operation};
+ghost use Rattle.doc_uses.specs.doc_sites.SitesView.{definition_of, operation_of, variable_of};
 ghost use Rattle.doc_uses.specs.FragmentUses.{Describes};
 ghost use Rattle.doc_args.specs.UsesIn.{uses_in_fragment, uses_in_operation, variable_names};
 
 use crate::fragments::fragment_uses;
 use crate::rules::literals::is_input_type;
 use crate::uses::uses_of;
-use doc_sites::{DefinitionAt, OperationAt, VariableAt};
-use doc_uses::{FragmentUses, note_wrong_uses};
+use doc_uses::located::NameAt;
+use doc_uses::repeats::note_repeated;
+use doc_uses::{DefinitionAt, FragmentUses, OperationAt, Schema, VariableAt, note_wrong_uses};
+use gql_graph::gql_plain::NoMemory;
 use gql_graph::least::Least;
-use gql_plain::NoMemory;
-use schema_trees::located::NameAt;
-use schema_trees::repeats::note_repeated;
-use schema_types::Schema;
 use std::alloc::Global;
 
 /// V16: the variables of an operation differ and have input types; each variable that is used in it,

@@ -2,27 +2,25 @@
 //! the type around it have a possible type in common. `{ me { ... on Page { title } } }` breaks it
 //! at the `...`, where no User is a Page; a spread breaks it at its name.
 ghost use Rattle.std.specs.Prelude.{◌≡◌, Some, map, option_copied, option_map, ◌++◌, List, IfOk, OnOk};
-ghost use Rattle.schema_types.specs.FieldRules as rules;
-ghost use Rattle.gql_graph.specs.Graphs.{Holds, Tells};
-ghost use Rattle.gql_graph.specs.Leasts.{least_from};
-ghost use Rattle.schema_trees.specs.LocatedView.{name_of};
-ghost use Rattle.schema_types.specs.NameRules.{fragment_named};
-ghost use Rattle.schema_types.specs.NameRules as names;
-ghost use Rattle.gql_graph.specs.Rules.{each, wrong};
-ghost use Rattle.schema_types.specs.Sites as spec;
-ghost use Rattle.schema_tables.specs.Types as types;
+ghost use Rattle.doc_sites.specs.schema_types.FieldRules as rules;
+ghost use Rattle.doc_sites.specs.gql_graph.Graphs.{Holds, Tells};
+ghost use Rattle.doc_sites.specs.gql_graph.Leasts.{least_from};
+ghost use Rattle.doc_sites.specs.schema_trees.LocatedView.{name_of};
+ghost use Rattle.doc_sites.specs.schema_types.NameRules.{fragment_named};
+ghost use Rattle.doc_sites.specs.schema_types.NameRules as names;
+ghost use Rattle.doc_sites.specs.gql_graph.Rules.{each, wrong};
+ghost use Rattle.doc_sites.specs.schema_types.Sites as spec;
+ghost use Rattle.doc_sites.specs.schema_tables.Types as types;
 ghost use Rattle.doc_sites.specs.SitesView.{definition_of, fragment_of, site_of};
 ghost use Rattle.doc_fields.specs.Common.{AreCommon};
 ghost use Rattle.doc_sites.specs.Definitions.{on_fragment};
 ghost use Rattle.doc_fields.specs.Fragments.{condition_in, conditions_of, leading};
 
 use crate::common_types::CommonTypes;
-use doc_sites::{DefinitionAt, FragmentAt, Site};
-use gql_graph::graph::Graph;
-use gql_graph::least::Least;
-use gql_plain::NoMemory;
-use schema_trees::located::NameAt;
-use schema_types::Schema;
+use doc_sites::graph::Graph;
+use doc_sites::least::Least;
+use doc_sites::located::NameAt;
+use doc_sites::{DefinitionAt, FragmentAt, NoMemory, Schema, Site};
 use std::alloc::Global;
 
 /// V10: the type condition of a fragment, also of an inline one, and the type around it have a

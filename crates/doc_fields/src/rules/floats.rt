@@ -1,17 +1,16 @@
 //! V9, no Float (this project's own): the named type of a selected field is not Float.
 //! `{ me { height } }` breaks it at `height`, where that is a Float.
 ghost use Rattle.std.specs.Prelude.{◌≡◌, Some, map, option_copied};
-ghost use Rattle.schema_types.specs.FieldRules as rules;
-ghost use Rattle.gql_graph.specs.Leasts.{least_from};
-ghost use Rattle.gql_graph.specs.Rules.{each};
-ghost use Rattle.schema_types.specs.Sites.{field_type};
+ghost use Rattle.doc_sites.specs.schema_types.FieldRules as rules;
+ghost use Rattle.doc_sites.specs.gql_graph.Leasts.{least_from};
+ghost use Rattle.doc_sites.specs.gql_graph.Rules.{each};
+ghost use Rattle.doc_sites.specs.schema_types.Sites.{field_type};
 ghost use Rattle.doc_sites.specs.SitesView.{definition_of, site_of};
 ghost use Rattle.doc_fields.specs.Bases.{float_of};
 
 use doc_sites::around::below;
-use doc_sites::{DefinitionAt, Site};
-use gql_graph::least::Least;
-use schema_types::Schema;
+use doc_sites::least::Least;
+use doc_sites::{DefinitionAt, Schema, Site};
 
 /// V9: no field that is selected is of Float. This project's own; the type is of section 3.5.2 of
 /// GraphQL, October 2021.

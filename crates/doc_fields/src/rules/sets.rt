@@ -1,17 +1,16 @@
 //! V8, leaf field selections (GraphQL, October 2021, section 5.3.3): a leaf has no selection set,
 //! and a composite field has one. `{ me }` breaks it at `me`, where `me` is a User.
 ghost use Rattle.std.specs.Prelude.{◌≡◌, map, option_copied, Some};
-ghost use Rattle.schema_types.specs.FieldRules as rules;
-ghost use Rattle.gql_graph.specs.Leasts.{least_from};
-ghost use Rattle.gql_graph.specs.Rules.{each};
-ghost use Rattle.schema_types.specs.Sites.{field_type};
+ghost use Rattle.doc_sites.specs.schema_types.FieldRules as rules;
+ghost use Rattle.doc_sites.specs.gql_graph.Leasts.{least_from};
+ghost use Rattle.doc_sites.specs.gql_graph.Rules.{each};
+ghost use Rattle.doc_sites.specs.schema_types.Sites.{field_type};
 ghost use Rattle.doc_sites.specs.SitesView.{definition_of, site_of};
 ghost use Rattle.doc_fields.specs.Bases.{set_wrong_of};
 
 use doc_sites::around::below;
-use doc_sites::{DefinitionAt, Site};
-use gql_graph::least::Least;
-use schema_types::Schema;
+use doc_sites::least::Least;
+use doc_sites::{DefinitionAt, Schema, Site};
 
 /// V8: a field of a scalar or an enum has no selection set, and one of an object, an interface or a
 /// union has one (GraphQL, October 2021, section 5.3.3).

@@ -2,14 +2,14 @@
 //! a subscription has one response key, and it is no `__typename`.
 //! `subscription S { renamed { name } posted { title } }` breaks it at `S`.
 ghost use Rattle.std.specs.Prelude.{◌≡◌, map, option_map, ◌++◌, List, Some, IfOk, OnOk};
-ghost use Rattle.gql_ast.specs.declared.document.Kind.TheVariants.{Subscription};
-ghost use Rattle.schema_types.specs.FieldRules as rules;
-ghost use Rattle.gql_graph.specs.Leasts.{least_from};
-ghost use Rattle.schema_trees.specs.LocatedView.{name_of};
-ghost use Rattle.gql_graph.specs.Rules.{each};
-ghost use Rattle.schema_types.specs.Sites as sites;
-ghost use Rattle.gql_graph.specs.Texts.{Text};
-ghost use Rattle.schema_tables.specs.Types as types;
+ghost use Rattle.doc_sites.specs.gql_ast.declared.document.Kind.TheVariants.{Subscription};
+ghost use Rattle.doc_sites.specs.schema_types.FieldRules as rules;
+ghost use Rattle.doc_sites.specs.gql_graph.Leasts.{least_from};
+ghost use Rattle.doc_sites.specs.schema_trees.LocatedView.{name_of};
+ghost use Rattle.doc_sites.specs.gql_graph.Rules.{each};
+ghost use Rattle.doc_sites.specs.schema_types.Sites as sites;
+ghost use Rattle.doc_sites.specs.gql_graph.Texts.{Text};
+ghost use Rattle.doc_sites.specs.schema_tables.Types as types;
 ghost use Rattle.doc_sites.specs.SitesView.{definition_of, operation_of};
 ghost use Rattle.doc_sites.specs.Definitions.{on_operation};
 ghost use Rattle.doc_fields.specs.Heads.{keys_of_name, IsOf};
@@ -17,12 +17,9 @@ ghost use Rattle.doc_fields.specs.Keys.{keys_view, sum_of, AreReached};
 
 use crate::keys::{RootKeys, keys_in};
 use crate::spreads::{RootFragments, put_spreads, root_fragments};
-use doc_sites::{DefinitionAt, OperationAt};
-use gql_ast::{Kind, Selections};
-use gql_graph::least::Least;
-use gql_plain::NoMemory;
-use schema_trees::located::NameAt;
-use schema_types::Schema;
+use doc_sites::least::Least;
+use doc_sites::located::NameAt;
+use doc_sites::{DefinitionAt, Kind, NoMemory, OperationAt, Schema, Selections};
 use std::alloc::Global;
 
 /// V11: a subscription has one response key at its root, also in the fragments that apply to the root

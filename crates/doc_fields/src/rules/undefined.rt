@@ -2,16 +2,15 @@
 //! around it; `__typename` is on every composite type. On `type User { name: String }` the
 //! selection `{ me { nam } }` breaks it at `nam`.
 ghost use Rattle.std.specs.Prelude.{◌≡◌, Some, map, option_copied};
-ghost use Rattle.schema_types.specs.FieldRules as rules;
-ghost use Rattle.gql_graph.specs.Leasts.{least_from};
-ghost use Rattle.gql_graph.specs.Rules.{each};
-ghost use Rattle.schema_types.specs.Sites.{field_type};
+ghost use Rattle.doc_sites.specs.schema_types.FieldRules as rules;
+ghost use Rattle.doc_sites.specs.gql_graph.Leasts.{least_from};
+ghost use Rattle.doc_sites.specs.gql_graph.Rules.{each};
+ghost use Rattle.doc_sites.specs.schema_types.Sites.{field_type};
 ghost use Rattle.doc_sites.specs.SitesView.{definition_of, site_of};
 
 use doc_sites::around::below_on;
-use doc_sites::{DefinitionAt, Site};
-use gql_graph::least::Least;
-use schema_types::Schema;
+use doc_sites::least::Least;
+use doc_sites::{DefinitionAt, Schema, Site};
 
 /// V7: a field is defined on its type (GraphQL, October 2021, section 5.3.1); `__typename` is defined
 /// on each object, interface and union (section 4.1).

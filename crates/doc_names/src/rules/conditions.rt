@@ -3,17 +3,15 @@
 ghost use Rattle.std.specs.Prelude.{◌≡◌, map, OnOk};
 ghost use Rattle.std.specs.List.{filter_map};
 ghost use Rattle.doc_sites.specs.SitesView.{definition_of, site_of};
-ghost use Rattle.gql_graph.specs.Leasts.{least_from};
-ghost use Rattle.schema_trees.specs.LocatedView.{name_of};
-ghost use Rattle.schema_types.specs.NameRules as names;
-ghost use Rattle.schema_rules.specs.Rules as rules;
+ghost use Rattle.doc_sites.specs.gql_graph.Leasts.{least_from};
+ghost use Rattle.doc_sites.specs.schema_trees.LocatedView.{name_of};
+ghost use Rattle.doc_sites.specs.schema_types.NameRules as names;
+ghost use Rattle.doc_sites.specs.schema_rules.Rules as rules;
 
 use crate::named::conditions_at;
-use doc_sites::{DefinitionAt, Site};
-use gql_graph::least::Least;
-use gql_plain::NoMemory;
-use schema_trees::located::NameAt;
-use schema_types::Schema;
+use doc_sites::least::Least;
+use doc_sites::located::NameAt;
+use doc_sites::{DefinitionAt, NoMemory, Schema, Site};
 use std::alloc::Global;
 
 /// Type conditions that name no such type.

@@ -6,24 +6,23 @@
 //! components, that is the first.
 ghost use Rattle.std.specs.Prelude.{◌≡◌, length, map, List, OnOk};
 ghost use Rattle.doc_sites.specs.SitesView.{definition_of, fragment_of};
-ghost use Rattle.gql_graph.specs.Graphs.{Tells};
-ghost use Rattle.gql_graph.specs.Leasts.{least_from};
-ghost use Rattle.schema_trees.specs.LocatedView.{name_of};
-ghost use Rattle.schema_types.specs.NameRules as names;
-ghost use Rattle.gql_graph.specs.Reached.{leads};
-ghost use Rattle.schema_rules.specs.Rules as rules;
-ghost use Rattle.schema_types.specs.Sites as sites;
-ghost use Rattle.gql_graph.specs.Texts.{Text};
+ghost use Rattle.doc_sites.specs.gql_graph.Graphs.{Tells};
+ghost use Rattle.doc_sites.specs.gql_graph.Leasts.{least_from};
+ghost use Rattle.doc_sites.specs.schema_trees.LocatedView.{name_of};
+ghost use Rattle.doc_sites.specs.schema_types.NameRules as names;
+ghost use Rattle.doc_sites.specs.gql_graph.Reached.{leads};
+ghost use Rattle.doc_sites.specs.schema_rules.Rules as rules;
+ghost use Rattle.doc_sites.specs.schema_types.Sites as sites;
+ghost use Rattle.doc_sites.specs.gql_graph.Texts.{Text};
 ghost use Rattle.doc_names.specs.Cycles.{leading_back, leads_back_in};
 ghost use Rattle.doc_sites.specs.Definitions.{on_fragment};
-ghost use Rattle.gql_graph.specs.Ranks.{rank_in, NeverRises};
+ghost use Rattle.doc_sites.specs.gql_graph.Ranks.{rank_in, NeverRises};
 
-use doc_sites::{DefinitionAt, FragmentAt, count_fragments, spread_graph, spreads_at};
-use gql_graph::graph::Graph;
-use gql_graph::least::Least;
-use gql_graph::ranks::Ranks;
-use gql_plain::NoMemory;
-use schema_trees::located::NameAt;
+use doc_sites::graph::Graph;
+use doc_sites::least::Least;
+use doc_sites::located::NameAt;
+use doc_sites::ranks::Ranks;
+use doc_sites::{DefinitionAt, FragmentAt, NoMemory, count_fragments, spread_graph, spreads_at};
 use std::alloc::Global;
 
 /// Spreads that lead back to the fragment in which they stand.

@@ -2,14 +2,13 @@
 //! `fragment F on User { name } fragment F on User { id }` breaks it at the second `F`.
 ghost use Rattle.std.specs.Prelude.{◌≡◌, map, OnOk};
 ghost use Rattle.doc_sites.specs.SitesView.{definition_of};
-ghost use Rattle.gql_graph.specs.Leasts.{least_from};
-ghost use Rattle.schema_types.specs.NameRules as names;
+ghost use Rattle.doc_sites.specs.gql_graph.Leasts.{least_from};
+ghost use Rattle.doc_sites.specs.schema_types.NameRules as names;
 
 use crate::named::fragment_names;
-use doc_sites::DefinitionAt;
-use gql_graph::least::Least;
-use gql_plain::NoMemory;
-use schema_trees::repeats::note_repeated;
+use doc_sites::least::Least;
+use doc_sites::repeats::note_repeated;
+use doc_sites::{DefinitionAt, NoMemory};
 use std::alloc::Global;
 
 /// Names of fragments that stand before.

@@ -4,16 +4,15 @@
 //! at its first token.
 ghost use Rattle.std.specs.Prelude.{◌≡◌, map, OnOk};
 ghost use Rattle.doc_sites.specs.SitesView.{definition_of, operation_of};
-ghost use Rattle.gql_graph.specs.Leasts.{least_from};
-ghost use Rattle.schema_types.specs.NameRules as names;
-ghost use Rattle.schema_rules.specs.Rules as rules;
+ghost use Rattle.doc_sites.specs.gql_graph.Leasts.{least_from};
+ghost use Rattle.doc_sites.specs.schema_types.NameRules as names;
+ghost use Rattle.doc_sites.specs.schema_rules.Rules as rules;
 ghost use Rattle.doc_sites.specs.Definitions.{on_operation};
 
 use crate::named::operation_names;
-use doc_sites::{DefinitionAt, OperationAt};
-use gql_graph::least::Least;
-use gql_plain::NoMemory;
-use schema_trees::repeats::note_repeated;
+use doc_sites::least::Least;
+use doc_sites::repeats::note_repeated;
+use doc_sites::{DefinitionAt, NoMemory, OperationAt};
 use std::alloc::Global;
 
 /// Operations without a name, by their first tokens, and names that stand before.

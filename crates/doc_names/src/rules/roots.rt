@@ -2,15 +2,13 @@
 //! exists. `mutation M { rename }` breaks it at `M` where the schema has no mutation type.
 ghost use Rattle.std.specs.Prelude.{◌≡◌, map, is_some};
 ghost use Rattle.doc_sites.specs.SitesView.{definition_of, operation_of};
-ghost use Rattle.gql_graph.specs.Leasts.{least_from};
-ghost use Rattle.schema_types.specs.NameRules as names;
-ghost use Rattle.schema_tables.specs.Types as types;
+ghost use Rattle.doc_sites.specs.gql_graph.Leasts.{least_from};
+ghost use Rattle.doc_sites.specs.schema_types.NameRules as names;
+ghost use Rattle.doc_sites.specs.schema_tables.Types as types;
 ghost use Rattle.doc_sites.specs.Definitions.{on_operation};
 
-use doc_sites::{DefinitionAt, OperationAt};
-use gql_ast::Kind;
-use gql_graph::least::Least;
-use schema_types::Schema;
+use doc_sites::least::Least;
+use doc_sites::{DefinitionAt, Kind, OperationAt, Schema};
 
 /// Operations of kinds that the schema has no root for, by their names.
 pub(crate) fn roots_missing(schema: &Schema, least: &mut Least, definitions: &[DefinitionAt<'_>])

@@ -2,20 +2,19 @@
 //! defined. `{ me { ...F } }` without a fragment F breaks it at `F`.
 ghost use Rattle.std.specs.Prelude.{◌≡◌, map, List, IfOk, OnOk};
 ghost use Rattle.doc_sites.specs.SitesView.{definition_of};
-ghost use Rattle.gql_graph.specs.Leasts.{least_from};
-ghost use Rattle.schema_trees.specs.LocatedView.{name_of};
-ghost use Rattle.schema_types.specs.NameRules as names;
-ghost use Rattle.schema_rules.specs.Rules as rules;
-ghost use Rattle.gql_graph.specs.Seen.{Knows};
-ghost use Rattle.gql_graph.specs.Texts.{Text};
+ghost use Rattle.doc_sites.specs.gql_graph.Leasts.{least_from};
+ghost use Rattle.doc_sites.specs.schema_trees.LocatedView.{name_of};
+ghost use Rattle.doc_sites.specs.schema_types.NameRules as names;
+ghost use Rattle.doc_sites.specs.schema_rules.Rules as rules;
+ghost use Rattle.doc_sites.specs.gql_graph.Seen.{Knows};
+ghost use Rattle.doc_sites.specs.gql_graph.Texts.{Text};
 
 use crate::named::fragment_names;
-use doc_sites::{DefinitionAt, spreads_at};
-use gql_graph::least::Least;
-use gql_graph::seen::Seen;
-use gql_plain::NoMemory;
-use schema_trees::located::NameAt;
-use schema_trees::repeats::seen_names;
+use doc_sites::least::Least;
+use doc_sites::located::NameAt;
+use doc_sites::repeats::seen_names;
+use doc_sites::seen::Seen;
+use doc_sites::{DefinitionAt, NoMemory, spreads_at};
 use std::alloc::Global;
 
 /// Spreads of no fragment, in operations and in fragments.

@@ -1,6 +1,6 @@
 use Rattle.std.proofs.Common.{◌≡◌, IsUtf8, Ok, Err, sym, ap, subst, ◌∙◌, inl, inr}
-use Rattle.gql_ast.specs.declared.document.Document.{Document}
-use Rattle.gql_ast.specs.declared.place.Placed.{Placed}
+use Rattle.gql_syntax.specs.gql_ast.declared.document.Document.{Document}
+use Rattle.gql_syntax.specs.gql_ast.declared.place.Placed.{Placed}
 use Rattle.gql_parse.specs.Documents.{documents}
 use Rattle.gql_parse.specs.Trees.{IsDocument}
 use Rattle.gql_syntax.specs.Texts.{IsParseFault}

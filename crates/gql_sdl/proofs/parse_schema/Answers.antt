@@ -1,6 +1,6 @@
 use Rattle.std.proofs.Common.{◌≡◌, IsUtf8, Ok, Err, inl, inr, sym, ap, subst, ◌∙◌}
-use Rattle.gql_ast.specs.declared.place.Placed.{Placed}
-use Rattle.gql_ast.specs.declared.schema.SchemaTree.{SchemaTree}
+use Rattle.gql_syntax.specs.gql_ast.declared.place.Placed.{Placed}
+use Rattle.gql_syntax.specs.gql_ast.declared.schema.SchemaTree.{SchemaTree}
 use Rattle.gql_sdl.specs.Trees.{IsSchema}
 use Rattle.gql_syntax.specs.Answers.{LiesIn, fault_in}
 use Rattle.gql_syntax.specs.Texts.{IsParseFault}

@@ -2,23 +2,23 @@
 //! `_` and the response key of the field, with something in front; `filters`, if there, is a list of
 //! strings that name arguments of the field. `friends @connection(key: "friends")` breaks it.
 ghost use Rattle.std.specs.Prelude.{◌≡◌, map, option_copied, option_map};
-ghost use Rattle.gql_ast.specs.Value.{vals_of};
-ghost use Rattle.gql_ast.specs.ValueView.{value_of};
-ghost use Rattle.gql_graph.specs.Leasts.{least_from};
-ghost use Rattle.schema_trees.specs.LocatedView.{name_of};
-ghost use Rattle.schema_types.specs.NameRules.{sites_of};
-ghost use Rattle.gql_graph.specs.Rules.{each};
-ghost use Rattle.gql_plain.specs.Order.{has_text};
-ghost use Rattle.doc_sites.specs.SitesView.{argument_of, definition_of, directive_of, site_of};
+ghost use Rattle.gql_syntax.specs.gql_ast.Value.{vals_of};
+ghost use Rattle.gql_syntax.specs.gql_ast.ValueView.{value_of};
+ghost use Rattle.schema_values.specs.gql_graph.Leasts.{least_from};
+ghost use Rattle.schema_values.specs.schema_trees.LocatedView.{name_of};
+ghost use Rattle.schema_values.specs.schema_types.NameRules.{sites_of};
+ghost use Rattle.schema_values.specs.gql_graph.Rules.{each};
+ghost use Rattle.gql_syntax.specs.gql_plain.Order.{has_text};
+ghost use Rattle.doc_uses.specs.doc_sites.SitesView.{argument_of, definition_of, directive_of, site_of};
 ghost use Rattle.relay_dirs.specs.Connections as spec;
 
 use crate::values::value_named;
-use doc_sites::{ArgumentAt, DefinitionAt, DirectiveAt, Site};
-use gql_ast::{ValueTree, ValueTrees};
-use gql_graph::least::Least;
-use gql_plain::is_name;
-use schema_trees::located::NameAt;
-use schema_types::{FieldDef, InputDefs, Schema};
+use doc_uses::{ArgumentAt, DefinitionAt, DirectiveAt, Site};
+use gql_syntax::gql_ast::{ValueTree, ValueTrees};
+use gql_syntax::gql_plain::is_name;
+use schema_values::least::Least;
+use schema_values::located::NameAt;
+use schema_values::{FieldDef, InputDefs, Schema};
 
 /// V21: the key of a connection is a Name that ends with `_` and the response key, with something in
 /// front, and its filters are a list of names of arguments.

@@ -3,11 +3,11 @@
 //! `fragment F on User @argumentDefinitions(n: { type: "Int" }) { ...P @arguments(size: $n) }` breaks it
 //! at `P`, where `size` is an `Int!`.
 ghost use Rattle.std.specs.Prelude.{◌≡◌, List, map, option_map, OnOk};
-ghost use Rattle.gql_graph.specs.Leasts.{least_from};
-ghost use Rattle.gql_graph.specs.Rules.{each};
-ghost use Rattle.schema_types.specs.Sites as parts;
-ghost use Rattle.doc_sites.specs.Definitions.{on_fragment};
-ghost use Rattle.doc_sites.specs.SitesView.{definition_of, fragment_of};
+ghost use Rattle.schema_values.specs.gql_graph.Leasts.{least_from};
+ghost use Rattle.schema_values.specs.gql_graph.Rules.{each};
+ghost use Rattle.schema_values.specs.schema_types.Sites as parts;
+ghost use Rattle.doc_uses.specs.doc_sites.Definitions.{on_fragment};
+ghost use Rattle.doc_uses.specs.doc_sites.SitesView.{definition_of, fragment_of};
 ghost use Rattle.doc_uses.specs.UseView.{place_of, use_of};
 ghost use Rattle.relay_dirs.specs.Locals as locals;
 ghost use Rattle.relay_dirs.specs.Spreads as spec;
@@ -17,12 +17,11 @@ ghost use Rattle.relay_dirs.specs.View.{local_view};
 use crate::fragments::{Fragments, Locals};
 use crate::local_variables::locals_of;
 use crate::spread_uses::uses_in_spreads;
-use doc_sites::{DefinitionAt, FragmentAt};
-use doc_uses::{Place, Use};
-use gql_ast::VariableDef;
-use gql_graph::least::Least;
-use gql_plain::NoMemory;
-use schema_types::Schema;
+use doc_uses::{DefinitionAt, FragmentAt, Place, Use};
+use gql_syntax::gql_ast::VariableDef;
+use gql_syntax::gql_plain::NoMemory;
+use schema_values::Schema;
+use schema_values::least::Least;
 use std::alloc::Global;
 
 /// Uses of local variables in spreads that are not allowed.

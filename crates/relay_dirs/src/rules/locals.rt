@@ -2,24 +2,23 @@
 //! a string that is a Type of inputs, and at most `defaultValue`, a constant that fits.
 //! `@argumentDefinitions(size: { type: "[Int" })` breaks it at `size`.
 ghost use Rattle.std.specs.Prelude.{◌≡◌, map, option_map, IfOk, OnOk};
-ghost use Rattle.gql_ast.specs.TypeView.{ty_of};
-ghost use Rattle.gql_ast.specs.ValueView.{value_of};
-ghost use Rattle.schema_types.specs.ArgumentRules as arguments;
-ghost use Rattle.gql_graph.specs.Leasts.{least_from};
-ghost use Rattle.gql_graph.specs.Rules.{each};
-ghost use Rattle.doc_sites.specs.SitesView.{argument_of, definition_of, directive_of};
+ghost use Rattle.gql_syntax.specs.gql_ast.TypeView.{ty_of};
+ghost use Rattle.gql_syntax.specs.gql_ast.ValueView.{value_of};
+ghost use Rattle.schema_values.specs.schema_types.ArgumentRules as arguments;
+ghost use Rattle.schema_values.specs.gql_graph.Leasts.{least_from};
+ghost use Rattle.schema_values.specs.gql_graph.Rules.{each};
+ghost use Rattle.doc_uses.specs.doc_sites.SitesView.{argument_of, definition_of, directive_of};
 ghost use Rattle.relay_dirs.specs.Locals as spec;
 ghost use Rattle.relay_dirs.specs.RelayRules as rules;
 ghost use Rattle.relay_dirs.specs.View.{local_view};
 
 use crate::local_variables::local_of;
-use doc_sites::{ArgumentAt, DefinitionAt, DirectiveAt};
-use gql_ast::{TypeTree, ValueTree, VariableDef};
-use gql_graph::least::Least;
-use gql_plain::NoMemory;
-use schema_tables::type_forms::base_of;
-use schema_types::{Schema, TypeKind};
-use schema_values::is_constant;
+use doc_uses::{ArgumentAt, DefinitionAt, DirectiveAt};
+use gql_syntax::gql_ast::{TypeTree, ValueTree, VariableDef};
+use gql_syntax::gql_plain::NoMemory;
+use schema_values::least::Least;
+use schema_values::type_forms::base_of;
+use schema_values::{Schema, TypeKind, is_constant};
 use std::alloc::Global;
 
 /// V17: each argument of `@argumentDefinitions` says a local variable of an input type, whose default

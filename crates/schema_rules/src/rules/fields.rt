@@ -5,27 +5,27 @@
 ghost use Rattle.std.specs.Prelude.{◌≡◌, ◌==◌, [], ◌∷◌, IsTrue, ◌&&◌, not, cond, map, length, count_by, bytes_eq, List, Some, None, IfOk, OnOk, option_map, option_and_then, option_copied, is_some};
 ghost use Rattle.std.specs.List.{AllByRecursion, IsDistinct};
 ghost use Rattle.std.specs.Option.{option_to_list};
-ghost use Rattle.gql_ast.specs.declared.member.FieldTree.{FieldTree};
-ghost use Rattle.gql_ast.specs.declared.member.InputTree.{InputTree};
-ghost use Rattle.gql_ast.specs.TypeView.{ty_of};
+ghost use Rattle.schema_trees.specs.gql_ast.declared.member.FieldTree.{FieldTree};
+ghost use Rattle.schema_trees.specs.gql_ast.declared.member.InputTree.{InputTree};
+ghost use Rattle.schema_trees.specs.gql_ast.TypeView.{ty_of};
 ghost use Rattle.gql_graph.specs.Leasts.{least_from};
 ghost use Rattle.schema_trees.specs.Located as located;
 ghost use Rattle.schema_trees.specs.LocatedView.{name_of, input_of, input_text, field_of, field_text, def_of};
 ghost use Rattle.schema_rules.specs.NamedAt.{field_place};
 ghost use Rattle.schema_rules.specs.Rules as rules;
-ghost use Rattle.schema_tables.specs.Indexes.{IsNameIndex, input_name};
-ghost use Rattle.schema_tables.specs.Types as types;
+ghost use Rattle.schema_trees.specs.schema_tables.Indexes.{IsNameIndex, input_name};
+ghost use Rattle.schema_trees.specs.schema_tables.Types as types;
 
 use crate::rules::interfaces::is_interface;
 use crate::rules::members::is_object;
-use gql_ast::{FieldTree, InputTree, TypeTree};
+use gql_graph::gql_plain::NoMemory;
 use gql_graph::least::Least;
-use gql_plain::NoMemory;
-use schema_tables::definitions::TypeFields;
-use schema_tables::index::Index;
-use schema_tables::tables::Tables;
-use schema_tables::type_forms::is_non_null;
+use schema_trees::gql_ast::{FieldTree, InputTree, TypeTree};
 use schema_trees::located::{DefAt, FieldAt, InputAt, NameAt};
+use schema_trees::schema_tables::definitions::TypeFields;
+use schema_trees::schema_tables::index::Index;
+use schema_trees::schema_tables::tables::Tables;
+use schema_trees::schema_tables::type_forms::is_non_null;
 use std::alloc::Global;
 
 /// S8: a type has each field of its interfaces, of the same type or a narrower one; it has each

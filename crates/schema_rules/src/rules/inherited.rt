@@ -6,18 +6,18 @@
 //! names only interfaces that the closed one names too.
 ghost use Rattle.std.specs.Prelude.{◌≡◌, Bool, false, not, map, List, IfOk, OnOk, IsTrue};
 ghost use Rattle.std.specs.List.{list_any};
-ghost use Rattle.gql_plain.specs.Order.{has_text};
+ghost use Rattle.gql_graph.specs.gql_plain.Order.{has_text};
 ghost use Rattle.gql_graph.specs.Seen.{Knows};
 ghost use Rattle.schema_trees.specs.LocatedView.{name_of};
 ghost use Rattle.schema_rules.specs.Inherited.{HasNone, is_open};
 ghost use Rattle.schema_rules.specs.Rules as rules;
-ghost use Rattle.schema_tables.specs.Types as types;
+ghost use Rattle.schema_trees.specs.schema_tables.Types as types;
 
+use gql_graph::gql_plain::{Name, NoMemory};
 use gql_graph::seen::Seen;
-use gql_plain::{Name, NoMemory};
-use schema_tables::tables::Tables;
 use schema_trees::located::{DefAt, NameAt};
 use schema_trees::repeats::seen_names;
+use schema_trees::schema_tables::tables::Tables;
 use std::alloc::Global;
 
 /// So many interfaces of an interface are looked at again for each type that implements it.

@@ -8,15 +8,15 @@ ghost use Rattle.schema_trees.specs.Located as located;
 ghost use Rattle.schema_trees.specs.LocatedView.{name_of, def_of};
 ghost use Rattle.schema_rules.specs.Inherited.{HasNone, is_open};
 ghost use Rattle.schema_rules.specs.Rules as rules;
-ghost use Rattle.schema_tables.specs.Types as types;
+ghost use Rattle.schema_trees.specs.schema_tables.Types as types;
 
 use crate::rules::inherited::{closed_types, leave_out};
+use gql_graph::gql_plain::NoMemory;
 use gql_graph::least::Least;
 use gql_graph::seen::Seen;
-use gql_plain::NoMemory;
-use schema_tables::kind::TypeKind;
-use schema_tables::tables::Tables;
 use schema_trees::located::{DefAt, NameAt};
+use schema_trees::schema_tables::kind::TypeKind;
+use schema_trees::schema_tables::tables::Tables;
 use std::alloc::Global;
 
 /// S7: what is implemented is an interface, not the type itself, and every interface that it

@@ -8,13 +8,13 @@ ghost use Rattle.gql_graph.specs.Leasts.{least_from};
 ghost use Rattle.schema_trees.specs.Located as located;
 ghost use Rattle.schema_trees.specs.LocatedView.{name_of, input_of, def_of};
 ghost use Rattle.schema_rules.specs.Rules as rules;
-ghost use Rattle.schema_tables.specs.Types as types;
+ghost use Rattle.schema_trees.specs.schema_tables.Types as types;
 
+use gql_graph::gql_plain::NoMemory;
 use gql_graph::least::Least;
-use gql_plain::NoMemory;
-use schema_tables::kind::TypeKind;
-use schema_tables::tables::Tables;
 use schema_trees::located::{DefAt, InputAt, NameAt};
+use schema_trees::schema_tables::kind::TypeKind;
+use schema_trees::schema_tables::tables::Tables;
 use std::alloc::Global;
 
 /// Whether a type is an object.

@@ -9,8 +9,8 @@ ghost use Rattle.gql_graph.specs.Leasts.{least_from};
 ghost use Rattle.schema_trees.specs.LocatedView.{name_of, input_of, field_of, root_of, def_of};
 ghost use Rattle.schema_rules.specs.Rules as rules;
 
+use gql_graph::gql_plain::NoMemory;
 use gql_graph::least::Least;
-use gql_plain::NoMemory;
 use schema_trees::located::{DefAt, FieldAt, InputAt, NameAt};
 use schema_trees::repeats::note_repeated;
 use std::alloc::Global;

@@ -2,8 +2,8 @@
 //! itself through non-null fields that are no lists. `input I { of: I! }` breaks it at `I`.
 ghost use Rattle.std.specs.Prelude.{◌≡◌, ◌++◌, map, length, List, IfOk, OnOk, option_map};
 ghost use Rattle.std.specs.List.{filter_map};
-ghost use Rattle.gql_ast.specs.Ty as ty;
-ghost use Rattle.gql_ast.specs.TypeView.{ty_of};
+ghost use Rattle.schema_trees.specs.gql_ast.Ty as ty;
+ghost use Rattle.schema_trees.specs.gql_ast.TypeView.{ty_of};
 ghost use Rattle.gql_graph.specs.Graphs.{Holds, Tells};
 ghost use Rattle.gql_graph.specs.Leasts.{least_from};
 ghost use Rattle.schema_trees.specs.LocatedView.{def_of};
@@ -11,15 +11,15 @@ ghost use Rattle.schema_rules.specs.Needing.{needing};
 ghost use Rattle.gql_graph.specs.Ranks.{rank_in, NeverRises};
 ghost use Rattle.gql_graph.specs.Reached.{any_leads};
 ghost use Rattle.schema_rules.specs.Rules as rules;
-ghost use Rattle.schema_tables.specs.Types.{Text, Defs};
+ghost use Rattle.schema_trees.specs.schema_tables.Types.{Text, Defs};
 
-use gql_ast::{InputTrees, SchemaDef, TypeTree};
+use gql_graph::gql_plain::NoMemory;
 use gql_graph::graph::Graph;
 use gql_graph::least::Least;
 use gql_graph::ranks::Ranks;
-use gql_plain::NoMemory;
-use schema_tables::tables::Tables;
+use schema_trees::gql_ast::{InputTrees, SchemaDef, TypeTree};
 use schema_trees::located::{DefAt, NameAt};
+use schema_trees::schema_tables::tables::Tables;
 use std::alloc::Global;
 
 /// S10: no input type needs itself through non-null fields that are not lists (GraphQL, October 2021,

@@ -6,24 +6,24 @@
 //! `schema { query: ID }` breaks it at `ID`.
 ghost use Rattle.std.specs.Prelude.{◌≡◌, ◌&&◌, false, [], ◌∷◌, ◌++◌, None, Some, not, map, List, IfOk, OnOk, MatchOption, is_some};
 ghost use Rattle.std.specs.List.{filter_map};
-ghost use Rattle.gql_ast.specs.declared.document.Kind.{Kind};
-ghost use Rattle.gql_ast.specs.declared.document.Kind.TheVariants.{Query};
+ghost use Rattle.schema_trees.specs.gql_ast.declared.document.Kind.{Kind};
+ghost use Rattle.schema_trees.specs.gql_ast.declared.document.Kind.TheVariants.{Query};
 ghost use Rattle.schema_rules.specs.Kinds.{KnowsKinds};
 ghost use Rattle.gql_graph.specs.Leasts.{least_from};
 ghost use Rattle.gql_graph.specs.Seen.{Knows};
 ghost use Rattle.schema_trees.specs.Located as located;
 ghost use Rattle.schema_trees.specs.LocatedView.{name_of, root_of, def_of};
 ghost use Rattle.schema_rules.specs.Rules as rules;
-ghost use Rattle.schema_tables.specs.Types as types;
+ghost use Rattle.schema_trees.specs.schema_tables.Types as types;
 
 use crate::rules::members::{is_object, note_not_objects};
-use gql_ast::Kind;
+use gql_graph::gql_plain::NoMemory;
 use gql_graph::least::Least;
 use gql_graph::seen::Seen;
-use gql_plain::NoMemory;
-use schema_tables::tables::Tables;
+use schema_trees::gql_ast::Kind;
 use schema_trees::located::{DefAt, NameAt, RootAt};
 use schema_trees::repeats::{note_repeated, note_repeats};
+use schema_trees::schema_tables::tables::Tables;
 use std::alloc::Global;
 
 /// S1: type names differ, directive names differ, there is one definition of the schema itself at

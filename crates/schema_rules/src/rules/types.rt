@@ -7,19 +7,19 @@
 //! S12, lists of lists (this project's own): no field has a composite type inside more than one
 //! list. `type Query { rows: [[Query]] }` breaks it at the `Query` of the type.
 ghost use Rattle.std.specs.Prelude.{◌≡◌, ◌++◌, map, OnOk, nat_lt, is_some, ◌&&◌};
-ghost use Rattle.gql_ast.specs.TypeView.{ty_of};
+ghost use Rattle.schema_trees.specs.gql_ast.TypeView.{ty_of};
 ghost use Rattle.gql_graph.specs.Leasts.{least_from};
 ghost use Rattle.schema_trees.specs.LocatedView.{name_of, input_of, field_of, root_of, type_of, def_of};
 ghost use Rattle.schema_rules.specs.Rules as rules;
-ghost use Rattle.schema_tables.specs.Types as types;
+ghost use Rattle.schema_trees.specs.schema_tables.Types as types;
 
-use gql_ast::TypeTree;
+use gql_graph::gql_plain::NoMemory;
 use gql_graph::least::Least;
-use gql_plain::NoMemory;
-use schema_tables::kind::TypeKind;
-use schema_tables::tables::Tables;
-use schema_tables::type_forms::base_of;
+use schema_trees::gql_ast::TypeTree;
 use schema_trees::located::{DefAt, FieldAt, InputAt, NameAt, RootAt};
+use schema_trees::schema_tables::kind::TypeKind;
+use schema_trees::schema_tables::tables::Tables;
+use schema_trees::schema_tables::type_forms::base_of;
 use std::alloc::Global;
 
 /// S2: every type name that is used is defined or built in (GraphQL, October 2021, section 3.4).

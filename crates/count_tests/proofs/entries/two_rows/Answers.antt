@@ -1,6 +1,6 @@
 use Rattle.std.proofs.Common.{◌≡◌, ◌++◌, refl, sym, ap, ◌∙◌, subst}
-use Rattle.store_model.proofs.FactRowOrder.{after_row}
-use Rattle.store_model.specs.FactRows.{facts_of_row, IsRowAfter}
+use Rattle.plan_ir.proofs.store_model_laws.FactRowOrder.{after_row}
+use Rattle.plan_ir.specs.store_model.FactRows.{facts_of_row, IsRowAfter}
 use Rattle.count_tests.proofs.entries.two_rows.Goals as goal
 
 -- 4 stands before 5

@@ -1,8 +1,8 @@
 -- What is put and what is left are the whole.
 use Rattle.std.proofs.Common.{◌≡◌, ◌++◌, map, drop}
-use Rattle.schema_types.specs.ArgumentRules as rules
+use Rattle.doc_uses.specs.schema_types.ArgumentRules as rules
 use Rattle.gql_graph.specs.Rules.{each}
-use Rattle.doc_sites.specs.SitesView.{site_of}
+use Rattle.doc_uses.specs.doc_sites.SitesView.{site_of}
 use Rattle.doc_args.specs.CallView.{call_of}
 use Rattle.doc_args.proofs.calls.put_sites.Given as goal
 

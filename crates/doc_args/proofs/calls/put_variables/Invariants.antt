@@ -1,7 +1,7 @@
 -- What is put and what is left are the whole.
 use Rattle.std.proofs.Common.{◌≡◌, ◌++◌, map, drop}
-use Rattle.schema_types.specs.ArgumentRules as rules
-use Rattle.doc_sites.specs.SitesView.{variable_of}
+use Rattle.doc_uses.specs.schema_types.ArgumentRules as rules
+use Rattle.doc_uses.specs.doc_sites.SitesView.{variable_of}
 use Rattle.doc_args.specs.CallView.{call_of}
 use Rattle.doc_args.proofs.calls.put_variables.Given as goal
 

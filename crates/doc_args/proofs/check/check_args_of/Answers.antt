@@ -1,8 +1,8 @@
 -- The definitions are those of the documents.
 use Rattle.std.proofs.Common.{List, sym, ap, ◌∙◌}
-use Rattle.schema_types.specs.DocumentRules.{argument_rules}
+use Rattle.doc_uses.specs.schema_types.DocumentRules.{argument_rules}
 use Rattle.gql_graph.specs.Rules.{first_broken}
-use Rattle.schema_types.specs.Sites.{DefinitionAt}
+use Rattle.doc_uses.specs.schema_types.Sites.{DefinitionAt}
 use Rattle.doc_args.proofs.check.check_args_of.Goals as goal
 
 pub returns-in-Some-clause-fault : goal.returns-in-Some-clause-fault

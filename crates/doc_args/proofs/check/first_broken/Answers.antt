@@ -2,12 +2,12 @@
 use Rattle.std.proofs.Common.{ℕ, List, drop, map, Option, ap, ◌∙◌}
 use Rattle.gql_graph.specs.Rules.{first_from}
 use Rattle.gql_graph.proofs.LeastSteps.{found_last, noted_alone}
-use Rattle.doc_sites.specs.SitesView.{definition_of}
-use Rattle.schema_types.specs.DocumentRules.{argument_rules}
-use Rattle.schema_types.specs.ArgumentRules as rules
-use Rattle.schema_types.specs.Sites.{DefinitionAt}
-use Rattle.schema_tables.specs.Types.{Defs}
-use Rattle.schema_rules.specs.declared.fault.Rule.{Rule}
+use Rattle.doc_uses.specs.doc_sites.SitesView.{definition_of}
+use Rattle.doc_uses.specs.schema_types.DocumentRules.{argument_rules}
+use Rattle.doc_uses.specs.schema_types.ArgumentRules as rules
+use Rattle.doc_uses.specs.schema_types.Sites.{DefinitionAt}
+use Rattle.doc_uses.specs.schema_tables.Types.{Defs}
+use Rattle.doc_uses.specs.schema_rules.declared.fault.Rule.{Rule}
 use Rattle.doc_args.proofs.check.first_broken.Goals as goal
 
 pub returns : goal.returns

@@ -1,9 +1,9 @@
 -- One more definition, and all of them.
 use Rattle.std.proofs.Common.{[], List, ◌++◌, map, refl, ◌∙◌, arith}
-use Rattle.schema_types.specs.ArgumentRules.{Use}
-use Rattle.schema_types.specs.Sites.{FragmentAt}
-use Rattle.doc_sites.specs.SitesView.{definition_of}
-use Rattle.doc_sites.proofs.ListSteps.{collect_next, collect_end}
+use Rattle.doc_uses.specs.schema_types.ArgumentRules.{Use}
+use Rattle.doc_uses.specs.schema_types.Sites.{FragmentAt}
+use Rattle.doc_uses.specs.doc_sites.SitesView.{definition_of}
+use Rattle.doc_uses.proofs.doc_sites_laws.ListSteps.{collect_next, collect_end}
 use Rattle.doc_uses.specs.UsesByName.{named_in}
 use Rattle.doc_uses.proofs.UseSteps.{gathered_all}
 use Rattle.doc_args.specs.UsesIn.{uses_in_fragment}

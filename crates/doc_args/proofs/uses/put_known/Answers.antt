@@ -1,9 +1,9 @@
 -- One more argument.
 use Rattle.std.proofs.Common.{◌++◌, map, Option, ap, ◌∙◌, arith}
-use Rattle.schema_types.specs.ArgumentRules as rules
-use Rattle.doc_sites.specs.SitesView.{argument_of}
+use Rattle.doc_uses.specs.schema_types.ArgumentRules as rules
+use Rattle.doc_uses.specs.doc_sites.SitesView.{argument_of}
 use Rattle.doc_uses.specs.UseView.{use_of, uses_at}
-use Rattle.doc_sites.proofs.ListSteps.{collect_next}
+use Rattle.doc_uses.proofs.doc_sites_laws.ListSteps.{collect_next}
 use Rattle.doc_args.proofs.uses.put_known.Goals as goal
 
 pub arguments-preserved : goal.arguments-preserved

@@ -1,7 +1,7 @@
 -- What is put and what is left are the whole.
 use Rattle.std.proofs.Common.{◌≡◌, ◌++◌, map, drop}
 use Rattle.gql_graph.specs.Rules.{each}
-use Rattle.doc_sites.specs.SitesView.{argument_of}
+use Rattle.doc_uses.specs.doc_sites.SitesView.{argument_of}
 use Rattle.doc_uses.specs.UseView.{use_of}
 use Rattle.doc_args.specs.UsesIn.{uses_unknown}
 use Rattle.doc_args.proofs.uses.put_unknown.Given as goal

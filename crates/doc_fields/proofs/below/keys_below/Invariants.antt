@@ -1,7 +1,7 @@
 -- What is known is right for more steps than names were looked at.
 use Rattle.std.proofs.Common.{◌≡◌, List}
-use Rattle.gql_graph.specs.Graphs.{Tells}
-use Rattle.gql_graph.specs.Texts.{Text}
+use Rattle.doc_sites.specs.gql_graph.Graphs.{Tells}
+use Rattle.doc_sites.specs.gql_graph.Texts.{Text}
 use Rattle.doc_fields.specs.Heads.{keys_found, AreBelow}
 use Rattle.doc_fields.specs.Keys.{Sum}
 use Rattle.doc_fields.proofs.below.keys_below.Given as goal

@@ -1,8 +1,8 @@
 -- The definitions are those of the documents.
 use Rattle.std.proofs.Common.{List, sym, ap, ◌∙◌}
-use Rattle.schema_types.specs.DocumentRules.{field_rules}
-use Rattle.gql_graph.specs.Rules.{first_broken}
-use Rattle.schema_types.specs.Sites.{DefinitionAt}
+use Rattle.doc_sites.specs.schema_types.DocumentRules.{field_rules}
+use Rattle.doc_sites.specs.gql_graph.Rules.{first_broken}
+use Rattle.doc_sites.specs.schema_types.Sites.{DefinitionAt}
 use Rattle.doc_fields.proofs.check.check_fields_of.Goals as goal
 
 pub returns-in-Some-clause-fault : goal.returns-in-Some-clause-fault

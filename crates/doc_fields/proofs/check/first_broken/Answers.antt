@@ -1,13 +1,13 @@
 -- Each rule is settled.
 use Rattle.std.proofs.Common.{ℕ, List, drop, map, Option, ap, ◌∙◌}
-use Rattle.gql_graph.specs.Rules.{first_from}
-use Rattle.gql_graph.proofs.LeastSteps.{found_last, noted_alone}
+use Rattle.doc_sites.specs.gql_graph.Rules.{first_from}
+use Rattle.doc_sites.proofs.gql_graph_laws.LeastSteps.{found_last, noted_alone}
 use Rattle.doc_sites.specs.SitesView.{definition_of}
-use Rattle.schema_types.specs.DocumentRules.{field_rules}
-use Rattle.schema_types.specs.FieldRules as rules
-use Rattle.schema_types.specs.Sites.{DefinitionAt}
-use Rattle.schema_tables.specs.Types.{Defs}
-use Rattle.schema_rules.specs.declared.fault.Rule.{Rule}
+use Rattle.doc_sites.specs.schema_types.DocumentRules.{field_rules}
+use Rattle.doc_sites.specs.schema_types.FieldRules as rules
+use Rattle.doc_sites.specs.schema_types.Sites.{DefinitionAt}
+use Rattle.doc_sites.specs.schema_tables.Types.{Defs}
+use Rattle.doc_sites.specs.schema_rules.declared.fault.Rule.{Rule}
 use Rattle.doc_fields.proofs.check.first_broken.Goals as goal
 
 pub returns : goal.returns

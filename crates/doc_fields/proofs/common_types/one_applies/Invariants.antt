@@ -1,7 +1,7 @@
 -- None so far applies.
 use Rattle.std.proofs.Common.{◌≡◌, drop}
 use Rattle.std.specs.List.{list_any}
-use Rattle.schema_tables.specs.Types.{applies}
+use Rattle.doc_sites.specs.schema_tables.Types.{applies}
 use Rattle.doc_fields.proofs.common_types.one_applies.Given as goal
 
 abbrev pub invariant-objects : goal.invariant-objects

@@ -1,7 +1,7 @@
 -- The possible types of either tell it.
 use Rattle.std.proofs.Common.{List, ap, ◌∙◌}
 use Rattle.std.specs.List.{list_any}
-use Rattle.schema_tables.specs.Types.{Text, applies}
+use Rattle.doc_sites.specs.schema_tables.Types.{Text, applies}
 use Rattle.doc_fields.proofs.CommonTypes.{common_either}
 use Rattle.doc_fields.proofs.common_types.share_type.Goals as goal
 

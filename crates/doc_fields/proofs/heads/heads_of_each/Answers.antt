@@ -1,7 +1,7 @@
 -- One more definition, and all of them.
 use Rattle.std.proofs.Common.{List, map, ap, sym, ◌∙◌, arith}
-use Rattle.schema_types.specs.FieldRules.{Key}
-use Rattle.schema_types.specs.Sites.{DefinitionAt}
+use Rattle.doc_sites.specs.schema_types.FieldRules.{Key}
+use Rattle.doc_sites.specs.schema_types.Sites.{DefinitionAt}
 use Rattle.doc_sites.specs.SitesView.{definition_of}
 use Rattle.doc_sites.specs.Definitions.{on_fragment}
 use Rattle.doc_fields.specs.Heads.{all_of, keys_named}

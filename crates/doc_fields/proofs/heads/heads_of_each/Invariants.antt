@@ -1,7 +1,7 @@
 -- Of each name, what is found and what is left are the whole.
 use Rattle.std.proofs.Common.{◌≡◌, map, drop}
-use Rattle.schema_types.specs.NameRules.{fragments}
-use Rattle.gql_graph.specs.Texts.{Text}
+use Rattle.doc_sites.specs.schema_types.NameRules.{fragments}
+use Rattle.doc_sites.specs.gql_graph.Texts.{Text}
 use Rattle.doc_sites.specs.SitesView.{definition_of}
 use Rattle.doc_sites.specs.Definitions.{on_fragment}
 use Rattle.doc_fields.specs.Heads.{all_of, keys_found, keys_named, keys_of_name}

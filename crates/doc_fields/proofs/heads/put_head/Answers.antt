@@ -1,7 +1,7 @@
 -- A fragment that does not apply, and one whose keys stand with those of others of its name.
 use Rattle.std.proofs.Common.{◌≡◌, List, ap, ◌∙◌, arith, bytes_eq}
 use Rattle.std.proofs.lemmas.Result.{on_ok_weaker}
-use Rattle.schema_types.specs.FieldRules.{Key, keys_in}
+use Rattle.doc_sites.specs.schema_types.FieldRules.{Key, keys_in}
 use Rattle.doc_fields.specs.Heads.{keys_found}
 use Rattle.doc_fields.specs.Keys.{Sum, join_sums, keys_view, sum_of}
 use Rattle.doc_fields.proofs.HeadSteps.{head_passed, head_put}

@@ -1,6 +1,6 @@
 -- What stands inside a selection is less deep than its set; one more selection, and all of them.
 use Rattle.std.proofs.Common.{◌<◌, ap, ◌∙◌, arith}
-use Rattle.gql_ast.specs.Sels.{depth}
+use Rattle.doc_sites.specs.gql_ast.Sels.{depth}
 use Rattle.doc_sites.specs.Firsts.{inside}
 use Rattle.doc_sites.proofs.SiteSteps.{inside_below}
 use Rattle.doc_fields.specs.Keys.{Sum, join_sums, keys_view}

@@ -1,8 +1,8 @@
 -- What is gathered and what is left are the whole; what stands inside a selection is less deep than its set.
 use Rattle.std.proofs.Common.{◌≡◌, ◌+◌, ◌*◌, drop}
-use Rattle.gql_ast.specs.SelectionView.{sels_of}
-use Rattle.gql_ast.specs.Sels.{depth}
-use Rattle.schema_types.specs.FieldRules as rules
+use Rattle.doc_sites.specs.gql_ast.SelectionView.{sels_of}
+use Rattle.doc_sites.specs.gql_ast.Sels.{depth}
+use Rattle.doc_sites.specs.schema_types.FieldRules as rules
 use Rattle.doc_sites.specs.Firsts.{inside}
 use Rattle.doc_fields.specs.Keys.{join_sums, keys_view, sum_of}
 use Rattle.doc_fields.proofs.keys.+keys.Given as goal

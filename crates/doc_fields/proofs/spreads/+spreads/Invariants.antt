@@ -1,8 +1,8 @@
 -- What is put and what is left are the whole; what stands inside a selection is less deep than its set.
 use Rattle.std.proofs.Common.{◌≡◌, ◌+◌, ◌*◌, ◌++◌, map, drop}
-use Rattle.gql_ast.specs.SelectionView.{sels_of}
-use Rattle.gql_ast.specs.Sels.{depth}
-use Rattle.schema_types.specs.FieldRules.{spreads_at_root}
+use Rattle.doc_sites.specs.gql_ast.SelectionView.{sels_of}
+use Rattle.doc_sites.specs.gql_ast.Sels.{depth}
+use Rattle.doc_sites.specs.schema_types.FieldRules.{spreads_at_root}
 use Rattle.doc_sites.specs.Firsts.{inside}
 use Rattle.doc_fields.proofs.spreads.+spreads.Given as goal
 

@@ -1,8 +1,8 @@
 -- What is found.
 use Rattle.std.proofs.Common.{map, List, subst, ◌∙◌}
-use Rattle.gql_graph.specs.Graphs.{Tells}
-use Rattle.schema_types.specs.NameRules.{fragments}
-use Rattle.schema_types.specs.Sites.{FragmentAt}
+use Rattle.doc_sites.specs.gql_graph.Graphs.{Tells}
+use Rattle.doc_sites.specs.schema_types.NameRules.{fragments}
+use Rattle.doc_sites.specs.schema_types.Sites.{FragmentAt}
 use Rattle.doc_sites.specs.SitesView.{definition_of}
 use Rattle.doc_fields.specs.Heads.{keys_of_name, AreBelow}
 use Rattle.doc_fields.specs.Keys.{next_at_root, sum_of}

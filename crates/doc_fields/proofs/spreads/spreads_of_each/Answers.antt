@@ -1,10 +1,10 @@
 -- One more definition, and all of them.
 use Rattle.std.proofs.Common.{List, [], map, refl, arith}
-use Rattle.schema_types.specs.NameRules.{fragments}
-use Rattle.gql_graph.specs.Rules.{each}
-use Rattle.schema_types.specs.Sites.{DefinitionAt}
-use Rattle.gql_graph.specs.Texts.{Text}
-use Rattle.gql_graph.proofs.Graphs.{tells_held}
+use Rattle.doc_sites.specs.schema_types.NameRules.{fragments}
+use Rattle.doc_sites.specs.gql_graph.Rules.{each}
+use Rattle.doc_sites.specs.schema_types.Sites.{DefinitionAt}
+use Rattle.doc_sites.specs.gql_graph.Texts.{Text}
+use Rattle.doc_sites.proofs.gql_graph_laws.Graphs.{tells_held}
 use Rattle.doc_sites.specs.SitesView.{definition_of}
 use Rattle.doc_sites.specs.Definitions.{on_fragment}
 use Rattle.doc_fields.specs.Fragments.{leading, spreads_in, spreads_of}

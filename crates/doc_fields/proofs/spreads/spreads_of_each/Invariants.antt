@@ -1,8 +1,8 @@
 -- What is put and what is left are the whole.
 use Rattle.std.proofs.Common.{◌≡◌, ◌++◌, List, map, drop}
-use Rattle.gql_graph.specs.Graphs.{Holds}
-use Rattle.gql_graph.specs.Rules.{each}
-use Rattle.gql_graph.specs.Texts.{Text}
+use Rattle.doc_sites.specs.gql_graph.Graphs.{Holds}
+use Rattle.doc_sites.specs.gql_graph.Rules.{each}
+use Rattle.doc_sites.specs.gql_graph.Texts.{Text}
 use Rattle.doc_sites.specs.SitesView.{definition_of}
 use Rattle.doc_sites.specs.Definitions.{on_fragment}
 use Rattle.doc_fields.specs.Fragments.{leading, spreads_in}

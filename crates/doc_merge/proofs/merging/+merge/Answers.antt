@@ -1,7 +1,7 @@
 -- One more group, and all of them; a group, and the set below it.
 use Rattle.std.proofs.Common.{◌≡◌, List, map, length, ap, sym, subst, ◌∙◌, arith}
 use Rattle.std.specs.List.{filter}
-use Rattle.schema_tables.specs.Types.{Text, Defs}
+use Rattle.plan_ir.specs.schema_tables.Types.{Text, Defs}
 use Rattle.doc_merge.specs.Cells.{none_seen, others}
 use Rattle.doc_merge.specs.GroupView as kept
 use Rattle.doc_merge.specs.Joined.{every, has_key, inner_rows, own_row, rows_depth, with_patterns}

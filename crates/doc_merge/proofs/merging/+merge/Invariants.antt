@@ -1,6 +1,6 @@
 -- What is noted and what is left are the whole; the sets below are less deep.
 use Rattle.std.proofs.Common.{◌+◌, ◌*◌, List, map}
-use Rattle.schema_tables.specs.Types.{Text}
+use Rattle.plan_ir.specs.schema_tables.Types.{Text}
 use Rattle.doc_merge.specs.GroupView.{Gathers}
 use Rattle.doc_merge.specs.Joined.{rows_depth}
 use Rattle.doc_merge.specs.RowView.{row_of}

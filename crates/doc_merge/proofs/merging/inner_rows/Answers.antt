@@ -1,6 +1,6 @@
 -- One row more.
 use Rattle.std.proofs.Common.{◌++◌, map, ap, ◌∙◌, arith}
-use Rattle.schema_tables.specs.Types.{Text}
+use Rattle.plan_ir.specs.schema_tables.Types.{Text}
 use Rattle.doc_merge.specs.Gathering.{fields_of}
 use Rattle.doc_merge.specs.Paths.{rows_of}
 use Rattle.doc_merge.specs.RowView.{pattern_of, row_of}

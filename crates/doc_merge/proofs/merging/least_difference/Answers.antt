@@ -1,6 +1,6 @@
 -- All fields of the whole set.
 use Rattle.std.proofs.Common.{◌≡◌, List, [], ◌++◌, map, ap, ◌∙◌}
-use Rattle.schema_tables.specs.Types.{Text, Defs}
+use Rattle.plan_ir.specs.schema_tables.Types.{Text, Defs}
 use Rattle.doc_merge.specs.Gathering.{fields_in, fields_of}
 use Rattle.doc_merge.specs.Paths.{places_of, rows_of}
 use Rattle.doc_merge.specs.Places.{least_from}

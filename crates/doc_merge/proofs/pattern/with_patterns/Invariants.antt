@@ -1,6 +1,6 @@
 -- What is made and what is left are the whole.
 use Rattle.std.proofs.Common.{◌≡◌, ◌≤◌, ◌-◌, ◌++◌, map, drop, length}
-use Rattle.schema_tables.specs.Types.{Defs}
+use Rattle.plan_ir.specs.schema_tables.Types.{Defs}
 use Rattle.doc_merge.specs.Joined.{with_patterns}
 use Rattle.doc_merge.specs.RowView.{pattern_items, row_of}
 use Rattle.doc_merge.proofs.pattern.with_patterns.Given as goal

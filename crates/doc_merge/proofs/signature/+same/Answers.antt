@@ -1,5 +1,5 @@
 use Rattle.std.proofs.Common.{drop, length-drop, sym, ◌∙◌, arith}
-use Rattle.gql_ast.specs.Value.{members_of, vals_of}
+use Rattle.plan_ir.specs.gql_ast.Value.{members_of, vals_of}
 use Rattle.doc_merge.proofs.ListEnds.{lists_end, lists_lengths, pairs_end, pairs_lengths}
 use Rattle.doc_merge.proofs.signature.+same.Goals as goal
 use Rattle.doc_merge.specs.Signatures.{same_members, same_values}

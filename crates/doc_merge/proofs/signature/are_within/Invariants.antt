@@ -1,6 +1,6 @@
 -- Each so far is one of the others.
 use Rattle.std.proofs.Common.{◌≡◌, map, drop}
-use Rattle.gql_ast.specs.ValueView.{argument_of}
+use Rattle.plan_ir.specs.gql_ast.ValueView.{argument_of}
 use Rattle.doc_merge.specs.Signatures.{are_within}
 use Rattle.doc_merge.proofs.signature.are_within.Given as goal
 

@@ -1,7 +1,7 @@
 -- None so far is that one.
 use Rattle.std.proofs.Common.{◌≡◌, map, drop}
 use Rattle.std.specs.List.{list_any}
-use Rattle.gql_ast.specs.ValueView.{argument_of}
+use Rattle.plan_ir.specs.gql_ast.ValueView.{argument_of}
 use Rattle.doc_merge.specs.Signatures.{same_argument}
 use Rattle.doc_merge.proofs.signature.has_argument.Given as goal
 

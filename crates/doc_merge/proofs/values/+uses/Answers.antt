@@ -1,8 +1,8 @@
 -- What a list holds is less deep than it.
 use Rattle.std.proofs.Common.{◌≤◌, arith}
-use Rattle.gql_ast.specs.Value.{val_depth, vals_of, vals_depth, members_of, members_depth}
-use Rattle.gql_ast.specs.ValueView.{value_of}
-use Rattle.schema_trees.proofs.LocatedSteps.{value_below, member_below}
+use Rattle.plan_ir.specs.gql_ast.Value.{val_depth, vals_of, vals_depth, members_of, members_depth}
+use Rattle.plan_ir.specs.gql_ast.ValueView.{value_of}
+use Rattle.plan_ir.proofs.schema_trees_laws.LocatedSteps.{value_below, member_below}
 use Rattle.doc_merge.proofs.values.+uses.Goals as goal
 
 pub are_allowed_among-are_allowed-requires : goal.are_allowed_among-are_allowed-requires

@@ -1,6 +1,6 @@
 -- What is noted and what is left are the whole.
 use Rattle.std.proofs.Common.{◌≡◌, map, drop}
-use Rattle.gql_ast.specs.ValueView.{argument_of}
+use Rattle.plan_ir.specs.gql_ast.ValueView.{argument_of}
 use Rattle.doc_merge.specs.Places.{least_from}
 use Rattle.doc_merge.specs.Values.{arguments_unfit}
 use Rattle.doc_merge.proofs.values.note_arguments.Given as goal

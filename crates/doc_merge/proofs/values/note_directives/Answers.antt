@@ -1,6 +1,6 @@
 -- One more directive.
 use Rattle.std.proofs.Common.{List, Option, ap, ◌∙◌, arith}
-use Rattle.schema_tables.specs.Views.{InputDef}
+use Rattle.plan_ir.specs.schema_tables.Views.{InputDef}
 use Rattle.doc_merge.specs.Places.{least_from}
 use Rattle.doc_merge.specs.Values.{arguments_unfit, directive_inputs}
 use Rattle.doc_merge.proofs.ValueSteps.{directive_next}

@@ -2,8 +2,8 @@
 use Rattle.std.proofs.Common.{◌≡◌, ◌++◌, map, drop}
 use Rattle.std.specs.List.{filter_map}
 use Rattle.doc_sites.specs.SitesView.{site_of}
-use Rattle.schema_trees.specs.LocatedView.{name_of}
-use Rattle.schema_types.specs.NameRules as names
+use Rattle.doc_sites.specs.schema_trees.LocatedView.{name_of}
+use Rattle.doc_sites.specs.schema_types.NameRules as names
 use Rattle.doc_names.proofs.named.conditions_at.Given as goal
 
 abbrev pub invariant-sites : goal.invariant-sites

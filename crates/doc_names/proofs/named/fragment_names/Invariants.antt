@@ -1,8 +1,8 @@
 -- What is collected and what is left are the whole.
 use Rattle.std.proofs.Common.{◌≡◌, ◌++◌, map, drop}
 use Rattle.doc_sites.specs.SitesView.{definition_of}
-use Rattle.schema_trees.specs.LocatedView.{name_of}
-use Rattle.schema_types.specs.NameRules as names
+use Rattle.doc_sites.specs.schema_trees.LocatedView.{name_of}
+use Rattle.doc_sites.specs.schema_types.NameRules as names
 use Rattle.doc_names.proofs.named.fragment_names.Given as goal
 
 abbrev pub invariant-definitions : goal.invariant-definitions

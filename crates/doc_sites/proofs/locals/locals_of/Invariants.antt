@@ -1,7 +1,7 @@
 -- What is collected and what is left are the whole.
 use Rattle.std.proofs.Common.{◌≡◌, ◌++◌, map, drop}
-use Rattle.gql_graph.specs.Rules.{each}
-use Rattle.schema_trees.specs.LocatedView.{name_of}
+use Rattle.schema_types.specs.gql_graph.Rules.{each}
+use Rattle.schema_types.specs.schema_trees.LocatedView.{name_of}
 use Rattle.doc_sites.specs.SitesView.{directive_of}
 use Rattle.doc_sites.specs.Locals.{located_locals}
 use Rattle.doc_sites.proofs.locals.locals_of.Given as goal

@@ -1,7 +1,7 @@
 -- What is put and what is left are the whole.
 use Rattle.std.proofs.Common.{◌≡◌, ◌++◌, map, drop}
 use Rattle.schema_types.specs.ArgumentRules as rules
-use Rattle.schema_trees.specs.LocatedView.{name_of}
+use Rattle.schema_types.specs.schema_trees.LocatedView.{name_of}
 use Rattle.doc_sites.specs.SitesView.{argument_of}
 use Rattle.doc_sites.proofs.locals.put_names.Given as goal
 

@@ -1,6 +1,6 @@
 -- What is located and what is left are the whole.
 use Rattle.std.proofs.Common.{◌≡◌, ◌+◌, ◌++◌, map, drop}
-use Rattle.gql_ast.specs.ValueView as tree
+use Rattle.schema_types.specs.gql_ast.ValueView as tree
 use Rattle.schema_types.specs.Sites.{arguments_at, arguments_nodes}
 use Rattle.doc_sites.specs.SitesView.{argument_of}
 use Rattle.doc_sites.proofs.parts.arguments_at.Given as goal

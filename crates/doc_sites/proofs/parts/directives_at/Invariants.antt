@@ -1,6 +1,6 @@
 -- What is located and what is left are the whole.
 use Rattle.std.proofs.Common.{◌≡◌, ◌+◌, ◌++◌, map, drop}
-use Rattle.schema_trees.specs.Located.{directives_nodes}
+use Rattle.schema_types.specs.schema_trees.Located.{directives_nodes}
 use Rattle.schema_types.specs.Sites.{directives_at}
 use Rattle.doc_sites.specs.SitesView.{directive_of}
 use Rattle.doc_sites.proofs.parts.directives_at.Given as goal

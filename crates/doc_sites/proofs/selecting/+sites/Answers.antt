@@ -1,6 +1,6 @@
 -- What stands inside a selection is less deep than its set; one more selection.
 use Rattle.std.proofs.Common.{◌<◌, arith}
-use Rattle.gql_ast.specs.Sels.{depth}
+use Rattle.schema_types.specs.gql_ast.Sels.{depth}
 use Rattle.doc_sites.specs.Firsts.{inside}
 use Rattle.doc_sites.proofs.SiteSteps.{inside_below}
 use Rattle.doc_sites.proofs.selecting.+sites.Goals as goal

@@ -1,8 +1,8 @@
 -- What is put and what is left are the whole; what stands inside a selection is less deep than its set.
 use Rattle.std.proofs.Common.{◌≡◌, ◌+◌, ◌*◌, ◌++◌, map, drop}
 use Rattle.std.specs.Prelude.{option_copied}
-use Rattle.gql_ast.specs.SelectionView.{sels_of}
-use Rattle.gql_ast.specs.Sels.{depth}
+use Rattle.schema_types.specs.gql_ast.SelectionView.{sels_of}
+use Rattle.schema_types.specs.gql_ast.Sels.{depth}
 use Rattle.schema_types.specs.Sites.{sites, selections_nodes}
 use Rattle.doc_sites.specs.Firsts.{inside}
 use Rattle.doc_sites.specs.SitesView.{site_of}

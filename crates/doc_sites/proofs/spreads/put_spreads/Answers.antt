@@ -3,9 +3,9 @@ use Rattle.std.proofs.Common.{◌≡◌, OnOk, List, [], ◌∷◌, ◌++◌, ma
 use Rattle.doc_sites.specs.SitesView.{definition_of, fragment_of, site_of}
 use Rattle.doc_sites.specs.declared.site.DefinitionAt.{DefinitionAt}
 use Rattle.doc_sites.specs.declared.site.Site.{Site}
-use Rattle.gql_graph.specs.Graphs.{Holds}
+use Rattle.schema_types.specs.gql_graph.Graphs.{Holds}
 use Rattle.schema_types.specs.NameRules.{names_of_all, spreads_in}
-use Rattle.gql_graph.specs.Texts.{Text}
+use Rattle.schema_types.specs.gql_graph.Texts.{Text}
 use Rattle.doc_sites.specs.Definitions.{spreading}
 use denote.Ref.{Bor}
 use Rattle.doc_sites.proofs.spreads.put_spreads.Goals as goal

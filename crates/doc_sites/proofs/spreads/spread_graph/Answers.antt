@@ -3,9 +3,9 @@ use Rattle.std.proofs.Common.{List, [], refl, map, arith}
 use Rattle.doc_sites.specs.SitesView.{definition_of}
 use Rattle.doc_sites.specs.declared.site.DefinitionAt.{DefinitionAt}
 use Rattle.schema_types.specs.NameRules.{fragments, spread_by}
-use Rattle.gql_graph.specs.Rules.{each}
-use Rattle.gql_graph.specs.Texts.{Text}
-use Rattle.gql_graph.proofs.Graphs.{pairs_end, pairs_next, tells_held}
+use Rattle.schema_types.specs.gql_graph.Rules.{each}
+use Rattle.schema_types.specs.gql_graph.Texts.{Text}
+use Rattle.schema_types.proofs.gql_graph_laws.Graphs.{pairs_end, pairs_next, tells_held}
 use Rattle.doc_sites.specs.Definitions.{spreading}
 use Rattle.doc_sites.proofs.DefinitionSteps.{next_seen}
 use Rattle.doc_sites.proofs.spreads.spread_graph.Goals as goal

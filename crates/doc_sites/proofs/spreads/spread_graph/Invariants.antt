@@ -1,9 +1,9 @@
 -- What is put and what is left are the whole.
 use Rattle.std.proofs.Common.{◌≡◌, ◌++◌, List, drop}
 use Rattle.doc_sites.specs.SitesView.{definition_of}
-use Rattle.gql_graph.specs.Graphs.{Holds}
-use Rattle.gql_graph.specs.Rules.{each}
-use Rattle.gql_graph.specs.Texts.{Text}
+use Rattle.schema_types.specs.gql_graph.Graphs.{Holds}
+use Rattle.schema_types.specs.gql_graph.Rules.{each}
+use Rattle.schema_types.specs.gql_graph.Texts.{Text}
 use Rattle.doc_sites.specs.Definitions.{spreading}
 use Rattle.doc_sites.proofs.spreads.spread_graph.Given as goal
 

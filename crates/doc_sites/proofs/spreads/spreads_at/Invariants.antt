@@ -1,7 +1,7 @@
 -- What is collected and what is left are the whole.
 use Rattle.std.proofs.Common.{◌≡◌, ◌++◌, map, drop}
 use Rattle.doc_sites.specs.SitesView.{site_of}
-use Rattle.schema_trees.specs.LocatedView.{name_of}
+use Rattle.schema_types.specs.schema_trees.LocatedView.{name_of}
 use Rattle.schema_types.specs.NameRules as names
 use Rattle.doc_sites.proofs.spreads.spreads_at.Given as goal
 

@@ -1,6 +1,6 @@
 -- What is collected and what is left are the whole.
 use Rattle.std.proofs.Common.{◌≡◌, ◌++◌, map, drop}
-use Rattle.gql_graph.specs.Rules.{each}
+use Rattle.doc_sites.specs.gql_graph.Rules.{each}
 use Rattle.doc_sites.specs.SitesView.{definition_of}
 use Rattle.doc_uses.specs.Parts.{fragment_name}
 use Rattle.doc_uses.proofs.fragment_uses.fragment_names.Given as goal

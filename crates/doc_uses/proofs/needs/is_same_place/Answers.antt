@@ -1,6 +1,6 @@
 -- Both places have one type, and both have a default or neither.
 use Rattle.std.proofs.Common.{◌≡◌, Some, option_map, ap, sym, ◌∙◌, arith}
-use Rattle.gql_ast.specs.TypeView.{ty_of}
+use Rattle.doc_sites.specs.gql_ast.TypeView.{ty_of}
 use Rattle.doc_uses.specs.UseView.{place_of}
 use Rattle.doc_uses.proofs.NeedSteps.{same_types}
 use Rattle.doc_uses.proofs.needs.is_same_place.Goals as goal

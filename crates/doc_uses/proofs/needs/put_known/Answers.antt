@@ -1,6 +1,6 @@
 -- What is known is put.
 use Rattle.std.proofs.Common.{List, Option, map, option_map, true≢false, sym, subst}
-use Rattle.schema_types.specs.ArgumentRules as rules
+use Rattle.doc_sites.specs.schema_types.ArgumentRules as rules
 use Rattle.doc_uses.specs.Needs.{CoversKnown}
 use Rattle.doc_uses.specs.UseView.{use_of}
 use Rattle.doc_uses.specs.declared.uses.Use.{Use}

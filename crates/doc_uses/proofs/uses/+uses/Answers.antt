@@ -1,8 +1,8 @@
 -- What a list holds is less deep than it.
 use Rattle.std.proofs.Common.{◌≤◌, arith}
-use Rattle.gql_ast.specs.Value.{val_depth, vals_of, vals_depth, members_of, members_depth}
-use Rattle.gql_ast.specs.ValueView.{value_of}
-use Rattle.schema_trees.proofs.LocatedSteps.{value_below, member_below}
+use Rattle.doc_sites.specs.gql_ast.Value.{val_depth, vals_of, vals_depth, members_of, members_depth}
+use Rattle.doc_sites.specs.gql_ast.ValueView.{value_of}
+use Rattle.doc_sites.proofs.schema_trees_laws.LocatedSteps.{value_below, member_below}
 use Rattle.doc_uses.proofs.uses.+uses.Goals as goal
 
 pub put_member_uses-put_uses-requires : goal.put_member_uses-put_uses-requires

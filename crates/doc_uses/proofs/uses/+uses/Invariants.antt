@@ -1,10 +1,10 @@
 -- What is put and what is left are the whole; what a list holds is less deep than it.
 use Rattle.std.proofs.Common.{◌≡◌, ◌+◌, ◌*◌, ◌++◌, map, drop, option_map}
 use Rattle.std.specs.Prelude.{option_copied}
-use Rattle.gql_ast.specs.Value.{members_of, vals_of, val_depth, vals_depth, members_depth}
-use Rattle.gql_ast.specs.ValueView.{value_of, argument_of}
-use Rattle.schema_types.specs.ArgumentRules as rules
-use Rattle.schema_trees.specs.Located.{members_nodes, values_nodes}
+use Rattle.doc_sites.specs.gql_ast.Value.{members_of, vals_of, val_depth, vals_depth, members_depth}
+use Rattle.doc_sites.specs.gql_ast.ValueView.{value_of, argument_of}
+use Rattle.doc_sites.specs.schema_types.ArgumentRules as rules
+use Rattle.doc_sites.specs.schema_trees.Located.{members_nodes, values_nodes}
 use Rattle.doc_uses.specs.UseView.{fields_of_name, place_of, use_of}
 use Rattle.doc_uses.proofs.uses.+uses.Given as goal
 

@@ -1,7 +1,7 @@
 -- What is collected and what is left are the whole.
 use Rattle.std.proofs.Common.{◌≡◌, ◌++◌, List, map, drop}
-use Rattle.gql_graph.specs.Seen.{Knows}
-use Rattle.gql_graph.specs.Texts.{Text}
+use Rattle.doc_sites.specs.gql_graph.Seen.{Knows}
+use Rattle.doc_sites.specs.gql_graph.Texts.{Text}
 use Rattle.doc_uses.specs.Parts.{free_uses}
 use Rattle.doc_uses.specs.UseView.{use_of}
 use Rattle.doc_uses.proofs.uses_by_name.free_uses.Given as goal

@@ -1,6 +1,6 @@
 -- Where those that are left are harmless, all are.
 use Rattle.std.proofs.Common.{List, map, drop}
-use Rattle.schema_types.specs.Sites.{VariableAt}
+use Rattle.doc_sites.specs.schema_types.Sites.{VariableAt}
 use Rattle.doc_uses.specs.Named.{NamesVariables}
 use Rattle.doc_uses.specs.Needs.{AreHarmless}
 use Rattle.doc_uses.specs.UseView.{use_of}

@@ -1,7 +1,7 @@
 -- One more name, and all of them.
 use Rattle.std.proofs.Common.{◌≡◌, true, true≢false, [], List, Option, get_or, sym, subst, ◌∙◌, arith}
-use Rattle.schema_types.specs.ArgumentRules as rules
-use Rattle.gql_graph.specs.Texts.{Text}
+use Rattle.doc_sites.specs.schema_types.ArgumentRules as rules
+use Rattle.doc_sites.specs.gql_graph.Texts.{Text}
 use Rattle.doc_uses.specs.Needs.{IsKnownHarmless, uses_needed}
 use Rattle.doc_uses.proofs.NeedSteps.{name_next, none_left}
 use Rattle.doc_uses.proofs.wrong_uses.are_met.Goals as goal

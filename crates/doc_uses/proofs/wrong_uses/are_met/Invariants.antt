@@ -1,8 +1,8 @@
 -- What the names so far need is known and harmless.
 use Rattle.std.proofs.Common.{◌≡◌, true, false, List, map, drop}
-use Rattle.gql_plain.specs.Order.{has_text}
-use Rattle.schema_types.specs.Sites.{VariableAt}
-use Rattle.gql_graph.specs.Texts.{Text}
+use Rattle.doc_sites.specs.gql_plain.Order.{has_text}
+use Rattle.doc_sites.specs.schema_types.Sites.{VariableAt}
+use Rattle.doc_sites.specs.gql_graph.Texts.{Text}
 use Rattle.doc_uses.specs.Named.{NamesVariables}
 use Rattle.doc_uses.specs.Needs.{IsKnownHarmless, uses_needed}
 use Rattle.doc_uses.proofs.wrong_uses.are_met.Given as goal

@@ -1,8 +1,8 @@
 -- A use that is not before the place that is noted, and one that is allowed.
 use Rattle.std.proofs.Common.{Option, option_map, ap, sym, ◌∙◌}
-use Rattle.schema_types.specs.ArgumentRules as rules
-use Rattle.schema_types.specs.Sites.{VariableAt}
-use Rattle.gql_graph.proofs.LeastSteps.{kept_least}
+use Rattle.doc_sites.specs.schema_types.ArgumentRules as rules
+use Rattle.doc_sites.specs.schema_types.Sites.{VariableAt}
+use Rattle.doc_sites.proofs.gql_graph_laws.LeastSteps.{kept_least}
 use Rattle.doc_uses.specs.UseView.{place_of}
 use Rattle.doc_uses.proofs.NeedSteps.{allowed_harmless}
 use Rattle.doc_uses.proofs.wrong_uses.is_harmless.Goals as goal

@@ -1,12 +1,12 @@
 -- Where what is needed is harmless nothing is wrong; else all are looked at that are reached.
 use Rattle.std.proofs.Common.{◌≡◌, [], List, length, map, ap, sym, ◌∙◌}
-use Rattle.gql_plain.specs.Order.{has_text}
-use Rattle.schema_types.specs.ArgumentRules as rules
-use Rattle.gql_graph.specs.Leasts.{least_from}
-use Rattle.schema_types.specs.NameRules.{spread_by, spreads_in, names_of_all}
-use Rattle.gql_graph.specs.Reached.{any_leads}
-use Rattle.schema_types.specs.Sites as spec
-use Rattle.gql_graph.specs.Texts.{Text}
+use Rattle.doc_sites.specs.gql_plain.Order.{has_text}
+use Rattle.doc_sites.specs.schema_types.ArgumentRules as rules
+use Rattle.doc_sites.specs.gql_graph.Leasts.{least_from}
+use Rattle.doc_sites.specs.schema_types.NameRules.{spread_by, spreads_in, names_of_all}
+use Rattle.doc_sites.specs.gql_graph.Reached.{any_leads}
+use Rattle.doc_sites.specs.schema_types.Sites as spec
+use Rattle.doc_sites.specs.gql_graph.Texts.{Text}
 use Rattle.doc_sites.specs.SitesView.{operation_of, site_of}
 use Rattle.doc_sites.specs.declared.site.Site.{Site}
 use Rattle.doc_uses.specs.Parts.{part_for}

@@ -1,10 +1,10 @@
 -- One more name.
 use Rattle.std.proofs.Common.{[], get_or, ap, arith}
-use Rattle.schema_types.specs.ArgumentRules as rules
-use Rattle.gql_graph.specs.Rules.{each}
-use Rattle.gql_graph.specs.Texts.{Text}
-use Rattle.schema_rules.proofs.FoundAt.{get_or_own}
-use Rattle.gql_graph.proofs.LeastSteps.{each_next}
+use Rattle.doc_sites.specs.schema_types.ArgumentRules as rules
+use Rattle.doc_sites.specs.gql_graph.Rules.{each}
+use Rattle.doc_sites.specs.gql_graph.Texts.{Text}
+use Rattle.doc_sites.proofs.schema_rules_laws.FoundAt.{get_or_own}
+use Rattle.doc_sites.proofs.gql_graph_laws.LeastSteps.{each_next}
 use Rattle.doc_sites.proofs.ListSteps.{noted_end}
 use Rattle.doc_uses.proofs.Steps.{noted_same}
 use Rattle.doc_uses.proofs.wrong_uses.note_reached.Goals as goal

@@ -1,10 +1,10 @@
 -- What is noted and what is left are the whole.
 use Rattle.std.proofs.Common.{◌≡◌, [], List, map, drop}
-use Rattle.schema_types.specs.ArgumentRules as rules
-use Rattle.gql_graph.specs.Leasts.{least_from}
-use Rattle.gql_graph.specs.Rules.{each}
-use Rattle.schema_types.specs.Sites.{VariableAt}
-use Rattle.gql_graph.specs.Texts.{Text}
+use Rattle.doc_sites.specs.schema_types.ArgumentRules as rules
+use Rattle.doc_sites.specs.gql_graph.Leasts.{least_from}
+use Rattle.doc_sites.specs.gql_graph.Rules.{each}
+use Rattle.doc_sites.specs.schema_types.Sites.{VariableAt}
+use Rattle.doc_sites.specs.gql_graph.Texts.{Text}
 use Rattle.doc_uses.specs.UsesByName.{Gathers}
 use Rattle.doc_uses.specs.Named.{NamesVariables}
 use Rattle.doc_uses.proofs.wrong_uses.note_reached.Given as goal

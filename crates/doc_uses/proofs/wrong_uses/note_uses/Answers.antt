@@ -1,8 +1,8 @@
 -- One more use.
 use Rattle.std.proofs.Common.{[], Option, ap, option_map, ◌∙◌, arith}
-use Rattle.schema_types.specs.ArgumentRules as rules
-use Rattle.schema_types.specs.Sites.{VariableAt}
-use Rattle.gql_graph.proofs.LeastSteps.{each_next}
+use Rattle.doc_sites.specs.schema_types.ArgumentRules as rules
+use Rattle.doc_sites.specs.schema_types.Sites.{VariableAt}
+use Rattle.doc_sites.proofs.gql_graph_laws.LeastSteps.{each_next}
 use Rattle.doc_uses.specs.UseView.{place_of, use_of}
 use Rattle.doc_sites.proofs.ListSteps.{noted_end}
 use Rattle.doc_uses.proofs.Steps.{noted_if_not}

@@ -1,9 +1,9 @@
 -- What is noted and what is left are the whole.
 use Rattle.std.proofs.Common.{◌≡◌, [], List, map, drop}
-use Rattle.schema_types.specs.ArgumentRules as rules
-use Rattle.gql_graph.specs.Rules.{each}
-use Rattle.gql_graph.specs.Leasts.{least_from}
-use Rattle.schema_types.specs.Sites.{VariableAt}
+use Rattle.doc_sites.specs.schema_types.ArgumentRules as rules
+use Rattle.doc_sites.specs.gql_graph.Rules.{each}
+use Rattle.doc_sites.specs.gql_graph.Leasts.{least_from}
+use Rattle.doc_sites.specs.schema_types.Sites.{VariableAt}
 use Rattle.doc_uses.specs.Named.{NamesVariables}
 use Rattle.doc_uses.specs.UseView.{use_of}
 use Rattle.doc_uses.proofs.wrong_uses.note_uses.Given as goal

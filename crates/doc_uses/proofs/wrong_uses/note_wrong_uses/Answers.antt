@@ -1,10 +1,10 @@
 -- The two parts in turn.
 use Rattle.std.proofs.Common.{ℕ, [], List, Option, map, ap, sym, ◌∙◌}
-use Rattle.gql_graph.specs.Leasts.{least_from}
-use Rattle.gql_graph.specs.Rules.{each}
-use Rattle.gql_graph.proofs.LeastSteps.{noted-append}
-use Rattle.schema_types.specs.ArgumentRules as rules
-use Rattle.schema_types.specs.Sites as spec
+use Rattle.doc_sites.specs.gql_graph.Leasts.{least_from}
+use Rattle.doc_sites.specs.gql_graph.Rules.{each}
+use Rattle.doc_sites.proofs.gql_graph_laws.LeastSteps.{noted-append}
+use Rattle.doc_sites.specs.schema_types.ArgumentRules as rules
+use Rattle.doc_sites.specs.schema_types.Sites as spec
 use Rattle.doc_sites.specs.SitesView.{operation_of}
 use Rattle.doc_uses.specs.Parts.{uses_wrong_in}
 use Rattle.doc_uses.specs.UseView.{use_of}

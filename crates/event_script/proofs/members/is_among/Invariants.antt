@@ -1,5 +1,5 @@
 use Rattle.std.proofs.Common.{◌≡◌, drop, map}
-use Rattle.gql_plain.specs.Order.{has_text}
+use Rattle.store_model.specs.gql_plain.Order.{has_text}
 use Rattle.event_script.proofs.members.is_among.Given as goal
 
 abbrev pub invariant-names : goal.invariant-names

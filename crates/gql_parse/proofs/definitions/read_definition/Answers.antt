@@ -1,7 +1,7 @@
 use Rattle.std.proofs.Common.{◌≡◌, ◌+◌, true, false, None, Some, bytes_eq, refl, arith}
 use Rattle.std.proofs.lemmas.Grind.{common_steps}
 use Rattle.std.proofs.lemmas.Result.{err_from_is_err_and}
-use Rattle.gql_ast.specs.declared.document.Definition.TheVariants as D
+use Rattle.gql_syntax.specs.gql_ast.declared.document.Definition.TheVariants as D
 use Rattle.gql_parse.specs.Documents.{full, fragment_word, definition_of, spell_definition}
 use Rattle.gql_parse.specs.Machine.{between, kinded, fragment_begun}
 use Rattle.gql_parse.specs.Reads.{BeginsSet, behind_definition}

@@ -1,6 +1,6 @@
 use Rattle.std.proofs.Common.{◌∷◌, [], false, refl, ap}
 use Rattle.std.proofs.lemmas.Result.{err_from_is_err_and}
-use Rattle.gql_ast.specs.declared.document.Fragment.{Fragment}
+use Rattle.gql_syntax.specs.gql_ast.declared.document.Fragment.{Fragment}
 use Rattle.gql_parse.specs.Machine.{of_fragment, on_fragment, fragment_begun, fragment_on, in_directives}
 use Rattle.gql_parse.specs.Reads.{MaySet, before_set}
 use Rattle.gql_syntax.specs.Answers.{node_count}

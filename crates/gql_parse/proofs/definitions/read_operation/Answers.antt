@@ -1,6 +1,6 @@
 use Rattle.std.proofs.Common.{false, refl, ap}
 use Rattle.std.proofs.lemmas.Result.{err_from_is_err_and}
-use Rattle.gql_ast.specs.declared.document.Operation.{Operation}
+use Rattle.gql_syntax.specs.gql_ast.declared.document.Operation.{Operation}
 use Rattle.gql_parse.specs.Documents.{spell_optional_name, spell_variables_part}
 use Rattle.gql_parse.specs.Machine.{of_operation, on_operation, kinded, called}
 use Rattle.gql_parse.specs.Reads.{kinded_at, MaySet, before_set}

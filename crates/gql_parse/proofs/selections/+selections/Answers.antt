@@ -1,9 +1,9 @@
 use Rattle.std.proofs.Common.{◌≡◌, ◌<◌, ◌+◌, ◌-◌, ◌∷◌, ℕ, List, [], true, false, None, Some, Ok, bytes_eq, refl, sym, ap, subst, ◌∙◌, arith}
 use Rattle.std.proofs.lemmas.Grind.{common_steps}
 use Rattle.std.proofs.lemmas.Result.{err_from_is_err_and}
-use Rattle.gql_ast.specs.SelectionView.{sel_of, sels_of}
-use Rattle.gql_ast.specs.Sels.{Sels, end, sels_append}
-use Rattle.gql_ast.specs.declared.selection.Selection.TheVariants as S
+use Rattle.gql_syntax.specs.gql_ast.SelectionView.{sel_of, sels_of}
+use Rattle.gql_syntax.specs.gql_ast.Sels.{Sels, end, sels_append}
+use Rattle.gql_syntax.specs.gql_ast.declared.selection.Selection.TheVariants as S
 use Rattle.gql_parse.specs.Machine.{of_inline, on_field, on_spread, on_inline, dotted, in_directives, dotted_name}
 use Rattle.gql_parse.specs.Machine as machine
 use Rattle.gql_parse.specs.Documents.{SomeSelection}
@@ -14,7 +14,7 @@ use Rattle.gql_syntax.specs.Nexts.{next_is, next_word, token_count}
 use Rattle.gql_syntax.specs.Reads.{Anywhere, NoDirective}
 use Rattle.gql_syntax.specs.Spelling.{spell_arguments, spell_directives}
 use Rattle.gql_syntax.specs.Words.{on_word}
-use Rattle.gql_lex.specs.Toks as tok
+use Rattle.gql_syntax.specs.gql_lex.Toks as tok
 use Rattle.gql_syntax.proofs.Tokens.{comes_at, taken_fewer}
 use Rattle.gql_parse.proofs.Courses.{call_goes, call_tells, empty_refused, on_missed, one_word, selection_ends, set_closes, set_missed, set_opens, set_too_deep, some_selection, spread_ends, dotted_ends, word_taken}
 use Rattle.gql_parse.proofs.Members.{Selections, then_selected, field_set, inline_nodes, set_closed, set_nodes}

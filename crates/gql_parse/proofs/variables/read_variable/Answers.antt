@@ -1,7 +1,7 @@
 use Rattle.std.proofs.Common.{[], true, refl, sym, arith}
 use Rattle.std.proofs.lemmas.Result.{err_from_is_err_and}
-use Rattle.gql_ast.specs.TypeView.{ty_of}
-use Rattle.gql_ast.specs.declared.variable.VariableDef.{VariableDef}
+use Rattle.gql_syntax.specs.gql_ast.TypeView.{ty_of}
+use Rattle.gql_syntax.specs.gql_ast.declared.variable.VariableDef.{VariableDef}
 use Rattle.gql_parse.specs.Machine.{on_variable, dollar, variable_named, in_type, typed, in_directives}
 use Rattle.gql_parse.specs.Reads.{MayVariable, variables_at}
 use Rattle.gql_syntax.specs.Answers.{node_count}

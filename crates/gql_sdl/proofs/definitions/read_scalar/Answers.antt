@@ -1,6 +1,6 @@
 use Rattle.std.proofs.Common.{refl, ap, arith}
 use Rattle.std.proofs.lemmas.Result.{err_from_is_err_and}
-use Rattle.gql_lex.specs.Toks as tok
+use Rattle.gql_syntax.specs.gql_lex.Toks as tok
 use Rattle.gql_syntax.specs.Nexts.{token_count}
 use Rattle.gql_syntax.proofs.Tokens.{comes_word}
 use Rattle.gql_sdl.specs.Machine as machine

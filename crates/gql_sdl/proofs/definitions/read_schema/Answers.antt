@@ -1,11 +1,11 @@
 use Rattle.std.proofs.Common.{◌∷◌, ℕ, List, codes, refl, ap, ◌∙◌, arith}
 use Rattle.std.proofs.lemmas.Result.{err_from_is_err_and}
-use Rattle.gql_lex.specs.Toks as tok
+use Rattle.gql_syntax.specs.gql_lex.Toks as tok
 use Rattle.gql_syntax.specs.Answers.{node_count}
 use Rattle.gql_syntax.specs.Nexts.{token_count}
 use Rattle.gql_syntax.specs.Spelling.{spell_directives}
 use Rattle.gql_syntax.proofs.Tokens.{comes_word}
-use Rattle.gql_ast.specs.declared.schema.SchemaDef.TheVariants as S
+use Rattle.gql_syntax.specs.gql_ast.declared.schema.SchemaDef.TheVariants as S
 use Rattle.gql_sdl.specs.Reads as reads
 use Rattle.gql_sdl.specs.Schemas as written
 use Rattle.gql_sdl.proofs.InputReads.{behind-count, behind-fewer}

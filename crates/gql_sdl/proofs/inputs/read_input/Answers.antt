@@ -4,7 +4,7 @@ use Rattle.gql_syntax.specs.Nexts.{token_count}
 use Rattle.gql_sdl.specs.Machine.{TypedInput, Typed, Owner, input_default, directives_of, on_input, input_type, in_type}
 use Rattle.gql_sdl.specs.Reads.{MayInput, inputs_at}
 use Rattle.gql_syntax.specs.Machine.{want_type, whole}
-use Rattle.gql_lex.specs.Sources.{Source}
+use Rattle.gql_syntax.specs.gql_lex.Sources.{Source}
 use Rattle.gql_sdl.proofs.Goings.{fails-behind, fails-type, fails-default, fails-directives}
 use Rattle.gql_sdl.proofs.InputReads.{behind-count, open_input, typed_input, input-no_name, input-no_colon, to_type, to_default, to_directives, input-read}
 use Rattle.gql_sdl.proofs.inputs.read_input.Goals as goal

@@ -3,7 +3,7 @@ use Rattle.std.proofs.lemmas.Result.{err_from_is_err_and}
 use Rattle.gql_syntax.specs.Nexts.{token_count}
 use Rattle.gql_sdl.proofs.InputReads.{behind-fewer}
 use Rattle.gql_syntax.proofs.Tokens.{comes_at}
-use Rattle.gql_lex.specs.Toks.{punctuator_of}
+use Rattle.gql_syntax.specs.gql_lex.Toks.{punctuator_of}
 use Rattle.gql_sdl.proofs.InputReads.{behind-count}
 use Rattle.gql_sdl.proofs.ListReads.{names_separated, names_laws}
 use Rattle.gql_sdl.proofs.Loops.{some-then}

@@ -1,5 +1,5 @@
 -- The types are sorted.
-use Rattle.gql_plain.proofs.SortedTexts.{AreSortedOf-is}
+use Rattle.plan_ir.proofs.gql_plain_laws.SortedTexts.{AreSortedOf-is}
 use Rattle.plan_build.specs.ClassView.{target_view}
 use Rattle.plan_build.proofs.classes.class_of.Goals as goal
 

@@ -1,6 +1,6 @@
 -- None of the groups so far is it.
 use Rattle.std.proofs.Common.{◌≡◌, take, None}
-use Rattle.schema_tables.specs.Places.{first_at}
+use Rattle.plan_ir.specs.schema_tables.Places.{first_at}
 use Rattle.plan_build.specs.Classes.{same_target}
 use Rattle.plan_build.specs.ClassView.{target_view}
 use Rattle.plan_build.proofs.classes.find_group.Given as goal

@@ -1,9 +1,9 @@
 -- The group is there, or it is a new one.
 use Rattle.std.proofs.Common.{◌≡◌, ◌<◌, length, List, [], ◌∷◌, ◌++◌, map, Some, None, ap, sym, ◌∙◌, arith}
 use Rattle.std.proofs.lemmas.List.{map-append}
-use Rattle.schema_tables.proofs.Finding.{within}
-use Rattle.schema_tables.specs.Places.{first_at}
-use Rattle.schema_tables.specs.Types.{Text}
+use Rattle.plan_ir.proofs.schema_tables_laws.Finding.{within}
+use Rattle.plan_ir.specs.schema_tables.Places.{first_at}
+use Rattle.plan_ir.specs.schema_tables.Types.{Text}
 use Rattle.plan_build.specs.Classes.{Target, target_on, with_object, with_type}
 use Rattle.plan_build.specs.ClassView.{group_view, target_view}
 use Rattle.plan_build.specs.declared.classes.Group.{Group}

@@ -1,7 +1,7 @@
 -- The value so far, and what the arguments that are left make of it.
 use Rattle.std.proofs.Common.{◌≡◌, map, drop}
-use Rattle.gql_ast.specs.Value.{null}
-use Rattle.gql_ast.specs.ValueView.{argument_of, value_of}
+use Rattle.plan_ir.specs.gql_ast.Value.{null}
+use Rattle.plan_ir.specs.gql_ast.ValueView.{argument_of, value_of}
 use Rattle.plan_build.specs.Conditions.{last_if}
 use Rattle.plan_build.proofs.conditions.last_if.Given as goal
 

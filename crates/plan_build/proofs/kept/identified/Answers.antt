@@ -1,7 +1,7 @@
 -- One more type, and all of them, which are in order.
 use Rattle.std.proofs.Common.{refl, arith}
 use Rattle.std.specs.List.{filter}
-use Rattle.schema_tables.specs.Types.{has_id}
+use Rattle.plan_ir.specs.schema_tables.Types.{has_id}
 use Rattle.plan_build.proofs.CodeSteps.{identified_in_order, list_end}
 use Rattle.plan_build.proofs.kept.identified.Goals as goal
 

@@ -1,6 +1,6 @@
 -- The plan is that of the definition, which is formed, means what the operation means, and reaches what it reaches.
 use Rattle.std.proofs.Common.{[], ◌∷◌, ap, ◌∙◌}
-use Rattle.gql_plain.specs.Order.{has_text}
+use Rattle.plan_ir.specs.gql_plain.Order.{has_text}
 use Rattle.plan_ir.specs.Normal.{Normal}
 use Rattle.plan_ir.specs.NormalMeaning.{is_formed, plan_says}
 use Rattle.plan_ir.specs.NormalReach.{plan_reaches}
@@ -8,7 +8,7 @@ use Rattle.plan_build.proofs.Formed.{steps_formed}
 use Rattle.plan_build.proofs.Meaning.{plan_means}
 use Rattle.plan_build.proofs.Reaches.{plan_reaches_nodes}
 use Rattle.plan_build.proofs.normal.normal_plan.Goals as goal
-use Rattle.store_model.specs.Walks.{type_of_record}
+use Rattle.plan_ir.specs.store_model.Walks.{type_of_record}
 
 pub returns-clause-formed : goal.returns-clause-formed
 returns-clause-formed c = λ names. ap is_formed c.in_ok-plan.ensures ∙ steps_formed c.args.schema.now names _ c.args.expanded.now.selections

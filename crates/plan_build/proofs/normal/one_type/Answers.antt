@@ -1,7 +1,7 @@
 -- One name is in order.
 use Rattle.std.proofs.Common.{◌≡◌, [], ◌∷◌, ◌++◌, ap, ◌∙◌}
-use Rattle.gql_plain.proofs.SortedTexts.{AreSortedOf-is}
-use Rattle.gql_plain.specs.Order.{sorted_texts}
+use Rattle.plan_ir.proofs.gql_plain_laws.SortedTexts.{AreSortedOf-is}
+use Rattle.plan_ir.specs.gql_plain.Order.{sorted_texts}
 use Rattle.plan_build.proofs.normal.one_type.Goals as goal
 
 pub returns : goal.returns

@@ -5,7 +5,7 @@ use Rattle.std.specs.Prelude.{codes, option_map}
 use Rattle.plan_ir.specs.Nodes.{set_depth}
 use Rattle.plan_ir.specs.NodesView.{node_of}
 use Rattle.plan_ir.specs.Normal.{Normal, normal_append}
-use Rattle.schema_tables.specs.Types.{Text, is_composite, possible}
+use Rattle.plan_ir.specs.schema_tables.Types.{Text, is_composite, possible}
 use Rattle.plan_build.specs.Classes.{Target, one_target}
 use Rattle.plan_build.specs.AroundView.{types_of}
 use Rattle.plan_build.specs.ClassView.{field_view, target_view}

@@ -1,7 +1,7 @@
 -- The field is there, or it is not.
 use Rattle.std.proofs.Common.{Some, ap, sym, ◌∙◌}
 use Rattle.std.specs.Prelude.{option_copied}
-use Rattle.schema_types.specs.Sites.{field_type}
+use Rattle.plan_ir.specs.schema_types.Sites.{field_type}
 use Rattle.plan_expand.proofs.AdditionSteps.{base_none, base_some}
 use Rattle.plan_expand.proofs.additions.base_on.Goals as goal
 

@@ -1,6 +1,6 @@
 -- What is looked for stands in what is left.
 use Rattle.std.proofs.Common.{◌≡◌, drop}
-use Rattle.gql_ast.specs.SelectionView.{sels_of}
+use Rattle.plan_ir.specs.gql_ast.SelectionView.{sels_of}
 use Rattle.plan_ir.specs.Additions.{has_bare}
 use Rattle.plan_expand.proofs.additions.has_bare.Given as goal
 

@@ -1,7 +1,7 @@
 -- One more type, and all of them.
 use Rattle.std.proofs.Common.{◌∷◌, [], refl, arith}
 use Rattle.std.specs.List.{filter}
-use Rattle.schema_tables.specs.Types.{has_id}
+use Rattle.plan_ir.specs.schema_tables.Types.{has_id}
 use Rattle.plan_expand.proofs.Lists.{filter_before, list_end, list_next}
 use Rattle.plan_expand.proofs.additions.identified_types.Goals as goal
 

@@ -1,7 +1,7 @@
 -- What is put and what is left are the whole.
 use Rattle.std.proofs.Common.{◌≡◌, ◌++◌, drop}
 use Rattle.std.specs.List.{filter}
-use Rattle.schema_tables.specs.Types.{has_id}
+use Rattle.plan_ir.specs.schema_tables.Types.{has_id}
 use Rattle.plan_expand.specs.Adding.{identified_types}
 use Rattle.plan_expand.proofs.additions.identified_types.Given as goal
 

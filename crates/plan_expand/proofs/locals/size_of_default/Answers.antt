@@ -1,7 +1,7 @@
 -- The size of the default.
 use Rattle.std.proofs.Common.{Option, option_map, ap, sym, ◌∙◌}
-use Rattle.gql_ast.specs.ValueView.{value_of}
-use Rattle.gql_ast.specs.declared.value.ValueTree.{ValueTree}
+use Rattle.plan_ir.specs.gql_ast.ValueView.{value_of}
+use Rattle.plan_ir.specs.gql_ast.declared.value.ValueTree.{ValueTree}
 use Rattle.plan_expand.specs.Sizes.{default_size}
 use Rattle.plan_expand.proofs.ValueSizes.{own_value}
 use Rattle.plan_expand.proofs.locals.size_of_default.Goals as goal

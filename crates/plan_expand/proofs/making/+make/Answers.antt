@@ -1,7 +1,7 @@
 -- One more selection, and all of them; a spread that may be entered, or may not; what stands in the place of a spread.
 use Rattle.std.proofs.Common.{◌≡◌, ◌-◌, get_or, Some, ap, sym, ◌∙◌, arith}
 use Rattle.std.specs.Prelude.{option_copied, option_map}
-use Rattle.gql_ast.specs.declared.place.FilePlace.{FilePlace}
+use Rattle.plan_ir.specs.gql_ast.declared.place.FilePlace.{FilePlace}
 use Rattle.plan_ir.specs.Nodes.{end, inline}
 use Rattle.plan_expand.specs.Places.{first_place}
 use Rattle.plan_expand.specs.Making.{making, ready_scope, spread_node}

@@ -1,7 +1,7 @@
 -- What is made and what is left are the whole. Each set stands on one level less.
 use Rattle.std.proofs.Common.{◌≡◌, ◌+◌, ◌*◌, drop}
 use Rattle.std.specs.Prelude.{option_copied}
-use Rattle.gql_ast.specs.SelectionView.{sels_of}
+use Rattle.plan_ir.specs.gql_ast.SelectionView.{sels_of}
 use Rattle.plan_ir.specs.Nodes.{nodes_append}
 use Rattle.plan_expand.specs.Making.{making, selections_count}
 use Rattle.plan_expand.specs.ReadyView.{find_in}

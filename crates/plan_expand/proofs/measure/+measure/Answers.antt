@@ -1,9 +1,9 @@
 -- One more selection, and all of them; what a selection adds.
 use Rattle.std.proofs.Common.{◌+◌, ◌≤◌, refl, ap, ◌∙◌, arith}
 use Rattle.std.specs.Prelude.{option_copied}
-use Rattle.gql_ast.specs.SelectionView.{sel_of}
-use Rattle.gql_ast.specs.Sels.{depth}
-use Rattle.schema_types.specs.Sites.{below, condition_or}
+use Rattle.plan_ir.specs.gql_ast.SelectionView.{sel_of}
+use Rattle.plan_ir.specs.gql_ast.Sels.{depth}
+use Rattle.plan_ir.specs.schema_types.Sites.{below, condition_or}
 use Rattle.plan_expand.specs.Extents.{both, node_extent}
 use Rattle.plan_expand.specs.Measuring.{steps, total}
 use Rattle.plan_expand.specs.ProgressView.{all_steps, all_total}

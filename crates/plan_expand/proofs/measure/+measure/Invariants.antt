@@ -1,8 +1,8 @@
 -- What is measured and what is left are the whole; what stands inside a selection is less deep than its set.
 use Rattle.std.proofs.Common.{◌≡◌, ◌+◌, ◌*◌, drop}
 use Rattle.std.specs.Prelude.{option_copied}
-use Rattle.gql_ast.specs.SelectionView.{sel_of, sels_of}
-use Rattle.gql_ast.specs.Sels.{depth}
+use Rattle.plan_ir.specs.gql_ast.SelectionView.{sel_of, sels_of}
+use Rattle.plan_ir.specs.gql_ast.Sels.{depth}
 use Rattle.plan_expand.specs.Extents.{both}
 use Rattle.plan_expand.specs.Measuring.{steps, total}
 use Rattle.plan_expand.specs.ProgressView.{all_steps, whole_total}

@@ -1,6 +1,6 @@
 -- What is added up and what is left are the whole.
 use Rattle.std.proofs.Common.{◌≡◌, drop}
-use Rattle.gql_graph.specs.Rules.{each}
+use Rattle.plan_ir.specs.gql_graph.Rules.{each}
 use Rattle.plan_ir.specs.Substitution.{arguments_in}
 use Rattle.plan_expand.specs.Sizes.{arguments_size, beside}
 use Rattle.plan_expand.specs.SizesView.{sizes_of}

@@ -1,6 +1,6 @@
 -- What is put and what is left are the whole.
 use Rattle.std.proofs.Common.{◌≡◌, ◌++◌, drop}
-use Rattle.schema_types.specs.DocumentRules.{places_of}
+use Rattle.plan_ir.specs.schema_types.DocumentRules.{places_of}
 use Rattle.plan_expand.proofs.places.places_of.Given as goal
 
 abbrev pub invariant-documents : goal.invariant-documents

@@ -1,6 +1,6 @@
 -- What is put and what is left are the whole.
 use Rattle.std.proofs.Common.{◌≡◌, ◌++◌, map, drop}
-use Rattle.doc_sites.specs.SitesView.{site_of}
+use Rattle.plan_ir.specs.doc_sites.SitesView.{site_of}
 use Rattle.plan_expand.specs.Places.{place_in, site_places_in}
 use Rattle.plan_expand.proofs.places.site_places.Given as goal
 

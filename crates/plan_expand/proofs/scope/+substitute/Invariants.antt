@@ -1,6 +1,6 @@
 -- What stands before is replaced.
 use Rattle.std.proofs.Common.{◌≡◌, map, take}
-use Rattle.gql_ast.specs.ValueView.{value_of, argument_of}
+use Rattle.plan_ir.specs.gql_ast.ValueView.{value_of, argument_of}
 use Rattle.plan_ir.specs.Substitution as spec
 use Rattle.plan_expand.specs.ScopeView.{scope_of}
 use Rattle.plan_expand.proofs.scope.+substitute.Given as goal

@@ -1,9 +1,9 @@
 -- What is given and what is left are the whole.
 use Rattle.std.proofs.Common.{◌≡◌, drop}
 use Rattle.std.specs.Option.{option_or}
-use Rattle.relay_dirs.specs.Connections.{value_of_name}
+use Rattle.plan_ir.specs.relay_dirs.Connections.{value_of_name}
 use Rattle.plan_ir.specs.Substitution.{arguments_at_spread}
-use Rattle.schema_tables.specs.Types.{Text}
+use Rattle.plan_ir.specs.schema_tables.Types.{Text}
 use Rattle.plan_expand.specs.ScopeView.{find_gift, scope_of}
 use Rattle.plan_expand.proofs.scope.gifts_at.Given as goal
 

@@ -1,9 +1,9 @@
 -- What is given, else the default.
 use Rattle.std.proofs.Common.{◌≡◌, IfOk, Option, option_map, ap, sym, subst, ◌∙◌}
-use Rattle.gql_ast.specs.Value.{Val}
-use Rattle.gql_ast.specs.ValueView.{value_of}
+use Rattle.plan_ir.specs.gql_ast.Value.{Val}
+use Rattle.plan_ir.specs.gql_ast.ValueView.{value_of}
 use Rattle.plan_ir.specs.Substitution as spec
-use Rattle.schema_tables.specs.Types.{Text}
+use Rattle.plan_ir.specs.schema_tables.Types.{Text}
 use Rattle.plan_expand.specs.LocalsView.{default_view, find_local}
 use Rattle.plan_expand.specs.ScopeView.{find_gift, gift_or, scope_of}
 use Rattle.plan_expand.specs.declared.local.Local.{Local}

@@ -1,8 +1,8 @@
 -- One more directive, and all of them.
 use Rattle.std.proofs.Common.{option_map, refl, ap, ◌∙◌, arith}
 use Rattle.std.specs.Option.{option_or}
-use Rattle.gql_graph.specs.Rules.{each}
-use Rattle.relay_dirs.specs.Connections.{value_of_name}
+use Rattle.plan_ir.specs.gql_graph.Rules.{each}
+use Rattle.plan_ir.specs.relay_dirs.Connections.{value_of_name}
 use Rattle.plan_ir.specs.Substitution.{arguments_in}
 use Rattle.plan_expand.specs.Sizes.{size_in}
 use Rattle.plan_expand.specs.SizesView.{sizes_of}

@@ -1,10 +1,10 @@
 -- What is put and what is left are the whole.
 use Rattle.std.proofs.Common.{◌≡◌, drop, option_map}
 use Rattle.std.specs.Option.{option_or}
-use Rattle.gql_graph.specs.Rules.{each}
-use Rattle.relay_dirs.specs.Connections.{value_of_name}
+use Rattle.plan_ir.specs.gql_graph.Rules.{each}
+use Rattle.plan_ir.specs.relay_dirs.Connections.{value_of_name}
 use Rattle.plan_ir.specs.Substitution.{arguments_in}
-use Rattle.schema_tables.specs.Types.{Text}
+use Rattle.plan_ir.specs.schema_tables.Types.{Text}
 use Rattle.plan_expand.specs.Sizes.{size_in}
 use Rattle.plan_expand.specs.SizesView.{find_size, sizes_of}
 use Rattle.plan_expand.proofs.sizes.gift_sizes.Given as goal

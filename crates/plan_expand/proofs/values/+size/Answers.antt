@@ -1,7 +1,7 @@
 -- One more value, and all of them.
 use Rattle.std.proofs.Common.{map, refl, ap, ◌∙◌, arith}
-use Rattle.gql_ast.specs.Value.{members_of, vals_of}
-use Rattle.gql_ast.specs.ValueView.{argument_of, value_of}
+use Rattle.plan_ir.specs.gql_ast.Value.{members_of, vals_of}
+use Rattle.plan_ir.specs.gql_ast.ValueView.{argument_of, value_of}
 use Rattle.plan_expand.specs.Sizes.{beside, items_size, members_size, size_in}
 use Rattle.plan_expand.specs.SizesView.{sizes_of}
 use Rattle.plan_expand.proofs.SizeLaws.{nothing_then, size_end, size_next}

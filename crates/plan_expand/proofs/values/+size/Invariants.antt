@@ -1,7 +1,7 @@
 -- What is added up and what is left are the whole.
 use Rattle.std.proofs.Common.{◌≡◌, map, drop}
-use Rattle.gql_ast.specs.Value.{members_of, vals_of}
-use Rattle.gql_ast.specs.ValueView.{argument_of, value_of}
+use Rattle.plan_ir.specs.gql_ast.Value.{members_of, vals_of}
+use Rattle.plan_ir.specs.gql_ast.ValueView.{argument_of, value_of}
 use Rattle.plan_expand.specs.Sizes.{beside, items_size, members_size}
 use Rattle.plan_expand.specs.SizesView.{sizes_of}
 use Rattle.plan_expand.proofs.values.+size.Given as goal

@@ -3,7 +3,7 @@ use Rattle.std.proofs.Common.{◌≡◌, map, drop}
 use Rattle.plan_ir.specs.NormalMeaning.{collect_plan}
 use Rattle.plan_groups.specs.FieldView.{plan_at}
 use Rattle.plan_groups.specs.Placed.{groups_in, IsPlaced}
-use Rattle.store_model.specs.Items.{asked_of, collect_all, grouped_onto, groups_at}
+use Rattle.plan_ir.specs.store_model.Items.{asked_of, collect_all, grouped_onto, groups_at}
 use Rattle.plan_groups.proofs.gathered.gather.Given as goal
 
 abbrev pub invariant-parts : goal.invariant-parts

@@ -3,7 +3,7 @@ use Rattle.std.proofs.Common.{◌≡◌, ◌<◌, length, get_or, Equal, nat_cmp
 use Rattle.std.proofs.lemmas.Fn.{always_returns_same}
 use Rattle.std.specs.Cmp.Lexicographic.{slice_cmp}
 use Rattle.std.specs.List.{insert}
-use Rattle.gql_plain.specs.Order.{with_text, AreInOrder}
+use Rattle.plan_ir.specs.gql_plain.Order.{with_text, AreInOrder}
 use Rattle.plan_groups.proofs.TextSteps.{with_text-found, with_text-searched}
 use Rattle.plan_groups.proofs.group.put_text.Goals as goal
 

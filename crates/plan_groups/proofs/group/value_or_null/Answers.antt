@@ -1,12 +1,12 @@
 -- The value that is given.
 use Rattle.std.proofs.Common.{◌≡◌, Option, option_map, Bor, ap, sym, ◌∙◌}
 use Rattle.std.proofs.lemmas.Result.{IfOk-weaker}
-use Rattle.gql_plain.specs.Order.{member_at}
-use Rattle.gql_plain.specs.Shown.{tree_of}
-use Rattle.gql_plain.specs.declared.plain.Plain.{Plain}
+use Rattle.plan_ir.specs.gql_plain.Order.{member_at}
+use Rattle.plan_ir.specs.gql_plain.Shown.{tree_of}
+use Rattle.plan_ir.specs.gql_plain.declared.plain.Plain.{Plain}
 use Rattle.plan_groups.proofs.ValueSteps.{given}
 use Rattle.plan_groups.proofs.group.value_or_null.Goals as goal
-use Rattle.store_model.specs.Says.{value_of}
+use Rattle.plan_ir.specs.store_model.Says.{value_of}
 
 pub returns-in-Some : goal.returns-in-Some
 returns-in-Some c =

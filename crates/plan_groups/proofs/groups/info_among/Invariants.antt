@@ -1,6 +1,6 @@
 -- Those so far are other groups.
 use Rattle.std.proofs.Common.{◌≡◌, drop}
-use Rattle.store_model.specs.Says.{info_in}
+use Rattle.plan_ir.specs.store_model.Says.{info_in}
 use Rattle.plan_groups.proofs.groups.info_among.Given as goal
 
 abbrev pub invariant-groups : goal.invariant-groups

@@ -1,6 +1,6 @@
 -- What is put and what is left are the whole.
 use Rattle.std.proofs.Common.{◌≡◌, ◌++◌, drop}
-use Rattle.store_model.specs.Says.{pages_for}
+use Rattle.plan_ir.specs.store_model.Says.{pages_for}
 use Rattle.plan_groups.proofs.pages.put_pages.Given as goal
 
 abbrev pub invariant-handles : goal.invariant-handles

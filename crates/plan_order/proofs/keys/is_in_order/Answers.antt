@@ -4,7 +4,7 @@ use Rattle.std.proofs.lemmas.Grind.{common_steps}
 use Rattle.std.proofs.lemmas.List.{length-map}
 use Rattle.std.proofs.lemmas.List.Folds.{list_all-map}
 use Rattle.std.specs.List.{list_all}
-use Rattle.gql_plain.specs.Order.{AreInOrder}
+use Rattle.plan_ir.specs.gql_plain.Order.{AreInOrder}
 use Rattle.plan_order.proofs.FoundOrders.{all_apart, all_left, apart_all}
 use Rattle.plan_order.proofs.keys.is_in_order.Goals as goal
 use Rattle.plan_order.specs.HasOrder.{stands_apart}

@@ -1,14 +1,14 @@
 -- The rules on documents, and then those on what operations and fragments become.
 use Rattle.std.proofs.Common.{map, ap, subst, sym, ◌∙◌}
 use Rattle.std.proofs.lemmas.Result.{IfErr-weaker}
-use Rattle.doc_sites.specs.SitesView.{definition_of}
+use Rattle.plan_ir.specs.doc_sites.SitesView.{definition_of}
 use Rattle.plan_project.proofs.RuleLaws.{expansions_faulty, rules_broken}
 use Rattle.plan_project.proofs.checking.check_documents.Goals as goal
 use Rattle.plan_project.specs.Noting.{IsFaultOfDocuments, IsFaultOfExpansions}
 use Rattle.plan_project.specs.Projects.{document_rules}
 use Rattle.plan_project.specs.declared.fault.DocumentsFault.TheVariants as D
-use Rattle.schema_rules.specs.declared.fault.NodeFault.{NodeFault}
-use Rattle.schema_types.specs.DocumentRules.{AreFaulty}
+use Rattle.plan_ir.specs.schema_rules.declared.fault.NodeFault.{NodeFault}
+use Rattle.plan_ir.specs.schema_types.DocumentRules.{AreFaulty}
 
 pub check_rules-requires : goal.check_rules-requires
 check_rules-requires c = ap (map definition_of) c.deref.ensures.value ∙ c.in-Ok.ensures

@@ -1,9 +1,9 @@
 use Rattle.std.proofs.Common.{◌≡◌, List, Some, None, ◌<◌, length, subst, sym, inl, inr}
-use Rattle.doc_merge.specs.declared.fault.PlaceFault.{PlaceFault}
-use Rattle.gql_ast.specs.declared.document.Document.{Document}
-use Rattle.gql_ast.specs.declared.place.Placed.{Placed}
-use Rattle.gql_graph.specs.Rules.{first_broken}
-use Rattle.gql_sdl.specs.Schemas.{schemas}
+use Rattle.plan_read.specs.doc_merge.declared.fault.PlaceFault.{PlaceFault}
+use Rattle.plan_ir.specs.gql_ast.declared.document.Document.{Document}
+use Rattle.plan_ir.specs.gql_ast.declared.place.Placed.{Placed}
+use Rattle.plan_ir.specs.gql_graph.Rules.{first_broken}
+use Rattle.text_places.specs.gql_sdl.Schemas.{schemas}
 use Rattle.plan_project.proofs.Codes.{parse_fault_coded}
 use Rattle.plan_project.proofs.PlaceCounts.{schema_fault_placed, documents_fault_placed}
 use Rattle.plan_project.proofs.ProjectLaws.{schema_refused, documents_refused, only_trees, found_in_schema, found_in_rules, found_project, accepted_project}
@@ -13,10 +13,10 @@ use Rattle.plan_project.specs.Faults.{IsAt, fault_at}
 use Rattle.plan_project.specs.Noting.{IsFaultOfDocuments}
 use Rattle.plan_project.specs.Projects.{node_rules}
 use Rattle.plan_project.specs.Verdicts.{IsTheProject, texts_of}
-use Rattle.schema_rules.specs.Checked.{IsRuleFault}
-use Rattle.schema_rules.specs.declared.fault.NodeFault.{NodeFault}
-use Rattle.schema_types.specs.DocumentRules.{places_of}
-use Rattle.schema_tables.specs.Types.{Defs}
+use Rattle.plan_ir.specs.schema_rules.Checked.{IsRuleFault}
+use Rattle.plan_ir.specs.schema_rules.declared.fault.NodeFault.{NodeFault}
+use Rattle.plan_ir.specs.schema_types.DocumentRules.{places_of}
+use Rattle.plan_ir.specs.schema_tables.Types.{Defs}
 
 pub fault_of-requires : goal.fault_of-requires
 fault_of-requires c = parse_fault_coded schemas 0 c.as_bytes.result.now c.in-Err.fault c.in-Err.ensures.fault

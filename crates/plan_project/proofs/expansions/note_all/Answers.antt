@@ -1,13 +1,13 @@
 -- One definition more, and all of them.
 use Rattle.std.proofs.Common.{List, map, subst}
 use Rattle.std.proofs.lemmas.List.{drop_all}
-use Rattle.doc_sites.specs.SitesView.{definition_of}
-use Rattle.gql_ast.specs.declared.document.Document.{Document}
-use Rattle.gql_ast.specs.declared.place.Placed.{Placed}
+use Rattle.plan_ir.specs.doc_sites.SitesView.{definition_of}
+use Rattle.plan_ir.specs.gql_ast.declared.document.Document.{Document}
+use Rattle.plan_ir.specs.gql_ast.declared.place.Placed.{Placed}
 use Rattle.plan_project.proofs.NotingSteps.{noted_all, noted_first, noted_next}
 use Rattle.plan_project.proofs.expansions.note_all.Goals as goal
 use Rattle.plan_project.specs.Noting.{HasNotedAt}
-use Rattle.schema_tables.specs.Types.{Defs}
+use Rattle.plan_ir.specs.schema_tables.Types.{Defs}
 
 pub definitions-init : goal.definitions-init
 definitions-init c =

@@ -1,7 +1,7 @@
 -- What the check said is noted.
 use Rattle.std.proofs.Common.{Some, subst}
-use Rattle.doc_merge.specs.Faults.{IsFirstFault, first_fault}
-use Rattle.doc_merge.specs.declared.fault.PlaceFault.{PlaceFault}
+use Rattle.plan_read.specs.doc_merge.Faults.{IsFirstFault, first_fault}
+use Rattle.plan_read.specs.doc_merge.declared.fault.PlaceFault.{PlaceFault}
 use Rattle.plan_project.proofs.NotingSteps.{fault_said}
 use Rattle.plan_project.proofs.expansions.note_merge.Goals as goal
 use Rattle.plan_project.specs.Noting.{HasNotedFault}

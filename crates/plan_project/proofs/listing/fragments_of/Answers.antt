@@ -1,7 +1,7 @@
 -- One document more, and all of them.
 use Rattle.std.proofs.Common.{rules, List, is_some, ap, sym, subst, ◌∙◌}
 use Rattle.std.specs.BTreeMap.{get_by_text}
-use Rattle.gql_ast.specs.declared.document.Definition.{Definition}
+use Rattle.plan_ir.specs.gql_ast.declared.document.Definition.{Definition}
 use Rattle.plan_project.proofs.KeptPlans.{fragments_filled}
 use Rattle.plan_project.proofs.Looking.{in_document, takes_next, takes_nothing}
 use Rattle.plan_project.proofs.Trees.{fragments_there}

@@ -1,6 +1,6 @@
 -- What is made of the expansion is what the documents have.
 use Rattle.std.proofs.Common.{sym, refl, subst}
-use Rattle.plan_build.specs.Plans.{IsWellFormed, MeansTheSame, ReachesTheSame}
+use Rattle.plan_read.specs.plan_build.Plans.{IsWellFormed, MeansTheSame, ReachesTheSame}
 use Rattle.plan_ir.specs.declared.normal.NormalPlan.{NormalPlan}
 use Rattle.plan_project.proofs.KeptPlans.{operation_planned}
 use Rattle.plan_project.proofs.KeptReaders.{whole_has_reader}

@@ -1,9 +1,9 @@
 use Rattle.std.proofs.Common.{rules, ◌≡◌, ◌+◌, [], ◌∷◌, ◌++◌, drop, ap, subst, sym, arith}
 use Rattle.std.proofs.lemmas.List.{drop_all}
-use Rattle.gql_ast.specs.declared.document.Document.{Document}
-use Rattle.gql_ast.specs.declared.fault.ParseFault.TheVariants.{NoMemory}
-use Rattle.gql_ast.specs.declared.place.Placed.{Placed}
-use Rattle.gql_parse.specs.Trees.{IsDocument}
+use Rattle.plan_ir.specs.gql_ast.declared.document.Document.{Document}
+use Rattle.plan_ir.specs.gql_ast.declared.fault.ParseFault.TheVariants.{NoMemory}
+use Rattle.plan_ir.specs.gql_ast.declared.place.Placed.{Placed}
+use Rattle.text_places.specs.gql_parse.Trees.{IsDocument}
 use Rattle.plan_project.proofs.DocumentLaws.{ReadSoFar, only_of, read-step, read-fault, read-all}
 use Rattle.plan_project.proofs.parsing.parse_documents.Goals as goal
 use Rattle.plan_project.specs.Verdicts.{texts_of}

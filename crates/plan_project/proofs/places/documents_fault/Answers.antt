@@ -1,11 +1,11 @@
 -- The node is among the places of a document, or behind them.
 use Rattle.std.proofs.Common.{◌≡◌, ◌+◌, ◌-◌, ◌<◌, Some, length, drop, get_or, ap, sym, ◌∙◌, arith}
-use Rattle.gql_ast.specs.declared.place.Placed.{Placed}
-use Rattle.gql_ast.specs.declared.document.Document.{Document}
+use Rattle.plan_ir.specs.gql_ast.declared.place.Placed.{Placed}
+use Rattle.plan_ir.specs.gql_ast.declared.document.Document.{Document}
 use Rattle.plan_project.proofs.PlaceSteps.{place_here, place_behind, left_behind}
 use Rattle.plan_project.proofs.places.documents_fault.Goals as goal
 use Rattle.plan_project.specs.Faults.{place_at}
-use Rattle.schema_types.specs.DocumentRules.{places_of}
+use Rattle.plan_ir.specs.schema_types.DocumentRules.{places_of}
 
 pub returns-then-left-len : goal.returns-then-left-len
 returns-then-left-len c =

@@ -2,7 +2,7 @@
 use Rattle.std.proofs.Common.{◌≡◌, ◌<◌, length, drop}
 use Rattle.plan_project.proofs.places.documents_fault.Given as goal
 use Rattle.plan_project.specs.Faults.{place_at}
-use Rattle.schema_types.specs.DocumentRules.{places_of}
+use Rattle.plan_ir.specs.schema_types.DocumentRules.{places_of}
 
 abbrev pub invariant-documents : goal.invariant-documents
 invariant-documents l = record {

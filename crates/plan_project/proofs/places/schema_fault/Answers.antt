@@ -1,6 +1,6 @@
 -- The place of a node is the one of its number.
 use Rattle.std.proofs.Common.{List, get_or, Some, ap, sym, ◌∙◌}
-use Rattle.gql_ast.specs.declared.place.FilePlace.{FilePlace}
+use Rattle.plan_ir.specs.gql_ast.declared.place.FilePlace.{FilePlace}
 use Rattle.plan_project.proofs.PlaceSteps.{place_found}
 use Rattle.plan_project.proofs.places.schema_fault.Goals as goal
 

@@ -2,7 +2,7 @@
 use Rattle.std.proofs.Common.{rules, ◌≡◌, ◌≤◌, false, Some, bytes_eq, ap, sym, ◌∙◌, arith}
 use Rattle.std.proofs.lemmas.Result.{on_ok_weaker}
 use Rattle.std.specs.Prelude.{codes, option_map}
-use Rattle.gql_ast.specs.SelectionView.{sel_of}
+use Rattle.plan_ir.specs.gql_ast.SelectionView.{sel_of}
 use Rattle.plan_build.specs.Classes.{Target, one_target}
 use Rattle.plan_build.specs.AroundView.{types_of}
 use Rattle.plan_build.specs.ClassView.{target_view}
@@ -19,7 +19,7 @@ use Rattle.plan_read.proofs.CodeSteps.{classes_end, classes_next, many_classes, 
 use Rattle.plan_read.proofs.Depths.{selection_below, spread_depth}
 use Rattle.plan_read.proofs.WalkDepths.{depth_in}
 use Rattle.plan_read.proofs.steps.+steps.Goals as goal
-use Rattle.schema_tables.specs.Types.{Text}
+use Rattle.plan_ir.specs.schema_tables.Types.{Text}
 
 pub put_set-put_selection-requires : goal.put_set-put_selection-requires
 put_set-put_selection-requires t c =

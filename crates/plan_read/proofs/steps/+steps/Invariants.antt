@@ -1,6 +1,6 @@
 -- What is put and what is left are the whole; what stands inside is less deep.
 use Rattle.std.proofs.Common.{◌≡◌, ◌+◌, ◌*◌, map, drop}
-use Rattle.gql_ast.specs.SelectionView.{sel_of, sels_of}
+use Rattle.plan_ir.specs.gql_ast.SelectionView.{sel_of, sels_of}
 use Rattle.plan_build.specs.AroundView.{IsOfComposite, types_of}
 use Rattle.plan_build.specs.ClassView.{class_view}
 use Rattle.plan_build.specs.KeptView.{IsRight}

@@ -1,9 +1,9 @@
 -- What the writer wrote is the tree of the line.
 use Rattle.std.proofs.Common.{◌≡◌, ◌++◌, [], ◌∷◌, codes, ap, ◌∙◌}
-use Rattle.gql_plain.proofs.Tokens.{print-tree_tokens}
-use Rattle.gql_plain.specs.ToJson.{tree_tokens}
-use Rattle.gql_plain.specs.Tree as tree
-use Rattle.gql_plain.specs.Tree.{Tree}
+use Rattle.plan_ir.proofs.gql_plain_laws.Tokens.{print-tree_tokens}
+use Rattle.plan_ir.specs.gql_plain.ToJson.{tree_tokens}
+use Rattle.plan_ir.specs.gql_plain.Tree as tree
+use Rattle.plan_ir.specs.gql_plain.Tree.{Tree}
 use Rattle.json.specs.Print.{print}
 use Rattle.json.specs.Token as token
 use Rattle.plan_ir.specs.OperationText.{text_member}

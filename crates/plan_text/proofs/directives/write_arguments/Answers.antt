@@ -6,7 +6,7 @@ use Rattle.plan_text.proofs.Joining.{enclosed_written}
 use Rattle.plan_text.proofs.Naming.{arguments_told, member_texts-members_of}
 use Rattle.plan_text.proofs.directives.write_arguments.Goals as goal
 use Rattle.plan_text.specs.Pairs.{named_texts}
-use Rattle.schema_tables.specs.Types.{Text}
+use Rattle.plan_ir.specs.schema_tables.Types.{Text}
 
 pub returns : goal.returns
 returns c =

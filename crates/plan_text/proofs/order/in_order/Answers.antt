@@ -5,7 +5,7 @@ use Rattle.std.proofs.lemmas.List.{take_all}
 use Rattle.std.specs.Cmp.Lexicographic.{slice_cmp}
 use Rattle.std.specs.List.Sorted.{IsSortedBy, IsStableBy}
 use Rattle.std.specs.Ordering.{is_lt}
-use Rattle.gql_ast.specs.ValueView.{argument_of}
+use Rattle.plan_ir.specs.gql_ast.ValueView.{argument_of}
 use Rattle.plan_ir.specs.OperationText.{by_name}
 use Rattle.plan_text.proofs.Sorting.{sorted_by_name}
 use Rattle.plan_text.proofs.order.in_order.Goals as goal

@@ -10,7 +10,7 @@ use Rattle.plan_text.proofs.Joining.{all_written, enclosed_written}
 use Rattle.plan_text.proofs.Listing.{field_written, node_texts-nodes_of, set_told}
 use Rattle.plan_text.proofs.selections.+selections.Goals as goal
 use Rattle.plan_text.specs.NodeTexts.{node_text}
-use Rattle.schema_tables.specs.Types.{Text}
+use Rattle.plan_ir.specs.schema_tables.Types.{Text}
 
 pub write_set-returns : goal.write_set-returns
 write_set-returns t c =

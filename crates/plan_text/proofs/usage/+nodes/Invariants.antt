@@ -4,7 +4,7 @@ use Rattle.plan_ir.specs.NodesView.{nodes_of}
 use Rattle.plan_ir.specs.OperationText.{nodes_use}
 use Rattle.plan_text.proofs.usage.+nodes.Given as goal
 use Rattle.plan_text.specs.UsedNames.{has_name}
-use Rattle.schema_tables.specs.Types.{Text}
+use Rattle.plan_ir.specs.schema_tables.Types.{Text}
 
 abbrev pub invariant-note_nodes-items : goal.invariant-note_nodes-items
 invariant-note_nodes-items l = (n : Text)

@@ -1,9 +1,9 @@
 -- What is noted, and what is left, is the whole.
 use Rattle.std.proofs.Common.{◌≡◌, Bool, ◌||◌, List, map, OnOk, bytes_eq, refl, sym, ap, subst, ◌∙◌}
-use Rattle.gql_ast.specs.Value.{vals_of}
-use Rattle.gql_ast.specs.ValueView.{argument_of, value_of}
-use Rattle.gql_ast.specs.declared.value.Argument.{Argument}
-use Rattle.gql_ast.specs.declared.value.ValueTree.{ValueTree}
+use Rattle.plan_ir.specs.gql_ast.Value.{vals_of}
+use Rattle.plan_ir.specs.gql_ast.ValueView.{argument_of, value_of}
+use Rattle.plan_ir.specs.gql_ast.declared.value.Argument.{Argument}
+use Rattle.plan_ir.specs.gql_ast.declared.value.ValueTree.{ValueTree}
 use Rattle.plan_ir.specs.OperationText.{arguments_use, value_uses, values_use}
 use Rattle.plan_text.proofs.Using.{loop_noted, members_use-arguments, noted_name}
 use Rattle.plan_text.proofs.usage.+values.Goals as goal

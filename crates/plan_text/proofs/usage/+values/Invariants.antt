@@ -1,11 +1,11 @@
 -- What is noted, and what is used in what is left, is what is used in the whole.
 use Rattle.std.proofs.Common.{◌≡◌, ◌||◌, map, drop}
-use Rattle.gql_ast.specs.Value.{vals_of}
-use Rattle.gql_ast.specs.ValueView.{argument_of, value_of}
+use Rattle.plan_ir.specs.gql_ast.Value.{vals_of}
+use Rattle.plan_ir.specs.gql_ast.ValueView.{argument_of, value_of}
 use Rattle.plan_ir.specs.OperationText.{arguments_use, values_use}
 use Rattle.plan_text.proofs.usage.+values.Given as goal
 use Rattle.plan_text.specs.UsedNames.{has_name}
-use Rattle.schema_tables.specs.Types.{Text}
+use Rattle.plan_ir.specs.schema_tables.Types.{Text}
 
 abbrev pub invariant-note_arguments-items : goal.invariant-note_arguments-items
 invariant-note_arguments-items l = (n : Text)

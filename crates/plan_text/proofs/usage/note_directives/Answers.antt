@@ -1,6 +1,6 @@
 -- What is noted, and what is left, is the whole.
 use Rattle.std.proofs.Common.{refl}
-use Rattle.gql_ast.specs.declared.directive.Directive.{Directive}
+use Rattle.plan_ir.specs.gql_ast.declared.directive.Directive.{Directive}
 use Rattle.plan_ir.specs.OperationText.{arguments_use, directives_use}
 use Rattle.plan_text.proofs.Using.{loop_noted}
 use Rattle.plan_text.proofs.usage.note_directives.Goals as goal

@@ -3,7 +3,7 @@ use Rattle.std.proofs.Common.{◌≡◌, ◌||◌, drop}
 use Rattle.plan_ir.specs.OperationText.{directives_use}
 use Rattle.plan_text.proofs.usage.note_directives.Given as goal
 use Rattle.plan_text.specs.UsedNames.{has_name}
-use Rattle.schema_tables.specs.Types.{Text}
+use Rattle.plan_ir.specs.schema_tables.Types.{Text}
 
 abbrev pub invariant-items : goal.invariant-items
 invariant-items l = (n : Text)

@@ -1,14 +1,14 @@
 -- What a list or an object holds is less deep than it; at the end of a loop all is written.
 use Rattle.std.proofs.Common.{◌≤◌, ◌++◌, drop, map, string_bytes, sym, ap, ◌∙◌, arith}
 use Rattle.std.proofs.lemmas.List.{drop_all}
-use Rattle.gql_ast.specs.Value.{members_depth, members_of, val_depth, vals_depth, vals_of}
-use Rattle.gql_ast.specs.ValueView.{value_of}
+use Rattle.plan_ir.specs.gql_ast.Value.{members_depth, members_of, val_depth, vals_depth, vals_of}
+use Rattle.plan_ir.specs.gql_ast.ValueView.{value_of}
 use Rattle.plan_ir.specs.OperationText.{join_texts, pairs_text, value_texts}
 use Rattle.plan_text.proofs.Joining.{all_written}
 use Rattle.plan_text.proofs.Naming.{member_texts-members_of, pair_below, pairs_told}
 use Rattle.plan_text.proofs.values.+values.Goals as goal
 use Rattle.plan_text.specs.Pairs.{pair_text}
-use Rattle.schema_trees.proofs.LocatedSteps.{value_below}
+use Rattle.plan_ir.proofs.schema_trees_laws.LocatedSteps.{value_below}
 
 pub write_values-write_value-requires : goal.write_values-write_value-requires
 write_values-write_value-requires t c =

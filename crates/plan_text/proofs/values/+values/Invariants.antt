@@ -1,7 +1,7 @@
 -- What is written, followed by what is left, is the whole; what a list or an object holds is less deep than it.
 use Rattle.std.proofs.Common.{◌≡◌, ◌+◌, ◌*◌, ◌++◌, false, map, drop, string_bytes}
-use Rattle.gql_ast.specs.Value.{members_depth, members_of, val_depth, vals_depth, vals_of}
-use Rattle.gql_ast.specs.ValueView.{value_of}
+use Rattle.plan_ir.specs.gql_ast.Value.{members_depth, members_of, val_depth, vals_depth, vals_of}
+use Rattle.plan_ir.specs.gql_ast.ValueView.{value_of}
 use Rattle.plan_ir.specs.OperationText.{by_name, value_texts}
 use Rattle.plan_text.proofs.Joining.{join_from}
 use Rattle.plan_text.proofs.values.+values.Given as goal

@@ -1,8 +1,8 @@
 -- What stood in the buffer is UTF-8, and so is what a writer puts behind it.
 use Rattle.std.proofs.Common.{◌≡◌, ◌++◌, [], ◌∷◌, string_bytes, sym, ap, subst, ◌∙◌, IsUtf8}
 use Rattle.std.proofs.lemmas.Str.{IsUtf8-append, IsUtf8-string_bytes}
-use Rattle.gql_plain.proofs.Tokens.{print-tree_tokens}
-use Rattle.gql_plain.specs.Tree as tree
+use Rattle.plan_ir.proofs.gql_plain_laws.Tokens.{print-tree_tokens}
+use Rattle.plan_ir.specs.gql_plain.Tree as tree
 use Rattle.json.specs.Print.{print}
 use Rattle.json.specs.Token as token
 use Rattle.plan_text.proofs.values.write_text.Goals as goal

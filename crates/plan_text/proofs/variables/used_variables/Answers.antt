@@ -2,7 +2,7 @@
 use Rattle.std.proofs.Common.{◌≡◌, Bool, List, ◌++◌, ◌||◌, map, Bor, append-nil, sym, ap, ◌∙◌}
 use Rattle.std.proofs.lemmas.List.{drop_all}
 use Rattle.std.specs.List.{filter}
-use Rattle.gql_ast.specs.declared.variable.VariableDef.{VariableDef}
+use Rattle.plan_ir.specs.gql_ast.declared.variable.VariableDef.{VariableDef}
 use Rattle.plan_ir.specs.OperationText.{directives_use, nodes_use}
 use Rattle.plan_text.proofs.Using.{filter_same, loop_kept}
 use Rattle.plan_text.proofs.variables.used_variables.Goals as goal

@@ -1,12 +1,12 @@
 -- Variables that are there stand between brackets.
 use Rattle.std.proofs.Common.{◌≡◌, ◌++◌, [], ◌∷◌, List, map, drop, Bor, string_bytes, append-nil, sym, ap, ◌∙◌, arith}
 use Rattle.std.proofs.lemmas.List.{drop_all}
-use Rattle.gql_ast.specs.declared.variable.VariableDef.{VariableDef}
+use Rattle.plan_ir.specs.gql_ast.declared.variable.VariableDef.{VariableDef}
 use Rattle.plan_ir.specs.OperationText.{join_texts, variable_text}
 use Rattle.plan_text.proofs.Joining.{all_written, enclosed_written}
 use Rattle.plan_text.proofs.Listing.{none_told, some_there, variables_told}
 use Rattle.plan_text.proofs.variables.write_variables.Goals as goal
-use Rattle.schema_tables.specs.Types.{Text}
+use Rattle.plan_ir.specs.schema_tables.Types.{Text}
 
 pub returns-then-is_empty : goal.returns-then-is_empty
 returns-then-is_empty c =

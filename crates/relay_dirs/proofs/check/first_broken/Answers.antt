@@ -1,11 +1,11 @@
 -- Each rule is settled.
 use Rattle.std.proofs.Common.{ℕ, List, drop, map, Option, ap, ◌∙◌}
-use Rattle.gql_graph.specs.Rules.{first_from}
-use Rattle.gql_graph.proofs.LeastSteps.{found_last, noted_alone}
-use Rattle.doc_sites.specs.SitesView.{definition_of}
-use Rattle.schema_rules.specs.declared.fault.Rule.{Rule}
-use Rattle.schema_tables.specs.Types.{Defs}
-use Rattle.schema_types.specs.Sites.{DefinitionAt}
+use Rattle.schema_values.specs.gql_graph.Rules.{first_from}
+use Rattle.schema_values.proofs.gql_graph_laws.LeastSteps.{found_last, noted_alone}
+use Rattle.doc_uses.specs.doc_sites.SitesView.{definition_of}
+use Rattle.schema_values.specs.schema_rules.declared.fault.Rule.{Rule}
+use Rattle.schema_values.specs.schema_tables.Types.{Defs}
+use Rattle.schema_values.specs.schema_types.Sites.{DefinitionAt}
 use Rattle.relay_dirs.specs.Connections.{keys_wrong, connections_wrong}
 use Rattle.relay_dirs.specs.RelayRules.{relay_rules, locals_wrong, masks_wrong, aliases_wrong}
 use Rattle.relay_dirs.specs.Spreads.{spreads_wrong}

@@ -2,11 +2,11 @@
 use Rattle.std.proofs.Common.{◌≡◌, ◌++◌, List, map, ap, sym, ◌∙◌, arith}
 use Rattle.std.proofs.lemmas.List.{append-nil, drop_all}
 use Rattle.std.proofs.lemmas.Result.{IfOk-weaker}
-use Rattle.gql_plain.proofs.SortedTexts.{AreSortedOf-is}
-use Rattle.gql_plain.specs.Order.{AreSortedOf, sorted_texts}
-use Rattle.gql_ast.specs.Value.{vals_of}
-use Rattle.gql_ast.specs.ValueView.{value_of}
-use Rattle.gql_ast.specs.declared.value.ValueTree.{ValueTree}
+use Rattle.gql_syntax.proofs.gql_plain_laws.SortedTexts.{AreSortedOf-is}
+use Rattle.gql_syntax.specs.gql_plain.Order.{AreSortedOf, sorted_texts}
+use Rattle.gql_syntax.specs.gql_ast.Value.{vals_of}
+use Rattle.gql_syntax.specs.gql_ast.ValueView.{value_of}
+use Rattle.gql_syntax.specs.gql_ast.declared.value.ValueTree.{ValueTree}
 use Rattle.relay_dirs.specs.Connections.{sorted_texts_in, texts_in}
 use Rattle.relay_dirs.proofs.connections.sorted_texts.Goals as goal
 

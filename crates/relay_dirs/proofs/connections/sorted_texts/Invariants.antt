@@ -1,7 +1,7 @@
 -- What is put and what is left are the whole.
 use Rattle.std.proofs.Common.{◌≡◌, ◌++◌, map, drop}
-use Rattle.gql_ast.specs.Value.{vals_of}
-use Rattle.gql_ast.specs.ValueView.{value_of}
+use Rattle.gql_syntax.specs.gql_ast.Value.{vals_of}
+use Rattle.gql_syntax.specs.gql_ast.ValueView.{value_of}
 use Rattle.relay_dirs.specs.Connections.{texts_in}
 use Rattle.relay_dirs.proofs.connections.sorted_texts.Given as goal
 

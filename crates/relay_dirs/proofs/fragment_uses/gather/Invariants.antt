@@ -1,10 +1,10 @@
 -- What is gathered and what is left are the whole.
 use Rattle.std.proofs.Common.{◌≡◌, ◌++◌, List, map, drop}
-use Rattle.schema_types.specs.ArgumentRules.{Use}
-use Rattle.schema_types.specs.Sites.{FragmentAt}
-use Rattle.gql_graph.specs.Rules.{each}
-use Rattle.gql_graph.specs.Texts.{Text}
-use Rattle.doc_sites.specs.SitesView.{definition_of}
+use Rattle.schema_values.specs.schema_types.ArgumentRules.{Use}
+use Rattle.schema_values.specs.schema_types.Sites.{FragmentAt}
+use Rattle.schema_values.specs.gql_graph.Rules.{each}
+use Rattle.schema_values.specs.gql_graph.Texts.{Text}
+use Rattle.doc_uses.specs.doc_sites.SitesView.{definition_of}
 use Rattle.doc_uses.specs.UsesByName.{Gathers, named_in}
 use Rattle.relay_dirs.specs.Spreads.{uses_in_fragment}
 use Rattle.relay_dirs.specs.Tables.{Suits}

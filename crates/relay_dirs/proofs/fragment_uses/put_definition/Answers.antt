@@ -1,11 +1,11 @@
 -- An operation, and a fragment with the uses that are left.
 use Rattle.std.proofs.Common.{◌≡◌, OnOk, List, ◌++◌, map, ap, sym, subst, ◌∙◌}
 use Rattle.std.proofs.lemmas.List.{append-nil}
-use Rattle.schema_types.specs.ArgumentRules as rules
-use Rattle.schema_types.specs.Sites as parts
-use Rattle.doc_sites.specs.SitesView.{definition_of, fragment_of, site_of}
-use Rattle.doc_sites.specs.declared.site.DefinitionAt.{DefinitionAt}
-use Rattle.doc_sites.specs.declared.site.Site.{Site}
+use Rattle.schema_values.specs.schema_types.ArgumentRules as rules
+use Rattle.schema_values.specs.schema_types.Sites as parts
+use Rattle.doc_uses.specs.doc_sites.SitesView.{definition_of, fragment_of, site_of}
+use Rattle.doc_uses.specs.doc_sites.declared.site.DefinitionAt.{DefinitionAt}
+use Rattle.doc_uses.specs.doc_sites.declared.site.Site.{Site}
 use Rattle.doc_uses.specs.Parts.{free_part}
 use Rattle.doc_uses.specs.UsesByName.{Gathers, named_in, named_uses}
 use Rattle.doc_uses.specs.UseView.{use_of}

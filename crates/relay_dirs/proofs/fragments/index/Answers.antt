@@ -5,9 +5,9 @@ use Rattle.std.specs.BTreeMap.{get_by}
 use Rattle.std.specs.Cmp.Lexicographic.{slice_cmp}
 use Rattle.std.specs.Ordering.{nat_cmp}
 use Rattle.std.specs.Prelude.{ℕ}
-use Rattle.gql_ast.specs.declared.variable.VariableDef.{VariableDef}
-use Rattle.gql_graph.specs.Texts.{Text}
-use Rattle.gql_graph.proofs.Graphs.{map_cond}
+use Rattle.gql_syntax.specs.gql_ast.declared.variable.VariableDef.{VariableDef}
+use Rattle.schema_values.specs.gql_graph.Texts.{Text}
+use Rattle.schema_values.proofs.gql_graph_laws.Graphs.{map_cond}
 use Rattle.relay_dirs.specs.Locals.{local_named}
 use Rattle.relay_dirs.specs.View.{local_view}
 use Rattle.relay_dirs.proofs.SpreadSteps.{local_next}

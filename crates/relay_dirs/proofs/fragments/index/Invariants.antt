@@ -3,7 +3,7 @@ use Rattle.std.proofs.Common.{◌≡◌, ◌≤◌, length, map, drop, option_ma
 use Rattle.std.specs.BTreeMap.{get_by}
 use Rattle.std.specs.Cmp.Lexicographic.{slice_cmp}
 use Rattle.std.specs.Ordering.{nat_cmp}
-use Rattle.gql_graph.specs.Texts.{Text}
+use Rattle.schema_values.specs.gql_graph.Texts.{Text}
 use Rattle.relay_dirs.specs.Locals.{local_named}
 use Rattle.relay_dirs.specs.View.{local_view}
 use Rattle.relay_dirs.proofs.fragments.index.Given as goal

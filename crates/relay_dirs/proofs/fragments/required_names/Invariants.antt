@@ -1,6 +1,6 @@
 -- What is put and what is left are the whole.
 use Rattle.std.proofs.Common.{◌≡◌, ◌++◌, map, drop}
-use Rattle.gql_graph.specs.Rules.{each}
+use Rattle.schema_values.specs.gql_graph.Rules.{each}
 use Rattle.relay_dirs.specs.Tables.{required_name}
 use Rattle.relay_dirs.specs.View.{local_view}
 use Rattle.relay_dirs.proofs.fragments.required_names.Given as goal

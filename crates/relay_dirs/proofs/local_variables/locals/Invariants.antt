@@ -1,6 +1,6 @@
 -- What is put and what is left are the whole, and no directives are put.
 use Rattle.std.proofs.Common.{◌≡◌, ◌++◌, [], map, drop}
-use Rattle.gql_graph.specs.Rules.{each}
+use Rattle.schema_values.specs.gql_graph.Rules.{each}
 use Rattle.relay_dirs.specs.Locals.{locals_in_tree, locals_of_tree}
 use Rattle.relay_dirs.specs.View.{directives_of_all, local_view}
 use Rattle.relay_dirs.proofs.local_variables.locals.Given as goal

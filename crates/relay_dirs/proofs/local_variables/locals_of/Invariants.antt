@@ -1,7 +1,7 @@
 -- What is put and what is left are the whole.
 use Rattle.std.proofs.Common.{◌≡◌, ◌++◌, map, drop}
-use Rattle.gql_graph.specs.Rules.{each}
-use Rattle.doc_sites.specs.SitesView.{directive_of}
+use Rattle.schema_values.specs.gql_graph.Rules.{each}
+use Rattle.doc_uses.specs.doc_sites.SitesView.{directive_of}
 use Rattle.relay_dirs.specs.Locals.{locals_at, locals_of}
 use Rattle.relay_dirs.specs.View.{local_view}
 use Rattle.relay_dirs.proofs.local_variables.locals_of.Given as goal

@@ -1,7 +1,7 @@
 -- What is said and what is left say what all say.
 use Rattle.std.proofs.Common.{◌≡◌, map, drop}
-use Rattle.gql_ast.specs.Value.{members_of}
-use Rattle.gql_ast.specs.ValueView.{argument_of}
+use Rattle.gql_syntax.specs.gql_ast.Value.{members_of}
+use Rattle.gql_syntax.specs.gql_ast.ValueView.{argument_of}
 use Rattle.relay_dirs.specs.Locals.{members_from, empty_object}
 use Rattle.relay_dirs.specs.View.{object_view}
 use Rattle.relay_dirs.proofs.local_variables.object_in.Given as goal

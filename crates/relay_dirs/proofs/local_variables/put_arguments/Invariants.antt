@@ -1,7 +1,7 @@
 -- What is put and what is left are the whole, and no directives are put.
 use Rattle.std.proofs.Common.{◌≡◌, ◌++◌, map, drop}
-use Rattle.gql_ast.specs.ValueView.{argument_of}
-use Rattle.gql_graph.specs.Rules.{each}
+use Rattle.gql_syntax.specs.gql_ast.ValueView.{argument_of}
+use Rattle.schema_values.specs.gql_graph.Rules.{each}
 use Rattle.relay_dirs.specs.Locals.{local_in_tree}
 use Rattle.relay_dirs.specs.View.{directives_of_all, local_view}
 use Rattle.relay_dirs.proofs.local_variables.put_arguments.Given as goal

@@ -1,7 +1,7 @@
 -- What the text is told to be.
 use Rattle.std.proofs.Common.{◌≡◌, option_map}
 use Rattle.std.proofs.lemmas.Result.{IfOk-weaker}
-use Rattle.gql_ast.specs.TypeView.{ty_of}
+use Rattle.gql_syntax.specs.gql_ast.TypeView.{ty_of}
 use Rattle.gql_syntax.specs.TypeTexts.{TellsType}
 use Rattle.relay_dirs.specs.TypeTexts.{type_in}
 use Rattle.relay_dirs.proofs.TypeSteps.{type_is}

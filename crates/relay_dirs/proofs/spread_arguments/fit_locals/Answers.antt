@@ -1,7 +1,7 @@
 -- One that fits, and one that does not.
 use Rattle.std.proofs.Common.{◌≡◌, Option, ap, sym, ◌∙◌, arith}
-use Rattle.doc_sites.specs.SitesView.{argument_of}
-use Rattle.gql_ast.specs.ValueView.{value_of}
+use Rattle.doc_uses.specs.doc_sites.SitesView.{argument_of}
+use Rattle.gql_syntax.specs.gql_ast.ValueView.{value_of}
 use Rattle.relay_dirs.specs.Locals.{Local}
 use Rattle.relay_dirs.specs.Spreads.{fits_found, fits_local}
 use Rattle.relay_dirs.proofs.SpreadSteps.{all_end, all_next, all_stop}

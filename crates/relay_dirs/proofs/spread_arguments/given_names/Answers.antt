@@ -1,9 +1,9 @@
 -- One more argument in front.
 use Rattle.std.proofs.Common.{◌≡◌, ◌+◌, ◌-◌, ◌<◌, ◌++◌, List, length, map, drop, subst, arith}
 use Rattle.std.specs.Prelude.{ℕ}
-use Rattle.gql_graph.specs.Seen.{Knows}
-use Rattle.gql_graph.specs.Texts.{Text}
-use Rattle.doc_sites.specs.SitesView.{argument_of}
+use Rattle.schema_values.specs.gql_graph.Seen.{Knows}
+use Rattle.schema_values.specs.gql_graph.Texts.{Text}
+use Rattle.doc_uses.specs.doc_sites.SitesView.{argument_of}
 use Rattle.relay_dirs.specs.GivenNames.{given_name, given_names}
 use Rattle.relay_dirs.proofs.SpreadSteps.{each_from}
 use Rattle.relay_dirs.proofs.spread_arguments.given_names.Goals as goal

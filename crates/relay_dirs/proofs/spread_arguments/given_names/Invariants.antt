@@ -1,7 +1,7 @@
 -- The names that are passed are seen.
 use Rattle.std.proofs.Common.{◌≤◌, length, map, drop}
-use Rattle.gql_graph.specs.Seen.{Knows}
-use Rattle.doc_sites.specs.SitesView.{argument_of}
+use Rattle.schema_values.specs.gql_graph.Seen.{Knows}
+use Rattle.doc_uses.specs.doc_sites.SitesView.{argument_of}
 use Rattle.relay_dirs.specs.GivenNames.{given_names}
 use Rattle.relay_dirs.proofs.spread_arguments.given_names.Given as goal
 

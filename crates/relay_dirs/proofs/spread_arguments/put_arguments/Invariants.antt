@@ -1,6 +1,6 @@
 -- What is put and what is left are the whole.
 use Rattle.std.proofs.Common.{◌≡◌, ◌++◌, map, drop}
-use Rattle.doc_sites.specs.SitesView.{argument_of}
+use Rattle.doc_uses.specs.doc_sites.SitesView.{argument_of}
 use Rattle.relay_dirs.proofs.spread_arguments.put_arguments.Given as goal
 
 abbrev pub invariant-arguments : goal.invariant-arguments

@@ -1,7 +1,7 @@
 -- What is collected and what is left are the whole.
 use Rattle.std.proofs.Common.{◌≡◌, ◌++◌, map, drop}
-use Rattle.gql_graph.specs.Rules.{each}
-use Rattle.doc_sites.specs.SitesView.{argument_of, directive_of}
+use Rattle.schema_values.specs.gql_graph.Rules.{each}
+use Rattle.doc_uses.specs.doc_sites.SitesView.{argument_of, directive_of}
 use Rattle.relay_dirs.specs.Spreads.{spread_arguments, arguments_by}
 use Rattle.relay_dirs.proofs.spread_arguments.spread_arguments.Given as goal
 

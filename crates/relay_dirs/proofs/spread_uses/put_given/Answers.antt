@@ -1,8 +1,8 @@
 -- One more argument, and all of them.
 use Rattle.std.proofs.Common.{arith}
-use Rattle.doc_sites.specs.SitesView.{argument_of}
+use Rattle.doc_uses.specs.doc_sites.SitesView.{argument_of}
 use Rattle.relay_dirs.specs.Spreads.{uses_of_given}
-use Rattle.doc_sites.proofs.ListSteps.{collect_next, collect_end}
+use Rattle.doc_uses.proofs.doc_sites_laws.ListSteps.{collect_next, collect_end}
 use Rattle.relay_dirs.proofs.spread_uses.put_given.Goals as goal
 
 pub given-preserved : goal.given-preserved

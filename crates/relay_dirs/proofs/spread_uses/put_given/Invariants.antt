@@ -1,7 +1,7 @@
 -- What is put and what is left are the whole.
 use Rattle.std.proofs.Common.{◌≡◌, ◌++◌, List, map, drop, option_map}
-use Rattle.gql_graph.specs.Rules.{each}
-use Rattle.doc_sites.specs.SitesView.{argument_of}
+use Rattle.schema_values.specs.gql_graph.Rules.{each}
+use Rattle.doc_uses.specs.doc_sites.SitesView.{argument_of}
 use Rattle.relay_dirs.specs.Locals.{Local}
 use Rattle.relay_dirs.specs.Spreads.{uses_of_given}
 use Rattle.relay_dirs.specs.Tables.{Finds}

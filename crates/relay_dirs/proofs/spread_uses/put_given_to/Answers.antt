@@ -1,8 +1,8 @@
 -- The uses at the place of the local variable, told at the node.
 use Rattle.std.proofs.Common.{◌≡◌, OnOk, ◌++◌, List, Option, map, option_map, ap, subst, ◌∙◌}
-use Rattle.gql_graph.specs.Texts.{Text}
-use Rattle.schema_types.specs.ArgumentRules as rules
-use Rattle.doc_sites.specs.SitesView.{argument_of}
+use Rattle.schema_values.specs.gql_graph.Texts.{Text}
+use Rattle.schema_values.specs.schema_types.ArgumentRules as rules
+use Rattle.doc_uses.specs.doc_sites.SitesView.{argument_of}
 use Rattle.relay_dirs.specs.Locals.{local_named}
 use Rattle.relay_dirs.specs.Spreads.{move_use, place_of_local}
 use Rattle.doc_uses.specs.UseView.{place_of, use_of, uses_at}

@@ -1,8 +1,8 @@
 -- What is collected and what is left are the whole.
 use Rattle.std.proofs.Common.{◌≡◌, ◌++◌, List, map, drop}
-use Rattle.gql_graph.specs.Rules.{each}
-use Rattle.schema_types.specs.Sites.{FragmentAt}
-use Rattle.doc_sites.specs.SitesView.{site_of}
+use Rattle.schema_values.specs.gql_graph.Rules.{each}
+use Rattle.schema_values.specs.schema_types.Sites.{FragmentAt}
+use Rattle.doc_uses.specs.doc_sites.SitesView.{site_of}
 use Rattle.relay_dirs.specs.Spreads.{uses_at_spread, uses_in_spreads}
 use Rattle.relay_dirs.specs.Tables.{Suits}
 use Rattle.doc_uses.specs.UseView.{use_of}

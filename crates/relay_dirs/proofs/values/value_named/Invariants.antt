@@ -1,6 +1,6 @@
 -- None so far has the name.
 use Rattle.std.proofs.Common.{◌≡◌, map, drop}
-use Rattle.doc_sites.specs.SitesView.{argument_of}
+use Rattle.doc_uses.specs.doc_sites.SitesView.{argument_of}
 use Rattle.relay_dirs.specs.Connections.{value_named}
 use Rattle.relay_dirs.proofs.values.value_named.Given as goal
 

@@ -1,6 +1,6 @@
 -- None so far has the name.
 use Rattle.std.proofs.Common.{◌≡◌, map, drop}
-use Rattle.gql_ast.specs.ValueView.{argument_of}
+use Rattle.gql_syntax.specs.gql_ast.ValueView.{argument_of}
 use Rattle.relay_dirs.specs.Connections.{value_of_name}
 use Rattle.relay_dirs.proofs.values.value_of_name.Given as goal
 

@@ -1,6 +1,6 @@
 -- The pairs so far stand under marked names.
 use Rattle.std.proofs.Common.{◌≡◌, map, take}
-use Rattle.gql_plain.specs.Shown.{shown_members}
+use Rattle.plan_ir.specs.gql_plain.Shown.{shown_members}
 use Rattle.relay_engine.proofs.environments.marked_pairs.Given as goal
 use Rattle.relay_engine.specs.Marked.{marked}
 

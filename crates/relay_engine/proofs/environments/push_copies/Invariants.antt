@@ -1,6 +1,6 @@
 -- The pairs so far stand behind what was there.
 use Rattle.std.proofs.Common.{◌≡◌, ◌++◌, take}
-use Rattle.gql_plain.specs.Shown.{shown_members}
+use Rattle.plan_ir.specs.gql_plain.Shown.{shown_members}
 use Rattle.relay_engine.proofs.environments.push_copies.Given as goal
 
 abbrev pub invariant-pairs : goal.invariant-pairs

@@ -1,11 +1,11 @@
 -- The pairs under marked names stand before the own ones, which are in order.
 use Rattle.std.proofs.Common.{◌≡◌, ◌++◌, map, IfOk, ap, subst, ◌∙◌}
-use Rattle.gql_plain.specs.Shown.{shown_members}
+use Rattle.plan_ir.specs.gql_plain.Shown.{shown_members}
 use Rattle.relay_engine.proofs.MarkedPairs.{marked_first}
 use Rattle.relay_engine.proofs.environments.with_marked.Goals as goal
 use Rattle.relay_engine.specs.Marked.{marked}
-use Rattle.schema_types.specs.Environments.{Values}
-use Rattle.schema_values.specs.Listed.{first_of_each}
+use Rattle.plan_ir.specs.schema_types.Environments.{Values}
+use Rattle.plan_ir.specs.schema_values.Listed.{first_of_each}
 
 pub returns : goal.returns
 returns c =

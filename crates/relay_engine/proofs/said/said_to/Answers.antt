@@ -2,7 +2,7 @@
 use Rattle.relay_engine.proofs.Meanings.{verdict_is_said}
 use Rattle.relay_engine.proofs.said.said_to.Goals as goal
 use Rattle.serde_json.specs.View.{view}
-use Rattle.store_model.specs.Verdicts.{content, refusal}
+use Rattle.plan_ir.specs.store_model.Verdicts.{content, refusal}
 
 pub returns-in-Ok : goal.returns-in-Ok
 returns-in-Ok c =

@@ -2,7 +2,7 @@
 use Rattle.std.proofs.Common.{Some, sym, ap, ◌∙◌}
 use Rattle.relay_engine.proofs.Meanings.{fragment_is_found, fragment_is_shown}
 use Rattle.relay_engine.proofs.watched.fragment_at.Goals as goal
-use Rattle.relay_model.specs.Readings.{with_marked}
+use Rattle.relay_machine.specs.relay_model.Readings.{with_marked}
 
 pub returns-clause-shown : goal.returns-clause-shown
 returns-clause-shown c = λ p h f n there keeps reads kept given are.

@@ -1,7 +1,7 @@
 -- The plan in order reads as the one that is kept.
 use Rattle.std.proofs.Common.{refl, subst}
 use Rattle.plan_ir.specs.declared.reader.ReaderPlan.{ReaderPlan}
-use Rattle.plan_order.specs.Alike.{ReadAlike}
+use Rattle.plan_project.specs.plan_order.Alike.{ReadAlike}
 use Rattle.relay_engine.proofs.watched.read_line_of.Goals as goal
 
 pub ordered_line_of-requires-clause-order : goal.ordered_line_of-requires-clause-order

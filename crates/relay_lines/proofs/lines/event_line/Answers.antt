@@ -1,5 +1,5 @@
 use Rattle.std.proofs.Common.{codes, [], ◌∷◌, refl}
-use Rattle.gql_plain.specs.Tree.{text}
+use Rattle.plan_ir.specs.gql_plain.Tree.{text}
 use Rattle.relay_lines.proofs.LineLaws.{begun, more, printed}
 use Rattle.relay_lines.proofs.lines.event_line.Goals as goal
 use Rattle.relay_machine.specs.Printed.{number}

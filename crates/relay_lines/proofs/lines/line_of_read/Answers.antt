@@ -1,11 +1,11 @@
 use Rattle.std.proofs.Common.{◌≡◌, codes, map, ap, ◌∙◌}
-use Rattle.gql_plain.specs.Tree.{truth, text, list, trees_of}
+use Rattle.plan_ir.specs.gql_plain.Tree.{truth, text, list, trees_of}
 use Rattle.plan_ir.specs.ReaderMeaning.{plan_reads}
 use Rattle.relay_lines.proofs.LineLaws.{begun, more, read_shown}
 use Rattle.relay_lines.proofs.lines.line_of_read.Goals as goal
 use Rattle.relay_machine.specs.Printed.{number}
-use Rattle.store_model.specs.Walks.{Reading, reading, type_of_record}
-use Rattle.store_read.specs.Reading.{slots}
+use Rattle.plan_ir.specs.store_model.Walks.{Reading, reading, type_of_record}
+use Rattle.store_show.specs.store_read.Reading.{slots}
 
 pub returns-clause-line : goal.returns-clause-line
 returns-clause-line g c =

@@ -1,6 +1,6 @@
 use Rattle.std.proofs.Common.{codes, map}
-use Rattle.gql_plain.specs.Shown.{tree_of}
-use Rattle.gql_plain.specs.Tree.{truth, text, list, trees_of}
+use Rattle.plan_ir.specs.gql_plain.Shown.{tree_of}
+use Rattle.plan_ir.specs.gql_plain.Tree.{truth, text, list, trees_of}
 use Rattle.relay_lines.proofs.LineLaws.{begun, more, ordered}
 use Rattle.relay_lines.proofs.lines.shown_line.Goals as goal
 use Rattle.relay_machine.specs.Printed.{number}

@@ -1,5 +1,5 @@
 use Rattle.std.proofs.Common.{codes, [], ◌∷◌, map}
-use Rattle.gql_plain.specs.Tree.{text, list, trees_of}
+use Rattle.plan_ir.specs.gql_plain.Tree.{text, list, trees_of}
 use Rattle.relay_lines.proofs.LineLaws.{begun, more, printed}
 use Rattle.relay_lines.proofs.refused.conflict_line.Goals as goal
 use Rattle.relay_lines.specs.RefusalShown.{refusal_shown}

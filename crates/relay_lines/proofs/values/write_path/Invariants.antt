@@ -1,6 +1,6 @@
 use Rattle.std.proofs.Common.{◌≡◌, ◌++◌, drop, map}
-use Rattle.gql_plain.specs.ToJson.{trees_tokens}
-use Rattle.gql_plain.specs.Tree.{trees_of}
+use Rattle.plan_ir.specs.gql_plain.ToJson.{trees_tokens}
+use Rattle.plan_ir.specs.gql_plain.Tree.{trees_of}
 use Rattle.relay_machine.specs.Refusals.{shown_step}
 use Rattle.relay_lines.proofs.values.write_path.Given as goal
 

@@ -1,6 +1,6 @@
 use Rattle.std.proofs.Common.{◌≡◌, ◌++◌, drop, map}
-use Rattle.gql_plain.specs.ToJson.{trees_tokens}
-use Rattle.gql_plain.specs.Tree.{text, trees_of}
+use Rattle.plan_ir.specs.gql_plain.ToJson.{trees_tokens}
+use Rattle.plan_ir.specs.gql_plain.Tree.{text, trees_of}
 use Rattle.relay_lines.proofs.values.write_texts.Given as goal
 
 -- what is written, followed by the tokens of what is left, is the whole

@@ -3,7 +3,7 @@ use Rattle.std.proofs.lemmas.List.{drop_all}
 use Rattle.plan_project.specs.Expansions.{line_lists}
 use Rattle.relay_io.specs.Streams.{append}
 use Rattle.relay_io.proofs.Streaming.{append-none}
-use Rattle.schema_tables.specs.Types.{Text}
+use Rattle.plan_ir.specs.schema_tables.Types.{Text}
 use Rattle.relay_run.specs.Output.{artifacts_text, text_of_lines}
 use Rattle.relay_run.proofs.ArtifactLines.{artifacts_whole, lines_end, put_next, put_part, put_all_lists}
 use Rattle.relay_run.proofs.Pieces.{added_more}

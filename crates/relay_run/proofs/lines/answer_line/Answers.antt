@@ -7,7 +7,7 @@ use Rattle.relay_run.proofs.lines.answer_line.Goals as goal
 use Rattle.relay_run.specs.Answers.{EndsLine}
 use Rattle.relay_run.specs.declared.put.Stop.{Stop}
 use Rattle.relay_run.specs.declared.put.Stop.TheVariants.{NoMemory}
-use Rattle.schema_tables.specs.Types.{Text}
+use Rattle.plan_ir.specs.schema_tables.Types.{Text}
 
 -- a part of this text was put
 abbrev IsPart : (h0 h1 : Option Text) (c0 c1 : ℕ) → Stop → Text → Type 0

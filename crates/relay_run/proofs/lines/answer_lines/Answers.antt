@@ -2,7 +2,7 @@ use Rattle.std.proofs.Common.{◌≡◌, ◌+◌, ◌++◌, ◌||◌, true, [], 
 use Rattle.std.proofs.lemmas.Bool.{true≢false, eqb-true}
 use Rattle.relay_io.specs.Streams.{append}
 use Rattle.relay_io.proofs.Streaming.{append-none}
-use Rattle.gql_plain.specs.Limits.{max_line}
+use Rattle.plan_ir.specs.gql_plain.Limits.{max_line}
 use Rattle.relay_engine.specs.Kept.{Kept}
 use Rattle.relay_engine.specs.Stands.{StandsFor}
 use Rattle.relay_machine.specs.Machine.{beginning, step, refused_from}

@@ -1,5 +1,5 @@
 use Rattle.std.proofs.Common.{◌+◌}
-use Rattle.gql_plain.specs.Limits.{max_line}
+use Rattle.plan_ir.specs.gql_plain.Limits.{max_line}
 use Rattle.relay_run.proofs.FirstLine.{take_least}
 use Rattle.relay_run.proofs.lines.cut.Goals as goal
 

@@ -6,7 +6,7 @@ use Rattle.relay_run.proofs.project_fault.refuse.Goals as goal
 use Rattle.relay_run.specs.Answers.{EndsLine}
 use Rattle.relay_run.specs.declared.status.Status.{Status}
 use Rattle.relay_run.specs.declared.status.Status.TheVariants.{ProjectRefused, WriteFault, NoMemory}
-use Rattle.schema_tables.specs.Types.{Text}
+use Rattle.plan_ir.specs.schema_tables.Types.{Text}
 
 -- what is written of the text of a fault, where it is answered so
 abbrev IsAdded : (h0 h1 : Option Text) (c0 c1 : ℕ) → Text → Status → Type 0

@@ -3,7 +3,7 @@ use Rattle.std.specs.Prelude.{IsErrOf}
 use Rattle.std.proofs.lemmas.Grind.{common_steps}
 use Rattle.relay_io.specs.Streams.{prepend}
 use Rattle.relay_io.proofs.Streaming.{prepend-prepend}
-use Rattle.schema_tables.specs.Types.{Text}
+use Rattle.plan_ir.specs.schema_tables.Types.{Text}
 use Rattle.relay_run.specs.Answers.{GivesNoScript}
 use Rattle.relay_run.specs.declared.script.ScriptFault.{ScriptFault}
 use Rattle.relay_run.specs.declared.script.ScriptFault.TheVariants.{Failed, TooLong, NoMemory}

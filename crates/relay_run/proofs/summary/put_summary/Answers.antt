@@ -6,7 +6,7 @@ use Rattle.relay_run.proofs.SummaryLaws.{summary_is}
 use Rattle.relay_run.proofs.summary.put_summary.Goals as goal
 use Rattle.relay_run.specs.Answers.{Wrote}
 use Rattle.relay_run.specs.Projects.{project_shown}
-use Rattle.schema_tables.specs.Types.{Text}
+use Rattle.plan_ir.specs.schema_tables.Types.{Text}
 
 pub returns-in_default-clause-wrote : goal.returns-in_default-clause-wrote
 returns-in_default-clause-wrote g c =

@@ -8,7 +8,7 @@ use Rattle.relay_run.proofs.BulkLaws.{bytes_all, bytes_first, bytes_next, lines_
 use Rattle.relay_run.proofs.summary.tally_script.Goals as goal
 use Rattle.relay_run.specs.BulkShown.{bulk_shown}
 use Rattle.relay_run.specs.Projects.{project_shown}
-use Rattle.schema_tables.specs.Types.{Text}
+use Rattle.plan_ir.specs.schema_tables.Types.{Text}
 
 pub lines-init : goal.lines-init
 lines-init c =

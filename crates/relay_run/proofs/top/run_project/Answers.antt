@@ -1,6 +1,6 @@
 use Rattle.std.proofs.Common.{◌≡◌, ◌⊎◌, ◌↔◌, ◌≤◌, ◌+◌, ◌++◌, [], length, true, IsTrue, refl, subst, inl, inr, ◌∙◌, arith}
 use Rattle.relay_io.specs.Streams.{append}
-use Rattle.schema_tables.specs.Types.{Text}
+use Rattle.plan_ir.specs.schema_tables.Types.{Text}
 use Rattle.relay_run.specs.Answers.{EndsLine, GivesNoScript}
 use Rattle.relay_run.specs.Output.{max_script, output_text, has_refusal}
 use Rattle.relay_run.specs.Statuses.{IsDone}

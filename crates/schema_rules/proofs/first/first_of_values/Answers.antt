@@ -4,7 +4,7 @@ use Rattle.gql_graph.specs.Rules.{first_from}
 use Rattle.gql_graph.proofs.LeastSteps.{found_last, noted_alone}
 use Rattle.schema_trees.specs.Located.{DefAt}
 use Rattle.schema_trees.specs.LocatedView.{def_of}
-use Rattle.schema_tables.specs.Types.{Defs}
+use Rattle.schema_trees.specs.schema_tables.Types.{Defs}
 use Rattle.schema_rules.specs.First.{last_rules}
 use Rattle.schema_rules.specs.Rules as rules
 use Rattle.schema_rules.specs.declared.fault.Rule.{Rule}

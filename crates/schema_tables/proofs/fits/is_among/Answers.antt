@@ -1,7 +1,7 @@
 use Rattle.std.proofs.Common.{sym, ap, ◌∙◌}
 use Rattle.gql_ast.specs.ValueView.{value_of}
-use Rattle.gql_plain.proofs.SortedTexts.{has_text-sorted_texts}
-use Rattle.gql_plain.specs.Order.{has_text}
+use Rattle.gql_ast.proofs.gql_plain_laws.SortedTexts.{has_text-sorted_texts}
+use Rattle.gql_graph.specs.gql_plain.Order.{has_text}
 use Rattle.schema_tables.proofs.fits.is_among.Goals as goal
 use Rattle.schema_tables.specs.Fits.{fits_enum}
 

@@ -4,7 +4,7 @@ use Rattle.std.proofs.lemmas.List.{length-map}
 use Rattle.gql_ast.specs.Value.{Val}
 use Rattle.gql_ast.specs.ValueView.{argument_of}
 use Rattle.gql_graph.specs.Texts.{Text}
-use Rattle.gql_plain.specs.Order.{has_text}
+use Rattle.gql_graph.specs.gql_plain.Order.{has_text}
 use Rattle.schema_tables.proofs.Counting.{names_before, differ_before}
 use Rattle.schema_tables.proofs.fits.names_differ.Goals as goal
 use Rattle.schema_tables.specs.Required.{all_differ, member_names}

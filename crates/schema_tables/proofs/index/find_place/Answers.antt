@@ -1,7 +1,7 @@
 use Rattle.std.proofs.Common.{◌≡◌, Equal, nat_cmp, rules, slice_index_or, sym, ap, ◌∙◌}
 use Rattle.std.proofs.lemmas.Fn.{always_returns_same}
 use Rattle.std.specs.Cmp.Lexicographic.{slice_cmp}
-use Rattle.gql_plain.proofs.Searches.{absent}
+use Rattle.gql_ast.proofs.gql_plain_laws.Searches.{absent}
 use Rattle.schema_tables.proofs.Indexing.{found_at, not_found}
 use Rattle.schema_tables.proofs.index.find_place.Goals as goal
 use Rattle.schema_tables.specs.Indexes.{name_at}

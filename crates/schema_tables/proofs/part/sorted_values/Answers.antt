@@ -2,8 +2,8 @@ use Rattle.std.proofs.Common.{◌≡◌, map, ap, ◌∙◌}
 use Rattle.std.proofs.lemmas.List.{take_all}
 use Rattle.std.proofs.lemmas.Result.{IfOk-weaker}
 use Rattle.gql_ast.specs.declared.member.EnumValue.{EnumValue}
-use Rattle.gql_plain.proofs.SortedTexts.{AreSortedOf-is}
-use Rattle.gql_plain.specs.Order.{AreSortedOf, sorted_texts}
+use Rattle.gql_ast.proofs.gql_plain_laws.SortedTexts.{AreSortedOf-is}
+use Rattle.gql_graph.specs.gql_plain.Order.{AreSortedOf, sorted_texts}
 use Rattle.schema_tables.proofs.part.sorted_values.Goals as goal
 
 pub returns : goal.returns

@@ -1,6 +1,6 @@
 use Rattle.std.proofs.Common.{◌≡◌, ℕ, List, [], length, slice_index_or, take}
 use Rattle.std.specs.List.{list_any}
-use Rattle.gql_plain.specs.Order.{has_text}
+use Rattle.gql_graph.specs.gql_plain.Order.{has_text}
 use Rattle.schema_tables.proofs.possible.object_groups.Given as goal
 use Rattle.schema_tables.specs.Objects.{adds}
 

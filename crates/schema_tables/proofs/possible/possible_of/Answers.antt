@@ -2,7 +2,7 @@ use Rattle.std.proofs.Common.{◌≡◌, ℕ, List, Bool, [], ◌∷◌, ◌++�
 use Rattle.std.proofs.lemmas.List.{get_or_default}
 use Rattle.schema_tables.specs.Places.{first_at}
 use Rattle.std.specs.List.{filter}
-use Rattle.gql_plain.specs.Order.{sorted_texts}
+use Rattle.gql_graph.specs.gql_plain.Order.{sorted_texts}
 use Rattle.schema_tables.proofs.Finding.{within}
 use Rattle.schema_tables.proofs.Grouping.{each_next, group_is, members_here}
 use Rattle.schema_tables.proofs.possible.possible_of.Goals as goal

@@ -1,7 +1,7 @@
 use Rattle.std.proofs.Common.{◌≡◌, ◌<◌, ℕ, [], ◌++◌, length, slice_index_or, is_some}
 use Rattle.schema_tables.specs.Places.{first_at}
 use Rattle.std.specs.List.{filter}
-use Rattle.gql_plain.specs.Order.{sorted_texts}
+use Rattle.gql_graph.specs.gql_plain.Order.{sorted_texts}
 use Rattle.schema_tables.proofs.possible.possible_of.Given as goal
 use Rattle.schema_tables.specs.Objects.{members_at, names_object}
 

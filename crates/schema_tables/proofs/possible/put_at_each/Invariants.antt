@@ -1,5 +1,5 @@
 use Rattle.std.proofs.Common.{◌≡◌, ℕ, List, [], ◌&&◌, ◌||◌, length, slice_index_or, take, bytes_eq}
-use Rattle.gql_plain.specs.Order.{has_text}
+use Rattle.gql_graph.specs.gql_plain.Order.{has_text}
 use Rattle.schema_tables.proofs.possible.put_at_each.Given as goal
 use Rattle.schema_tables.specs.Objects.{is_among}
 

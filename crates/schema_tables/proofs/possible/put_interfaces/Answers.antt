@@ -1,6 +1,6 @@
 use Rattle.std.proofs.Common.{◌&&◌, ◌||◌, [], slice_index_or, bytes_eq, sym, ap, ◌∙◌}
 use Rattle.std.proofs.lemmas.Result.{on_ok_weaker}
-use Rattle.gql_plain.specs.Order.{has_text}
+use Rattle.gql_graph.specs.gql_plain.Order.{has_text}
 use Rattle.schema_tables.proofs.Grouping.{interfaces_first}
 use Rattle.schema_tables.proofs.possible.put_interfaces.Goals as goal
 use Rattle.schema_tables.specs.Objects.{is_among}

@@ -1,6 +1,6 @@
 use Rattle.std.proofs.Common.{◌&&◌, ◌||◌, [], slice_index_or, nat_eq, bytes_eq, sym, ap, ◌∙◌, arith}
 use Rattle.std.proofs.lemmas.Result.{on_ok_weaker}
-use Rattle.gql_plain.specs.Order.{has_text}
+use Rattle.gql_graph.specs.gql_plain.Order.{has_text}
 use Rattle.schema_tables.proofs.Finding.{within}
 use Rattle.schema_tables.proofs.Grouping.{nothing_put, or_both}
 use Rattle.schema_tables.proofs.possible.put_name.Goals as goal

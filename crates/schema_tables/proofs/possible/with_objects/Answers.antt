@@ -3,8 +3,8 @@ use Rattle.std.proofs.lemmas.List.{take_all, take_more}
 use Rattle.std.proofs.lemmas.List.Elements.{filter-append}
 use Rattle.std.proofs.lemmas.Result.{IfOk-weaker}
 use Rattle.std.specs.List.{filter}
-use Rattle.gql_plain.proofs.SortedTexts.{AreSortedOf-is}
-use Rattle.gql_plain.specs.Order.{AreSortedOf, sorted_texts}
+use Rattle.gql_ast.proofs.gql_plain_laws.SortedTexts.{AreSortedOf-is}
+use Rattle.gql_graph.specs.gql_plain.Order.{AreSortedOf, sorted_texts}
 use Rattle.schema_tables.proofs.possible.with_objects.Goals as goal
 use Rattle.schema_tables.specs.Objects.{names_object}
 use Rattle.schema_tables.specs.Places.{first_at}

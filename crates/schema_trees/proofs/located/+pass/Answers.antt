@@ -1,7 +1,7 @@
 -- What a list holds is less deep than it.
 use Rattle.std.proofs.Common.{◌≤◌, arith}
-use Rattle.gql_ast.specs.Value.{val_depth, vals_of, vals_depth, members_of, members_depth}
-use Rattle.gql_ast.specs.ValueView.{value_of}
+use Rattle.schema_tables.specs.gql_ast.Value.{val_depth, vals_of, vals_depth, members_of, members_depth}
+use Rattle.schema_tables.specs.gql_ast.ValueView.{value_of}
 use Rattle.schema_trees.proofs.LocatedSteps.{value_below, member_below}
 use Rattle.schema_trees.proofs.located.+pass.Goals as goal
 

@@ -1,7 +1,7 @@
 -- What is gone past and what is left are the whole; what a list holds is less deep than it.
 use Rattle.std.proofs.Common.{◌≡◌, ◌+◌, ◌*◌, map, drop}
-use Rattle.gql_ast.specs.Value.{members_of, vals_of, val_depth, vals_depth, members_depth}
-use Rattle.gql_ast.specs.ValueView.{value_of, argument_of}
+use Rattle.schema_tables.specs.gql_ast.Value.{members_of, vals_of, val_depth, vals_depth, members_depth}
+use Rattle.schema_tables.specs.gql_ast.ValueView.{value_of, argument_of}
 use Rattle.schema_trees.specs.Located.{members_nodes, values_nodes}
 use Rattle.schema_trees.proofs.located.+pass.Given as goal
 

@@ -1,9 +1,9 @@
 -- The set has the names so far; what is noted and what is left are the whole.
 use Rattle.std.proofs.Common.{◌||◌, List, map, drop}
-use Rattle.gql_plain.specs.Order.{has_text}
-use Rattle.gql_graph.specs.Leasts.{least_from}
-use Rattle.gql_graph.specs.Seen.{Knows}
-use Rattle.gql_graph.specs.Texts.{Text}
+use Rattle.schema_tables.specs.gql_plain.Order.{has_text}
+use Rattle.schema_tables.specs.gql_graph.Leasts.{least_from}
+use Rattle.schema_tables.specs.gql_graph.Seen.{Knows}
+use Rattle.schema_tables.specs.gql_graph.Texts.{Text}
 use Rattle.schema_trees.specs.DefinitionParts.{repeats}
 use Rattle.schema_trees.specs.LocatedView.{name_of}
 use Rattle.schema_trees.proofs.RepeatSteps.{Noting, texts}

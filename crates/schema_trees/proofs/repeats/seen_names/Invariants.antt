@@ -1,10 +1,10 @@
 -- The set has the names so far.
 use Rattle.std.proofs.Common.{◌≡◌, ◌||◌, List, map, drop}
-use Rattle.gql_plain.specs.Order.{has_text}
+use Rattle.schema_tables.specs.gql_plain.Order.{has_text}
 use Rattle.schema_trees.specs.LocatedView.{name_of}
 use Rattle.schema_trees.specs.DefinitionParts.{names_of}
-use Rattle.gql_graph.specs.Seen.{Knows}
-use Rattle.gql_graph.specs.Texts.{Text}
+use Rattle.schema_tables.specs.gql_graph.Seen.{Knows}
+use Rattle.schema_tables.specs.gql_graph.Texts.{Text}
 use Rattle.schema_trees.proofs.repeats.seen_names.Given as goal
 
 abbrev pub invariant-names : goal.invariant-names

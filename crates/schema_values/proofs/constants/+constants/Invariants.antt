@@ -1,7 +1,7 @@
 -- None so far is a variable; what a list holds is less deep than it.
 use Rattle.std.proofs.Common.{◌≡◌, ◌+◌, ◌*◌, map, drop}
-use Rattle.gql_ast.specs.Value.{members_of, vals_of, val_depth, vals_depth, members_depth}
-use Rattle.gql_ast.specs.ValueView.{value_of, argument_of}
+use Rattle.schema_types.specs.gql_ast.Value.{members_of, vals_of, val_depth, vals_depth, members_depth}
+use Rattle.schema_types.specs.gql_ast.ValueView.{value_of, argument_of}
 use Rattle.schema_values.specs.Fittings.{are_constant, have_constants}
 use Rattle.schema_values.proofs.constants.+constants.Given as goal
 

@@ -1,5 +1,5 @@
 use Rattle.std.proofs.Common.{◌≡◌, map, take}
-use Rattle.gql_plain.specs.Shown.{shown_members}
+use Rattle.schema_types.specs.gql_plain.Shown.{shown_members}
 use Rattle.schema_values.proofs.environment.values_or_defaults.Given as goal
 use Rattle.schema_values.specs.Listed.{given_or_default}
 

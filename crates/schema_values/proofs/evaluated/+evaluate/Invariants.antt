@@ -1,6 +1,6 @@
 use Rattle.std.proofs.Common.{◌≡◌, map, take}
-use Rattle.gql_ast.specs.ValueView.{value_of, argument_of}
-use Rattle.gql_plain.specs.Shown.{shown_members}
+use Rattle.schema_types.specs.gql_ast.ValueView.{value_of, argument_of}
+use Rattle.schema_types.specs.gql_plain.Shown.{shown_members}
 use Rattle.schema_types.specs.Environments.{evaluation}
 use Rattle.schema_values.proofs.evaluated.+evaluate.Given as goal
 

@@ -1,5 +1,5 @@
 use Rattle.std.proofs.Common.{ap, ◌∙◌}
-use Rattle.gql_plain.specs.Shown.{shown_members}
+use Rattle.schema_types.specs.gql_plain.Shown.{shown_members}
 use Rattle.schema_types.specs.Environments.{with_pair}
 use Rattle.schema_values.proofs.Placing.{put_all, put_all-step, put_all-first, shown-insert_entry}
 use Rattle.schema_values.proofs.pairs.first_of_each.Goals as goal

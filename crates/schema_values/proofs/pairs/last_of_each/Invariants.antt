@@ -1,7 +1,7 @@
 use Rattle.std.proofs.Common.{◌≡◌, vec_len}
 use Rattle.std.specs.Map.{keys_of}
-use Rattle.gql_plain.specs.Order.{AreInOrder}
-use Rattle.gql_plain.specs.Shown.{shown_members}
+use Rattle.schema_types.specs.gql_plain.Order.{AreInOrder}
+use Rattle.schema_types.specs.gql_plain.Shown.{shown_members}
 use Rattle.schema_types.specs.Environments.{with_new_pair}
 use Rattle.schema_values.proofs.Placing.{put_all}
 use Rattle.schema_values.proofs.pairs.last_of_each.Given as goal

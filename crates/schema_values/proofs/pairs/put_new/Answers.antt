@@ -1,5 +1,5 @@
 use Rattle.std.proofs.Common.{ap, sym, ◌∙◌}
-use Rattle.gql_plain.specs.Shown.{tree_of, shown_members}
+use Rattle.schema_types.specs.gql_plain.Shown.{tree_of, shown_members}
 use Rattle.schema_values.proofs.Placing.{shown-insert_new, with_new_pair-there}
 use Rattle.schema_values.proofs.pairs.put_new.Goals as goal
 

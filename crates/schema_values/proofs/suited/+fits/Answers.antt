@@ -1,10 +1,10 @@
 use Rattle.std.proofs.Common.{◌≡◌, Some, None, option_map, sym, ap, ◌∙◌}
 use Rattle.std.specs.Option.{option_and_then}
-use Rattle.gql_ast.specs.TypeView.{ty_of}
-use Rattle.gql_plain.specs.Shown.{tree_of}
-use Rattle.gql_plain.specs.Tree.{members_of}
+use Rattle.schema_types.specs.gql_ast.TypeView.{ty_of}
+use Rattle.schema_types.specs.gql_plain.Shown.{tree_of}
+use Rattle.schema_types.specs.gql_plain.Tree.{members_of}
 use Rattle.schema_types.specs.Environments.{fits}
-use Rattle.schema_tables.specs.Types.{inputs_of, input_def, input_named}
+use Rattle.schema_types.specs.schema_tables.Types.{inputs_of, input_def, input_named}
 use Rattle.schema_values.proofs.Fitting.{object_fits, object_lacks, pair_unknown, pair_unfit}
 use Rattle.schema_values.proofs.suited.+fits.Goals as goal
 use Rattle.schema_values.specs.Means.{Means}

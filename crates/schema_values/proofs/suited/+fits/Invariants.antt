@@ -1,11 +1,11 @@
 use Rattle.std.proofs.Common.{◌≡◌, List, Some, drop}
-use Rattle.gql_ast.specs.TypeView.{ty_of}
-use Rattle.gql_ast.specs.declared.member.InputTree.{InputTree}
-use Rattle.gql_plain.specs.Shown.{plain_trees, shown_members}
-use Rattle.gql_plain.specs.Tree.{trees_of, members_of}
+use Rattle.schema_types.specs.gql_ast.TypeView.{ty_of}
+use Rattle.schema_types.specs.gql_ast.declared.member.InputTree.{InputTree}
+use Rattle.schema_types.specs.gql_plain.Shown.{plain_trees, shown_members}
+use Rattle.schema_types.specs.gql_plain.Tree.{trees_of, members_of}
 use Rattle.schema_types.specs.Environments.{items_fit, members_fit}
-use Rattle.schema_tables.specs.Fits.{fields}
-use Rattle.schema_tables.specs.Types.{inputs_of}
+use Rattle.schema_types.specs.schema_tables.Fits.{fields}
+use Rattle.schema_types.specs.schema_tables.Types.{inputs_of}
 use Rattle.schema_values.proofs.suited.+fits.Given as goal
 
 abbrev pub invariant-items_fit-items : goal.invariant-items_fit-items

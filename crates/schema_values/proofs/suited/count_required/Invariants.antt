@@ -1,7 +1,7 @@
 -- What is counted and what is left are the whole.
 use Rattle.std.proofs.Common.{◌≡◌, ◌+◌, ◌≤◌, drop}
 use Rattle.std.specs.Map.{keys_of}
-use Rattle.schema_tables.specs.Required.{count_among, required_names}
+use Rattle.schema_types.specs.schema_tables.Required.{count_among, required_names}
 use Rattle.schema_values.proofs.suited.count_required.Given as goal
 
 abbrev pub invariant-pairs : goal.invariant-pairs

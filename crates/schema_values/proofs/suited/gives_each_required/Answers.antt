@@ -1,7 +1,7 @@
 use Rattle.std.proofs.Common.{ap, ◌∙◌}
 use Rattle.std.specs.Map.{keys_of}
-use Rattle.gql_plain.specs.Tree.{members_of}
-use Rattle.schema_tables.specs.Required.{count_among, required_names}
+use Rattle.schema_types.specs.gql_plain.Tree.{members_of}
+use Rattle.schema_types.specs.schema_tables.Required.{count_among, required_names}
 use Rattle.schema_values.proofs.Fitting.{pairs_give}
 use Rattle.schema_values.proofs.suited.gives_each_required.Goals as goal
 use Rattle.schema_values.specs.Means.{gives_each}

@@ -1,7 +1,7 @@
 use Rattle.std.proofs.Common.{sym, ap, ◌∙◌}
-use Rattle.gql_plain.proofs.SortedTexts.{has_text-sorted_texts}
-use Rattle.gql_plain.specs.Order.{has_text}
-use Rattle.gql_plain.specs.Shown.{tree_of}
+use Rattle.schema_types.proofs.gql_plain_laws.SortedTexts.{has_text-sorted_texts}
+use Rattle.schema_types.specs.gql_plain.Order.{has_text}
+use Rattle.schema_types.specs.gql_plain.Shown.{tree_of}
 use Rattle.schema_types.specs.Environments.{suits_enum}
 use Rattle.schema_values.proofs.suited.is_among.Goals as goal
 

@@ -1,5 +1,5 @@
 use Rattle.std.proofs.Common.{Option, sym, ap, ◌∙◌}
-use Rattle.store_record.specs.Keys.{Text}
+use Rattle.store_model.specs.store_record.Keys.{Text}
 use Rattle.store_model.specs.Merge.{node_of, nodes_of}
 use Rattle.store_conn.proofs.Steps.{drop_past, nodes_next}
 use Rattle.store_conn.proofs.edges.note_nodes.Goals as goal

@@ -1,5 +1,5 @@
 use Rattle.std.proofs.Common.{◌≡◌, ◌+◌, Option, sym, ap, ◌∙◌, arith}
-use Rattle.store_record.specs.Keys.{Text}
+use Rattle.store_model.specs.store_record.Keys.{Text}
 use Rattle.store_model.specs.Merge.{nodes_at}
 use Rattle.store_conn.proofs.Steps.{drop_past, wanted_next, ids_next}
 use Rattle.store_conn.proofs.edges.note_wanted.Goals as goal

@@ -1,5 +1,5 @@
 use Rattle.std.proofs.Common.{List, Option, ◌∙◌}
-use Rattle.store_record.specs.Keys.{Text}
+use Rattle.store_model.specs.store_record.Keys.{Text}
 use Rattle.store_conn.proofs.Steps.{made_next, itself_splits}
 use Rattle.store_conn.proofs.edges.push_edges.Goals as goal
 

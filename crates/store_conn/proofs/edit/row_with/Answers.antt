@@ -1,6 +1,6 @@
 use Rattle.std.proofs.Common.{◌≤◌, ◌-◌, ◌^◌, pos, codes, ap, ◌∙◌, arith}
-use Rattle.gql_plain.specs.declared.plain.Plain.TheVariants.{Int}
-use Rattle.store_record.specs.declared.field.Field.TheVariants.{Leaf, Links}
+use Rattle.store_model.specs.gql_plain.declared.plain.Plain.TheVariants.{Int}
+use Rattle.store_model.specs.store_record.declared.field.Field.TheVariants.{Leaf, Links}
 use Rattle.store_model.specs.Merge.{next_edge}
 use Rattle.store_model.specs.Records.{with_field}
 use Rattle.store_conn.proofs.edit.row_with.Goals as goal

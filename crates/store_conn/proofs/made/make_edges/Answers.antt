@@ -1,5 +1,5 @@
 use Rattle.std.proofs.Common.{Some, ap, ◌∙◌}
-use Rattle.store_record.specs.Keys.{client_id}
+use Rattle.store_model.specs.store_record.Keys.{client_id}
 use Rattle.store_conn.proofs.Steps.{changes_next, counter_next}
 use Rattle.store_conn.proofs.made.make_edges.Goals as goal
 

@@ -1,5 +1,5 @@
 use Rattle.std.proofs.Common.{codes, ap, ◌∙◌}
-use Rattle.store_record.specs.declared.field.Field.TheVariants.{Links}
+use Rattle.store_model.specs.store_record.declared.field.Field.TheVariants.{Links}
 use Rattle.store_model.specs.Merge.{copied_over, with_counter}
 use Rattle.store_model.specs.Records.{with_field}
 use Rattle.store_conn.proofs.made.with_list.Goals as goal

@@ -1,5 +1,5 @@
 use Rattle.std.proofs.Common.{codes, ap, ◌∙◌}
-use Rattle.store_record.specs.declared.field.Field.TheVariants.{Link}
+use Rattle.store_model.specs.store_record.declared.field.Field.TheVariants.{Link}
 use Rattle.store_model.specs.Merge.{info_id}
 use Rattle.store_model.specs.Records.{with_field}
 use Rattle.store_conn.proofs.Looks.{page_more}

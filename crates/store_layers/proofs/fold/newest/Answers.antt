@@ -1,5 +1,5 @@
 use Rattle.std.proofs.Common.{sym}
-use Rattle.store_layers.proofs.Versions.{newest_some}
+use Rattle.store_layers.proofs.VersionSteps.{newest_some}
 use Rattle.store_layers.proofs.fold.newest.Goals as goal
 
 pub returns-in-Some : goal.returns-in-Some

@@ -1,6 +1,6 @@
 use Rattle.std.proofs.Common.{◌+◌, ◌*◌, ◌≤◌, ◌++◌, ◌∷◌, [], sym, ap, ◌∙◌, subst}
-use Rattle.store_model.specs.Entries.{weight}
-use Rattle.store_layers.proofs.Versions.{newest_is, pushed}
+use Rattle.store_update.specs.store_model.Entries.{weight}
+use Rattle.store_layers.proofs.VersionSteps.{newest_is, pushed}
 use Rattle.store_layers.proofs.fold.put_version.Goals as goal
 use Rattle.store_layers.specs.Versions.{shown, newest, AreVersions}
 

@@ -1,6 +1,6 @@
 use Rattle.std.proofs.Common.{◌≡◌, suc, ◌+◌, ◌-◌, ◌≤◌, ◌<◌, length, ◌++◌, ◌∷◌, [], append_assoc, sym, ap, ◌∙◌, subst, arith}
-use Rattle.gql_plain.specs.Counted.{next_count}
-use Rattle.store_model.specs.Entries.{fold_entries}
+use Rattle.store_update.specs.gql_plain.Counted.{next_count}
+use Rattle.store_update.specs.store_model.Entries.{fold_entries}
 use Rattle.store_layers.proofs.Steps.{within_more, step_weighs, within_weighs, next_le}
 use Rattle.store_layers.proofs.fold.put_versions.Goals as goal
 use Rattle.store_layers.specs.Versions.{shown, AreVersions, entries_within}

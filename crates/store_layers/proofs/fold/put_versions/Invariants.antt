@@ -1,6 +1,6 @@
 use Rattle.std.proofs.Common.{◌≡◌, ◌+◌, ◌*◌, ◌-◌, ◌≤◌, List, ◌++◌}
-use Rattle.store_model.specs.Entries.{fold_entries}
-use Rattle.store_model.specs.declared.entry.Entry.{Entry}
+use Rattle.store_update.specs.store_model.Entries.{fold_entries}
+use Rattle.store_update.specs.store_model.declared.entry.Entry.{Entry}
 use Rattle.store_layers.proofs.fold.put_versions.Given as goal
 use Rattle.store_layers.specs.Versions.{shown, AreVersions, entries_within}
 use Rattle.store_layers.specs.Work.{counted, weights}

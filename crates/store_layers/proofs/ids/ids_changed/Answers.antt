@@ -1,5 +1,5 @@
 use Rattle.std.proofs.Common.{◌++◌, ap, ◌∙◌}
-use Rattle.gql_plain.specs.Order.{has_text}
+use Rattle.store_update.specs.gql_plain.Order.{has_text}
 use Rattle.store_update.proofs.Noted.{has_sorted}
 use Rattle.store_layers.proofs.Changes.{gathered_has}
 use Rattle.store_layers.proofs.ids.ids_changed.Goals as goal

@@ -1,9 +1,9 @@
 use Rattle.std.proofs.Common.{◌≡◌, ◌+◌, ◌*◌, ◌≤◌, [], ◌∷◌, sym, ap, ◌∙◌, subst}
-use Rattle.store_model.specs.Entries.{apply, weight}
+use Rattle.store_update.specs.store_model.Entries.{apply, weight}
 use Rattle.store_update.specs.Touched.{AreTouched}
 use Rattle.store_layers.proofs.Changes.{begun_ids}
 use Rattle.store_layers.proofs.Drafted.{seen_begun}
-use Rattle.store_layers.proofs.Versions.{newest_is}
+use Rattle.store_layers.proofs.VersionSteps.{newest_is}
 use Rattle.store_layers.proofs.rebuild.begin.Goals as goal
 use Rattle.store_layers.specs.Changed.{AreChanged}
 use Rattle.store_layers.specs.Layered.{entries_of, view_of}

@@ -1,12 +1,12 @@
 use Rattle.std.proofs.Common.{◌≡◌, ◌+◌, [], ◌||◌, sym, ap, ◌∙◌, subst, arith}
-use Rattle.gql_plain.specs.Order.{has_text}
-use Rattle.store_model.specs.Entries.{apply}
+use Rattle.store_update.specs.gql_plain.Order.{has_text}
+use Rattle.store_update.specs.store_model.Entries.{apply}
 use Rattle.store_update.specs.Touched.{AreTouched}
 use Rattle.store_layers.proofs.Rebuilt.{Puts, others_put, confirmed_ids, finish_weighs}
 use Rattle.store_layers.proofs.rebuild.finish.Goals as goal
 use Rattle.store_layers.specs.Layered.{entries_of}
 use Rattle.store_layers.proofs.Drafted.{seen_without, within_layers}
-use Rattle.store_layers.proofs.Versions.{newest_is}
+use Rattle.store_layers.proofs.VersionSteps.{newest_is}
 use Rattle.store_layers.specs.Versions.{shown, newest, AreVersions, is_noted, layers_of, entries_within, all_but}
 
 pub returns-in_err-put_versions-clause-looks : goal.returns-in_err-put_versions-clause-looks

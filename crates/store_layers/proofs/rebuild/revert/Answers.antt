@@ -1,8 +1,8 @@
 use Rattle.std.proofs.Common.{◌≡◌, ◌+◌, [], ◌||◌, take, drop, sym, ap, ◌∙◌, subst, arith}
-use Rattle.store_model.specs.Entries.{fold_entries}
+use Rattle.store_update.specs.store_model.Entries.{fold_entries}
 use Rattle.store_layers.proofs.Drafted.{below_is, seen_above, within_layers}
 use Rattle.store_layers.proofs.Rebuilt.{reverted_ids, revert_weighs, shown-drop, kept_length, within_rest}
-use Rattle.store_layers.proofs.Versions.{newest_is}
+use Rattle.store_layers.proofs.VersionSteps.{newest_is}
 use Rattle.store_layers.proofs.rebuild.revert.Goals as goal
 use Rattle.store_layers.specs.Layered.{entries_of}
 use Rattle.store_layers.specs.Versions.{shown, newest, AreVersions, is_noted, layers_of, entries_within}

@@ -1,7 +1,7 @@
 use Rattle.std.proofs.Common.{◌≡◌, sym, ◌∙◌, subst}
 use Rattle.std.specs.FinMap.{keys}
-use Rattle.gql_plain.specs.Order.{AreInOrder, has_text}
-use Rattle.store_model.specs.Sweeps.{dropped}
+use Rattle.store_update.specs.gql_plain.Order.{AreInOrder, has_text}
+use Rattle.store_update.specs.store_model.Sweeps.{dropped}
 use Rattle.store_layers.proofs.Swept.{noted_dropped, dropped_in_order}
 use Rattle.store_layers.proofs.sweep.ids_to_drop.Goals as goal
 

@@ -1,6 +1,6 @@
 use Rattle.std.proofs.Common.{◌≡◌, not, take}
 use Rattle.std.specs.List.{filter}
-use Rattle.gql_plain.specs.Order.{has_text}
+use Rattle.store_update.specs.gql_plain.Order.{has_text}
 use Rattle.store_layers.proofs.sweep.ids_to_drop.Given as goal
 
 abbrev pub invariant-ids : goal.invariant-ids

@@ -2,7 +2,7 @@
 use Rattle.std.proofs.Common.{rules, ◌≡◌, true, false, cond, [], map, sym, ap, ◌∙◌}
 use Rattle.std.proofs.lemmas.Result.{IfOk-weaker}
 use Rattle.plan_groups.specs.FieldView.{plan_at}
-use Rattle.store_model.specs.Items.{parts}
+use Rattle.plan_ir.specs.store_model.Items.{parts}
 use Rattle.store_norm.proofs.caching.cache_below.Goals as goal
 use Rattle.store_norm.specs.Caching.{has_objects, parts_below}
 

@@ -1,9 +1,9 @@
 -- The plain value of the response.
 use Rattle.std.proofs.Common.{◌++◌, ◌∷◌, [], ap}
 use Rattle.serde_json.specs.View.{view}
-use Rattle.store_model.specs.Says.{leaf_of}
-use Rattle.store_model.proofs.Plains.{plain_known}
-use Rattle.store_model.specs.declared.payload_fault.PathStep.TheVariants.{Key}
+use Rattle.plan_ir.specs.store_model.Says.{leaf_of}
+use Rattle.plan_ir.proofs.store_model_laws.Plains.{plain_known}
+use Rattle.plan_ir.specs.store_model.declared.payload_fault.PathStep.TheVariants.{Key}
 use Rattle.store_norm.proofs.leaves.leaf.Goals as goal
 
 pub returns-in-Ok-clause-field : goal.returns-in-Ok-clause-field

@@ -1,6 +1,6 @@
 -- What was put and what is left are the whole.
 use Rattle.std.proofs.Common.{◌≡◌}
-use Rattle.store_model.specs.Says.{report_pages}
+use Rattle.plan_ir.specs.store_model.Says.{report_pages}
 use Rattle.store_norm.proofs.pages.say_pages.Given as goal
 use Rattle.store_report.specs.Gathering.{gathered_onto}
 

@@ -2,8 +2,8 @@
 use Rattle.std.proofs.Common.{◌≡◌, ◌∷◌, [], subst, sym, ◌∙◌}
 use Rattle.plan_ir.specs.NormalMeaning.{collect_plan}
 use Rattle.serde_json.specs.View.{view}
-use Rattle.store_model.specs.Said.{HaveHandleKeys}
-use Rattle.store_model.specs.Says.{response_says}
+use Rattle.plan_ir.specs.store_model.Said.{HaveHandleKeys}
+use Rattle.plan_ir.specs.store_model.Says.{response_says}
 use Rattle.store_norm.proofs.HandleKeys.{keys_hold}
 use Rattle.store_norm.proofs.NamedReports.{names_hold}
 use Rattle.store_norm.proofs.response.said.Goals as goal

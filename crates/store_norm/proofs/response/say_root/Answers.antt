@@ -1,19 +1,19 @@
 -- The root is an object whose type, id and name are known.
 use Rattle.std.proofs.Common.{◌≡◌, ◌∷◌, [], codes, sym, ap, ◌∙◌}
 use Rattle.std.proofs.lemmas.Result.{on_ok_weaker}
-use Rattle.gql_plain.specs.declared.plain.Plain.TheVariants.{Text as Words}
+use Rattle.plan_ir.specs.gql_plain.declared.plain.Plain.TheVariants.{Text as Words}
 use Rattle.plan_groups.specs.FieldView.{plan_at}
 use Rattle.plan_ir.specs.NormalMeaning.{collect_plan}
 use Rattle.serde_json.specs.View.{members_view}
-use Rattle.store_model.specs.Items.{groups_at}
-use Rattle.store_model.specs.Records.{typename}
-use Rattle.store_model.specs.Says.{groups_say, put_at, walks_of}
+use Rattle.plan_ir.specs.store_model.Items.{groups_at}
+use Rattle.plan_ir.specs.store_model.Records.{typename}
+use Rattle.plan_ir.specs.store_model.Says.{groups_say, put_at, walks_of}
 use Rattle.store_norm.proofs.CacheSteps.{plans_of-caches}
 use Rattle.store_norm.proofs.FieldSteps.{said_twice}
 use Rattle.store_norm.proofs.response.say_root.Goals as goal
 use Rattle.store_norm.specs.Caching.{parts_of, plans_of}
-use Rattle.store_record.specs.Keys.{root}
-use Rattle.store_record.specs.declared.field.Field.TheVariants.{Leaf}
+use Rattle.plan_ir.specs.store_record.Keys.{root}
+use Rattle.plan_ir.specs.store_record.declared.field.Field.TheVariants.{Leaf}
 use Rattle.store_report.specs.Gathering.{gathered_onto}
 
 pub say_groups-requires : goal.say_groups-requires

@@ -3,13 +3,13 @@ use Rattle.std.proofs.Common.{rules, ◌≡◌, ◌∷◌, [], codes, subst, sym
 use Rattle.plan_groups.specs.FieldView.{plan_at}
 use Rattle.plan_ir.specs.NormalMeaning.{collect_plan}
 use Rattle.serde_json.specs.View.{members_view}
-use Rattle.store_model.specs.Items.{groups_at}
-use Rattle.store_model.specs.Says.{groups_say, walks_of}
+use Rattle.plan_ir.specs.store_model.Items.{groups_at}
+use Rattle.plan_ir.specs.store_model.Says.{groups_say, walks_of}
 use Rattle.store_norm.proofs.CacheSteps.{plans_of-caches}
 use Rattle.store_norm.proofs.TakeSteps.{fields_taken}
 use Rattle.store_norm.proofs.taken.take_root.Goals as goal
 use Rattle.store_norm.specs.Caching.{parts_of, plans_of}
-use Rattle.store_record.specs.Keys.{root}
+use Rattle.plan_ir.specs.store_record.Keys.{root}
 use Rattle.store_report.specs.ObjectRows.{Adds, with_open}
 
 pub take_groups-requires : goal.take_groups-requires

@@ -4,8 +4,8 @@ use Rattle.std.proofs.lemmas.Result.{IfErr-weaker, IfOk-weaker}
 use Rattle.plan_groups.specs.FieldView.{plan_at}
 use Rattle.plan_ir.specs.NormalMeaning.{collect_plan}
 use Rattle.serde_json.specs.View.{view}
-use Rattle.store_model.specs.Said.{HaveHandleKeys}
-use Rattle.store_model.specs.Says.{Report, response_says}
+use Rattle.plan_ir.specs.store_model.Said.{HaveHandleKeys}
+use Rattle.plan_ir.specs.store_model.Says.{Report, response_says}
 use Rattle.store_norm.proofs.HandleKeys.{keys_hold}
 use Rattle.store_norm.proofs.NamedReports.{names_hold}
 use Rattle.store_norm.proofs.TakeSteps.{names_held}

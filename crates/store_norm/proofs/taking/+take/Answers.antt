@@ -2,7 +2,7 @@
 use Rattle.std.proofs.Common.{rules, true, ℕ, Option, List, ◌≡◌, ◌+◌, ◌<◌, ◌≤◌, false, not, ◌&&◌, ◌++◌, ◌∷◌, [], codes, map, drop, set, length, get_or, Some, None, IfOk, OnOk, subst, sym, ap, ◌∙◌, arith}
 use Rattle.std.proofs.lemmas.List.{drop_all, set-get_or}
 use Rattle.std.proofs.lemmas.Result.{IfOk-weaker, on_ok_weaker}
-use Rattle.gql_plain.specs.Order.{has_text}
+use Rattle.plan_ir.specs.gql_plain.Order.{has_text}
 use Rattle.plan_groups.specs.FieldView.{below_at, form_at, plan_at}
 use Rattle.plan_groups.specs.declared.field.FormAt.{FormAt}
 use Rattle.plan_ir.specs.NormalMeaning.{collect_plan}
@@ -11,11 +11,11 @@ use Rattle.serde_json.specs.Data as J
 use Rattle.serde_json.specs.Find.{get_member}
 use Rattle.serde_json.specs.View.{items_view, members_view, view}
 use Rattle.serde_json.specs.declared.value.Value.{Value}
-use Rattle.store_model.proofs.Smaller.{found_smaller}
-use Rattle.store_model.specs.Items.{key_of, many, parts}
-use Rattle.store_model.specs.Records.{typename}
-use Rattle.store_model.specs.Says.{Report, both, element_of, elements_of, elements_under, groups_say, id_under, is_misnamed, link_of, link_or_null, named_says, pages_of, put_at, report_pages, responses, unless_misnamed, walk_of, walks_of}
-use Rattle.store_model.specs.declared.payload_fault.PathStep.TheVariants.{Index, Key}
+use Rattle.plan_ir.proofs.store_model_laws.Smaller.{found_smaller}
+use Rattle.plan_ir.specs.store_model.Items.{key_of, many, parts}
+use Rattle.plan_ir.specs.store_model.Records.{typename}
+use Rattle.plan_ir.specs.store_model.Says.{Report, both, element_of, elements_of, elements_under, groups_say, id_under, is_misnamed, link_of, link_or_null, named_says, pages_of, put_at, report_pages, responses, unless_misnamed, walk_of, walks_of}
+use Rattle.plan_ir.specs.store_model.declared.payload_fault.PathStep.TheVariants.{Index, Key}
 use Rattle.store_norm.proofs.CacheSteps.{plans_at, right_at, type_within}
 use Rattle.store_norm.proofs.FieldSteps.{type_told}
 use Rattle.store_norm.proofs.TakeSteps.{Ends, elements_taken, ends_here, groups_taken, object_taken}
@@ -24,8 +24,8 @@ use Rattle.store_norm.proofs.taking.+take.Goals as goal
 use Rattle.store_norm.specs.Caching.{Caching, parts_below, parts_of, plans_of}
 use Rattle.store_norm.specs.MadeView.{id_of, made_at}
 use Rattle.store_norm.specs.Walk.{group_told, is_typename}
-use Rattle.store_record.specs.Keys.{Text, client_id}
-use Rattle.store_record.specs.declared.field.Field.{Field}
+use Rattle.plan_ir.specs.store_record.Keys.{Text, client_id}
+use Rattle.plan_ir.specs.store_record.declared.field.Field.{Field}
 use Rattle.store_report.proofs.AddSteps.{adds_none, field_added}
 use Rattle.store_report.specs.ObjectRows.{Adds, Held, with_open}
 

@@ -1,8 +1,8 @@
 -- The plain value of the response.
 use Rattle.std.proofs.Common.{ap, subst}
 use Rattle.serde_json.specs.View.{view}
-use Rattle.store_model.proofs.Plains.{plain_known}
-use Rattle.store_model.specs.Says.{Report, leaf_of}
+use Rattle.plan_ir.proofs.store_model_laws.Plains.{plain_known}
+use Rattle.plan_ir.specs.store_model.Says.{Report, leaf_of}
 use Rattle.store_norm.proofs.taking.leaf_of.Goals as goal
 use Rattle.store_report.proofs.AddSteps.{adds_none}
 use Rattle.store_report.specs.ObjectRows.{Adds}

@@ -2,8 +2,8 @@
 use Rattle.std.proofs.Common.{◌++◌, ◌∷◌, [], codes, option_map, subst, sym, ◌∙◌}
 use Rattle.std.proofs.lemmas.Result.{IfOk-weaker, on_ok_weaker}
 use Rattle.serde_json.specs.View.{view}
-use Rattle.store_model.specs.Says.{Report, id_under}
-use Rattle.store_model.specs.declared.payload_fault.PathStep.TheVariants.{Key}
+use Rattle.plan_ir.specs.store_model.Says.{Report, id_under}
+use Rattle.plan_ir.specs.store_model.declared.payload_fault.PathStep.TheVariants.{Key}
 use Rattle.store_norm.proofs.taking.take_id.Goals as goal
 use Rattle.store_norm.specs.MadeView.{id_of}
 use Rattle.store_report.specs.ObjectRows.{Adds}

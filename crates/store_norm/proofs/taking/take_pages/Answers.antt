@@ -1,7 +1,7 @@
 -- One page more of those that are left.
 use Rattle.std.proofs.Common.{rules, ◌≡◌, [], sym, ◌∙◌}
 use Rattle.plan_ir.specs.NormalMeaning.{collect_plan}
-use Rattle.store_model.specs.Says.{pages_of}
+use Rattle.plan_ir.specs.store_model.Says.{pages_of}
 use Rattle.store_report.proofs.RowLoop.{no_items}
 use Rattle.store_norm.proofs.TakeSteps.{pages_end, pages_taken}
 use Rattle.store_norm.proofs.taking.take_pages.Goals as goal

@@ -1,5 +1,5 @@
 -- What was put and what is left are the whole.
-use Rattle.store_model.specs.Says.{report_pages}
+use Rattle.plan_ir.specs.store_model.Says.{report_pages}
 use Rattle.store_norm.proofs.TakeSteps.{Ends}
 use Rattle.store_norm.proofs.taking.take_pages.Given as goal
 

@@ -1,7 +1,7 @@
 -- Whether it is among those that are left is whether it is among all.
 use Rattle.std.proofs.Common.{◌≡◌, drop}
-use Rattle.gql_plain.specs.Order.{has_text}
-use Rattle.store_model.specs.Says.{responses}
+use Rattle.plan_ir.specs.gql_plain.Order.{has_text}
+use Rattle.plan_ir.specs.store_model.Says.{responses}
 use Rattle.store_norm.proofs.types.has_response.Given as goal
 
 abbrev pub invariant-groups : goal.invariant-groups

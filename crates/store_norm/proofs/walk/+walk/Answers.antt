@@ -1,18 +1,18 @@
 -- One element more, one group more, a field, and an object of a type.
 use Rattle.std.proofs.Common.{rules, ◌≡◌, ◌+◌, ◌<◌, ◌≤◌, false, not, ◌&&◌, ◌++◌, ◌∷◌, [], codes, map, drop, set, length, get_or, Some, None, IfOk, OnOk, subst, sym, ap, ◌∙◌, arith}
 use Rattle.std.proofs.lemmas.List.{set-get_or}
-use Rattle.gql_plain.specs.Order.{has_text}
-use Rattle.gql_plain.specs.declared.plain.Plain.TheVariants.{Null, Text as Words}
+use Rattle.plan_ir.specs.gql_plain.Order.{has_text}
+use Rattle.plan_ir.specs.gql_plain.declared.plain.Plain.TheVariants.{Null, Text as Words}
 use Rattle.plan_groups.specs.FieldView.{below_at, plan_at}
 use Rattle.plan_ir.specs.NormalMeaning.{collect_plan}
 use Rattle.serde_json.specs.Data as J
 use Rattle.serde_json.specs.Find.{get_member}
 use Rattle.serde_json.specs.View.{items_view, members_view, view}
-use Rattle.store_model.proofs.Smaller.{found_smaller}
-use Rattle.store_model.specs.Items.{key_of, parts}
-use Rattle.store_model.specs.Records.{typename}
-use Rattle.store_model.specs.Says.{Report, elements_of, elements_under, groups_say, id_under, is_misnamed, named_says, pages_of, put_at, report_pages, responses, unless_misnamed, walk_of, walks_of}
-use Rattle.store_model.specs.declared.payload_fault.PathStep.TheVariants.{Index, Key}
+use Rattle.plan_ir.proofs.store_model_laws.Smaller.{found_smaller}
+use Rattle.plan_ir.specs.store_model.Items.{key_of, parts}
+use Rattle.plan_ir.specs.store_model.Records.{typename}
+use Rattle.plan_ir.specs.store_model.Says.{Report, elements_of, elements_under, groups_say, id_under, is_misnamed, named_says, pages_of, put_at, report_pages, responses, unless_misnamed, walk_of, walks_of}
+use Rattle.plan_ir.specs.store_model.declared.payload_fault.PathStep.TheVariants.{Index, Key}
 use Rattle.store_norm.proofs.CacheSteps.{plans_at, right_at, same_type, type_within}
 use Rattle.store_norm.proofs.FieldSteps.{field_said, said_thrice, type_told}
 use Rattle.store_norm.proofs.Reports.{gathered_none}
@@ -21,9 +21,9 @@ use Rattle.store_norm.proofs.walk.+walk.Goals as goal
 use Rattle.store_norm.specs.Caching.{Caching, parts_below, parts_of, plans_of}
 use Rattle.store_norm.specs.MadeView.{id_of, made_at}
 use Rattle.store_norm.specs.Walk.{group_told, is_typename}
-use Rattle.store_record.specs.Keys.{client_id}
-use Rattle.store_record.specs.declared.field.Field.{Field}
-use Rattle.store_record.specs.declared.field.Field.TheVariants.{Leaf}
+use Rattle.plan_ir.specs.store_record.Keys.{client_id}
+use Rattle.plan_ir.specs.store_record.declared.field.Field.{Field}
+use Rattle.plan_ir.specs.store_record.declared.field.Field.TheVariants.{Leaf}
 use Rattle.store_report.specs.Gathering.{gathered_onto, with_value}
 
 pub say_elements-say_element-requires : goal.say_elements-say_element-requires

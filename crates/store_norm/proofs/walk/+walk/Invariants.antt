@@ -4,7 +4,7 @@ use Rattle.plan_groups.specs.FieldView.{below_at}
 use Rattle.plan_ir.specs.NormalMeaning.{collect_plan}
 use Rattle.serde_json.specs.Data as J
 use Rattle.serde_json.specs.View.{items_view, members_view, view}
-use Rattle.store_model.specs.Says.{elements_of, elements_under, groups_say, walks_of}
+use Rattle.plan_ir.specs.store_model.Says.{elements_of, elements_under, groups_say, walks_of}
 use Rattle.store_norm.proofs.walk.+walk.Given as goal
 use Rattle.store_norm.specs.MadeView.{made_at}
 use Rattle.store_report.specs.Gathering.{gathered_onto}

@@ -2,7 +2,7 @@
 use Rattle.std.proofs.Common.{◌≡◌, [], map, ◌∙◌, arith}
 use Rattle.std.proofs.lemmas.Grind.{common_steps}
 use Rattle.plan_ir.specs.ReaderMeaning.{collect_reader}
-use Rattle.store_model.specs.Items.{collect_all}
+use Rattle.plan_ir.specs.store_model.Items.{collect_all}
 use Rattle.store_read.proofs.GatherSteps.{parts_next, part_spreads_next}
 use Rattle.store_read.proofs.SpreadSteps.{onto_none}
 use Rattle.store_read.proofs.gathered.gather.Goals as goal

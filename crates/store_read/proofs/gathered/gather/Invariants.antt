@@ -1,7 +1,7 @@
 -- What is put and what is left are the whole.
 use Rattle.std.proofs.Common.{◌≡◌, [], map, drop}
 use Rattle.plan_ir.specs.ReaderMeaning.{collect_reader}
-use Rattle.store_model.specs.Items.{asked_of, collect_all, grouped_onto, groups_at}
+use Rattle.plan_ir.specs.store_model.Items.{asked_of, collect_all, grouped_onto, groups_at}
 use Rattle.store_read.specs.FieldView.{part_at}
 use Rattle.store_read.specs.Gathering.{groups_in, spreads_in, IsPlaced}
 use Rattle.store_read.specs.Spreads.{pointers_onto}

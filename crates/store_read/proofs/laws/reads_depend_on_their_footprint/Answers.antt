@@ -1,8 +1,8 @@
 -- The law of every walk, for the steps of plans.
 use Rattle.std.proofs.Common.{◌+◌, ◌∷◌, []}
 use Rattle.plan_ir.specs.ReaderMeaning.{collect_reader, records_below}
-use Rattle.store_model.proofs.SameRead.{read_same}
-use Rattle.store_model.proofs.SameSlots.{read_same_seen}
+use Rattle.plan_ir.proofs.store_model_laws.SameRead.{read_same}
+use Rattle.plan_ir.proofs.store_model_laws.SameSlots.{read_same_seen}
 use Rattle.store_read.proofs.laws.reads_depend_on_their_footprint.Goals as goal
 
 pub returns : goal.returns

@@ -6,11 +6,11 @@ use Rattle.std.specs.List.{dedup}
 use Rattle.std.specs.List.Sorted.{IsSorted, IsStable}
 use Rattle.std.specs.Map.{keys_of}
 use Rattle.std.specs.Ordering.{is_lt}
-use Rattle.gql_plain.specs.Order.{AreInOrder}
-use Rattle.gql_plain.specs.Shown.{shown_members}
+use Rattle.plan_ir.specs.gql_plain.Order.{AreInOrder}
+use Rattle.plan_ir.specs.gql_plain.Shown.{shown_members}
 use Rattle.store_read.proofs.MemberSteps.{Member, by_key, is_same_key, keys_total, keys_rise, sorted_is_put}
 use Rattle.store_read.proofs.members.first_of_each.Goals as goal
-use Rattle.store_model.proofs.InOrder.{dedup_rises, dedup_is_order}
+use Rattle.plan_ir.proofs.store_model_laws.InOrder.{dedup_rises, dedup_is_order}
 
 pub invariant_of-result : goal.invariant_of-result
 invariant_of-result c =

@@ -1,9 +1,9 @@
 -- The read of the plan's steps, as deep as they are.
 use Rattle.std.proofs.Common.{◌≡◌, ◌+◌, ◌≤◌, ◌∷◌, [], ◌++◌, map, length, ap, subst, ◌∙◌}
 use Rattle.std.proofs.lemmas.Result.{IfOk-weaker}
-use Rattle.gql_plain.specs.Order.{sorted_texts}
+use Rattle.plan_ir.specs.gql_plain.Order.{sorted_texts}
 use Rattle.plan_ir.specs.ReaderMeaning.{plan_reads, records_below}
-use Rattle.store_model.specs.Walks.{Found, reading, type_of_record}
+use Rattle.plan_ir.specs.store_model.Walks.{Found, reading, type_of_record}
 use Rattle.store_read.proofs.ReadSteps.{plan_is, snapshot_told}
 use Rattle.store_read.proofs.reading.read.Goals as goal
 use Rattle.store_read.specs.FieldView.{part_at}

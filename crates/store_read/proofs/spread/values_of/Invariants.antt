@@ -1,7 +1,7 @@
 -- The values of the arguments so far.
 use Rattle.std.proofs.Common.{◌≡◌, map, take}
-use Rattle.gql_ast.specs.ValueView.{argument_of}
-use Rattle.gql_plain.specs.Shown.{shown_members}
+use Rattle.plan_ir.specs.gql_ast.ValueView.{argument_of}
+use Rattle.plan_ir.specs.gql_plain.Shown.{shown_members}
 use Rattle.store_read.proofs.spread.values_of.Given as goal
 use Rattle.store_read.specs.FieldView.{evaluated_in}
 

@@ -2,11 +2,11 @@
 use Rattle.std.proofs.Common.{rules, ◌≡◌, ◌+◌, ◌<◌, ◌≤◌, ◌++◌, ◌∷◌, [], true, Some, IfOk, OnOk, map, length, get_or, option_map, refl, subst, sym, ap, ◌∙◌, arith}
 use Rattle.std.proofs.lemmas.Result.{on_ok_weaker}
 use Rattle.std.specs.FinMap as finmap
-use Rattle.gql_plain.specs.Order.{member_at}
-use Rattle.gql_plain.specs.Shown.{shown_members, tree_of}
+use Rattle.plan_ir.specs.gql_plain.Order.{member_at}
+use Rattle.plan_ir.specs.gql_plain.Shown.{shown_members, tree_of}
 use Rattle.plan_groups.specs.FieldView.{form_at}
-use Rattle.store_model.specs.Walks.{Found, element_at, elements_at, field_of, shown_object, value_at}
-use Rattle.store_record.specs.declared.record.Slot.TheVariants.{Alive}
+use Rattle.plan_ir.specs.store_model.Walks.{Found, element_at, elements_at, field_of, shown_object, value_at}
+use Rattle.plan_ir.specs.store_record.declared.record.Slot.TheVariants.{Alive}
 use Rattle.store_read.proofs.CacheSteps.{right_at, type_within}
 use Rattle.store_read.proofs.LoopSteps.{drop_at, looks_here, looks_next, met_next, shown_next, view_at, view_set}
 use Rattle.store_read.proofs.ReadSteps.{live_looks, live_met, reads_live}

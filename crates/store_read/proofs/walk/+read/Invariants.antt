@@ -1,8 +1,8 @@
 -- The walk goes down the levels of the cache; what is read and what is left are the whole.
 use Rattle.std.proofs.Common.{◌≡◌, ◌+◌, ◌*◌, ◌≤◌, ◌++◌, Some, map, max, drop, length}
-use Rattle.gql_plain.specs.Shown.{shown_members}
-use Rattle.store_model.specs.Walks.{elements_at, field_of}
-use Rattle.store_record.specs.declared.record.Slot.TheVariants.{Alive}
+use Rattle.plan_ir.specs.gql_plain.Shown.{shown_members}
+use Rattle.plan_ir.specs.store_model.Walks.{elements_at, field_of}
+use Rattle.plan_ir.specs.store_record.declared.record.Slot.TheVariants.{Alive}
 use Rattle.store_read.proofs.walk.+read.Given as goal
 use Rattle.store_read.specs.CacheFalls.{group_levels, pointer_levels}
 use Rattle.store_read.specs.CacheView.{group_view, pointer_view}

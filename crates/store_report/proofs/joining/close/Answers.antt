@@ -1,7 +1,7 @@
 -- The fields of a row that is done are put in order, or clash.
 use Rattle.std.proofs.Common.{◌≡◌, List, ◌∷◌, [], ◌++◌, rules, sym, subst}
 use Rattle.std.specs.Map.{keys_of}
-use Rattle.gql_plain.specs.Order.{AreInOrder}
+use Rattle.gql_order.specs.gql_plain.Order.{AreInOrder}
 use Rattle.store_model.proofs.Least.{Each, each_append}
 use Rattle.store_model.specs.FactRows.{facts_of}
 use Rattle.store_model.specs.declared.facts.FactRow.{FactRow}

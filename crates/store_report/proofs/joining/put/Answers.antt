@@ -1,7 +1,7 @@
 -- The fields of a row are put behind those of another.
 use Rattle.std.proofs.Common.{◌≡◌, true, false, ◌++◌, None, bytes_eq, rules, sym, ap, subst, ◌∙◌}
 use Rattle.std.proofs.lemmas.Slice.Eq.{bytes_eq-Decides}
-use Rattle.gql_plain.specs.Order.{member_at}
+use Rattle.gql_order.specs.gql_plain.Order.{member_at}
 use Rattle.store_model.specs.FactRows.{facts_of_row}
 use Rattle.store_model.specs.Records.{typename}
 use Rattle.store_report.proofs.JoinSteps.{two_types}

@@ -1,6 +1,6 @@
 -- A row whose type is named by no Name, or with two values of a key, is torn; any other one is whole.
 use Rattle.std.proofs.Common.{◌≡◌, true, false, List, rules, sym, subst, inl, inr}
-use Rattle.gql_plain.specs.Names.{is_name}
+use Rattle.gql_order.specs.gql_plain.Names.{is_name}
 use Rattle.store_model.specs.declared.facts.Fact.{Fact}
 use Rattle.store_model.specs.declared.facts.FactRow.{FactRow}
 use Rattle.store_report.proofs.RowMembers.{same_object}

@@ -2,7 +2,7 @@
 use Rattle.std.proofs.Common.{rules, sym, subst}
 use Rattle.std.proofs.lemmas.Result.{IfOk-weaker}
 use Rattle.std.specs.Map.{keys_of}
-use Rattle.gql_plain.specs.Order.{AreInOrder}
+use Rattle.gql_order.specs.gql_plain.Order.{AreInOrder}
 use Rattle.store_report.proofs.RowMembers.{same_moved}
 use Rattle.store_report.proofs.SameMembers.{same_trans}
 use Rattle.store_report.proofs.row_fields.by_key.Goals as goal

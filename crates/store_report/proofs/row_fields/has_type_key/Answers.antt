@@ -2,9 +2,9 @@
 use Rattle.std.proofs.Common.{◌≡◌, true, false, List, bytes_eq, rules, sym, subst, ◌∙◌, arith}
 use Rattle.std.proofs.lemmas.List.{at_drop_all}
 use Rattle.std.proofs.lemmas.Slice.Eq.{bytes_eq-Decides}
-use Rattle.gql_plain.specs.Order.{member_at}
-use Rattle.store_record.specs.Keys.{Text}
-use Rattle.store_record.specs.declared.field.Field.{Field}
+use Rattle.gql_order.specs.gql_plain.Order.{member_at}
+use Rattle.store_model.specs.store_record.Keys.{Text}
+use Rattle.store_model.specs.store_record.declared.field.Field.{Field}
 use Rattle.store_model.specs.Alike.{Among}
 use Rattle.store_model.specs.Records.{typename}
 use Rattle.store_report.proofs.RowMembers.{contains_among, member_next}

@@ -1,5 +1,5 @@
 use Rattle.std.proofs.Common.{◌≡◌, drop}
-use Rattle.gql_plain.specs.Order.{member_at}
+use Rattle.gql_order.specs.gql_plain.Order.{member_at}
 use Rattle.store_model.specs.Records.{typename}
 use Rattle.store_report.proofs.row_fields.has_type_key.Given as goal
 

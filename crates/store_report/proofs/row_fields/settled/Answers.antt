@@ -3,7 +3,7 @@ use Rattle.std.proofs.Common.{◌≡◌, rules, sym, subst}
 use Rattle.std.proofs.lemmas.Fn.{dedup_same}
 use Rattle.std.specs.List.{dedup}
 use Rattle.std.specs.List.Sorted.{IsSorted}
-use Rattle.store_record.specs.Equal.{entry_eq}
+use Rattle.store_model.specs.store_record.Equal.{entry_eq}
 use Rattle.store_report.proofs.TornFields.{AreApart, entry_cmp, once_apart, ordered_same, torn_where}
 use Rattle.store_report.proofs.row_fields.settled.Goals as goal
 use Rattle.store_report.specs.ObjectRows.{HoldSame}

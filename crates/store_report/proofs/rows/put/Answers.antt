@@ -1,9 +1,9 @@
 use Rattle.std.proofs.Common.{◌≡◌, true, false, [], ◌∷◌, ◌++◌, bytes_eq, rules, sym, ap, subst, ◌∙◌}
 use Rattle.std.proofs.lemmas.Slice.Eq.{bytes_eq-Decides}
 use Rattle.std.specs.FinMap.Entries.{put as put_entry}
-use Rattle.gql_plain.specs.Order.{member_at}
-use Rattle.store_record.specs.Keys.{Text}
-use Rattle.store_record.specs.declared.field.Field.{Field}
+use Rattle.gql_order.specs.gql_plain.Order.{member_at}
+use Rattle.store_model.specs.store_record.Keys.{Text}
+use Rattle.store_model.specs.store_record.declared.field.Field.{Field}
 use Rattle.store_model.specs.FactOrder.{text_cmp}
 use Rattle.store_model.specs.Records.{typename}
 use Rattle.store_report.proofs.RowSteps.{Below, put_last, field_last, name_last, apart_push, filled_push, fields_below}

@@ -1,7 +1,7 @@
 -- What is found, and what is left keeps, is the same before each operation.
 use Rattle.std.proofs.Common.{◌≡◌, ◌||◌}
-use Rattle.gql_plain.specs.Order.{has_text}
-use Rattle.store_record.specs.Keys.{Text}
+use Rattle.plan_ir.specs.gql_plain.Order.{has_text}
+use Rattle.plan_ir.specs.store_record.Keys.{Text}
 use Rattle.store_retain.proofs.mark.mark_released.Given as goal
 use Rattle.store_retain.specs.Kept.{is_kept}
 use Rattle.store_retain.specs.Steps.{slots_of}

@@ -1,7 +1,7 @@
 -- A text alone is in order.
 use Rattle.std.proofs.Common.{◌∷◌, ◌++◌, [], ap, sym, ◌∙◌, subst}
-use Rattle.gql_plain.proofs.SortedTexts.{AreInOrder-sorted_texts}
-use Rattle.gql_plain.specs.Order.{AreInOrder}
+use Rattle.plan_ir.proofs.gql_plain_laws.SortedTexts.{AreInOrder-sorted_texts}
+use Rattle.plan_ir.specs.gql_plain.Order.{AreInOrder}
 use Rattle.store_retain.proofs.mark.one_name.Goals as goal
 
 pub in_order-requires : goal.in_order-requires

@@ -1,7 +1,7 @@
 -- One more text, and all of them in order.
 use Rattle.std.proofs.Common.{◌≡◌, ◌&&◌, ap, ◌∙◌, arith}
 use Rattle.std.proofs.lemmas.Result.{IfOk-weaker}
-use Rattle.gql_plain.specs.Order.{AreSortedOf, has_text}
+use Rattle.plan_ir.specs.gql_plain.Order.{AreSortedOf, has_text}
 use Rattle.store_retain.proofs.CommonSteps.{common_end, common_next, sorted_has}
 use Rattle.store_retain.proofs.table.common.Goals as goal
 

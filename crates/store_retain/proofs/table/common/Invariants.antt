@@ -1,7 +1,7 @@
 -- What stands in both lists so far, and what is left.
 use Rattle.std.proofs.Common.{◌≡◌, ◌&&◌, ◌||◌, drop}
-use Rattle.gql_plain.specs.Order.{has_text}
-use Rattle.store_record.specs.Keys.{Text}
+use Rattle.plan_ir.specs.gql_plain.Order.{has_text}
+use Rattle.plan_ir.specs.store_record.Keys.{Text}
 use Rattle.store_retain.proofs.table.common.Given as goal
 
 abbrev pub invariant-texts : goal.invariant-texts

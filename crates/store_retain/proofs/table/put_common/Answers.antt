@@ -1,6 +1,6 @@
 -- The text stands in both lists.
 use Rattle.std.proofs.Common.{ap, sym, ◌∙◌}
-use Rattle.gql_plain.specs.Order.{has_text}
+use Rattle.plan_ir.specs.gql_plain.Order.{has_text}
 use Rattle.store_retain.proofs.CommonSteps.{common_not, common_put}
 use Rattle.store_retain.proofs.table.put_common.Goals as goal
 

@@ -1,6 +1,6 @@
 -- One more id, and the last one.
 use Rattle.std.proofs.Common.{refl, ◌∙◌, subst, arith}
-use Rattle.store_model.specs.Entries.{some_id, some_ids}
+use Rattle.plan_ir.specs.store_model.Entries.{some_id, some_ids}
 use Rattle.store_retain.proofs.Follow.{left_end, left_next, to_next}
 use Rattle.store_retain.proofs.walk.follow_ids.Goals as goal
 use Rattle.store_retain.specs.Steps.{Follows, slots_of, steps_to}

@@ -1,6 +1,6 @@
 -- What is left leads to the whole.
 use Rattle.std.proofs.Common.{◌≡◌, drop}
-use Rattle.store_model.specs.Entries.{some_ids}
+use Rattle.plan_ir.specs.store_model.Entries.{some_ids}
 use Rattle.store_retain.proofs.walk.follow_ids.Given as goal
 use Rattle.store_retain.specs.Steps.{Found, Follows, slots_of, steps_to}
 

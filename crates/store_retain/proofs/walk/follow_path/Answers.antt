@@ -1,7 +1,7 @@
 -- One more trail, and the last one.
 use Rattle.std.proofs.Common.{List, map, Some, refl, ◌∙◌, subst, arith}
-use Rattle.store_model.specs.Walks.{field_of}
-use Rattle.store_record.specs.declared.record.Slot.TheVariants.{Alive}
+use Rattle.plan_ir.specs.store_model.Walks.{field_of}
+use Rattle.plan_ir.specs.store_record.declared.record.Slot.TheVariants.{Alive}
 use Rattle.store_retain.proofs.Follow.{left_end, left_next}
 use Rattle.store_retain.proofs.walk.follow_path.Goals as goal
 use Rattle.store_retain.specs.Steps.{Follows, slots_of, way_steps, ways_steps}

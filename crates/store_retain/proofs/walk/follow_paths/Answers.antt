@@ -1,7 +1,7 @@
 -- One more path, and the last one.
 use Rattle.std.proofs.Common.{Some, refl, ◌∙◌, arith}
-use Rattle.store_model.specs.Walks.{field_of}
-use Rattle.store_record.specs.declared.record.Slot.TheVariants.{Alive}
+use Rattle.plan_ir.specs.store_model.Walks.{field_of}
+use Rattle.plan_ir.specs.store_record.declared.record.Slot.TheVariants.{Alive}
 use Rattle.store_retain.proofs.Follow.{left_end, left_next}
 use Rattle.store_retain.proofs.walk.follow_paths.Goals as goal
 use Rattle.store_retain.specs.PathView.{path_steps, paths_steps}

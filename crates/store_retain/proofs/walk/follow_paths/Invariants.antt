@@ -1,7 +1,7 @@
 -- What is left leads to the whole.
 use Rattle.std.proofs.Common.{◌≡◌, drop, Some}
-use Rattle.store_model.specs.Walks.{field_of}
-use Rattle.store_record.specs.declared.record.Slot.TheVariants.{Alive}
+use Rattle.plan_ir.specs.store_model.Walks.{field_of}
+use Rattle.plan_ir.specs.store_record.declared.record.Slot.TheVariants.{Alive}
 use Rattle.store_retain.proofs.walk.follow_paths.Given as goal
 use Rattle.store_retain.specs.PathView.{paths_steps}
 use Rattle.store_retain.specs.Steps.{Found, Follows, slots_of}

@@ -2,8 +2,8 @@
 use Rattle.std.proofs.Common.{◌<◌, Some, subst, sym, ap, ◌∙◌}
 use Rattle.std.proofs.lemmas.Result.{on_ok_weaker}
 use Rattle.std.specs.List.{list_any}
-use Rattle.store_model.specs.Walks.{field_of, type_of_record}
-use Rattle.store_record.specs.declared.record.Slot.TheVariants.{Alive}
+use Rattle.plan_ir.specs.store_model.Walks.{field_of, type_of_record}
+use Rattle.plan_ir.specs.store_record.declared.record.Slot.TheVariants.{Alive}
 use Rattle.store_retain.proofs.AlikeSteps.{follows_alike}
 use Rattle.store_retain.proofs.PathSteps.{made_steps, made_within}
 use Rattle.store_retain.proofs.walk.go_on_row.Goals as goal

@@ -1,6 +1,6 @@
 -- One more round, and the last one.
 use Rattle.std.proofs.Common.{◌≡◌, ◌+◌, ◌-◌, suc, sym, ap, ◌∙◌, subst, arith}
-use Rattle.gql_plain.specs.Order.{has_text}
+use Rattle.plan_ir.specs.gql_plain.Order.{has_text}
 use Rattle.store_retain.proofs.Bools.{or_false}
 use Rattle.store_retain.proofs.Rounds.{begun, round, still}
 use Rattle.store_retain.proofs.walk.walk.Goals as goal

@@ -1,6 +1,6 @@
 -- What is found, and what stands below where the walk goes on, is the same before each round.
 use Rattle.std.proofs.Common.{◌≡◌, ◌-◌}
-use Rattle.store_record.specs.Keys.{Text}
+use Rattle.plan_ir.specs.store_record.Keys.{Text}
 use Rattle.store_retain.proofs.Rounds.{still}
 use Rattle.store_retain.proofs.walk.walk.Given as goal
 use Rattle.store_retain.specs.RoadView.{table_of}

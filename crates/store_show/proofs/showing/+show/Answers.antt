@@ -1,12 +1,12 @@
 -- A record by its slot, a step by the items that it gives, and one step, element or pointer more.
 use Rattle.std.proofs.Common.{rules, ◌≡◌, suc, ◌+◌, ◌<◌, ◌≤◌, ◌++◌, ◌∷◌, [], true, false, Some, OnOk, length, get_or, option_copied, refl, subst, sym, ap, ◌∙◌, arith}
 use Rattle.std.proofs.lemmas.Result.{on_ok_weaker}
-use Rattle.gql_plain.specs.Order.{has_text}
-use Rattle.gql_plain.specs.ToJson.{tree_tokens}
-use Rattle.gql_plain.specs.Tree.{list, trees_of}
+use Rattle.plan_ir.specs.gql_plain.Order.{has_text}
+use Rattle.plan_ir.specs.gql_plain.ToJson.{tree_tokens}
+use Rattle.plan_ir.specs.gql_plain.Tree.{list, trees_of}
 use Rattle.json.specs.Token.{key}
-use Rattle.plan_groups.proofs.GroupSteps.{only_key}
-use Rattle.plan_groups.specs.FieldView.{form_at}
+use Rattle.store_read.proofs.plan_groups_laws.GroupSteps.{only_key}
+use Rattle.store_read.specs.plan_groups.FieldView.{form_at}
 use Rattle.plan_ir.proofs.KeptKeys.{kept_key}
 use Rattle.plan_ir.proofs.ReaderKeys.{key_at, keys_counted}
 use Rattle.plan_ir.proofs.StepDepths.{step_within}
@@ -16,15 +16,15 @@ use Rattle.plan_ir.specs.ReaderMeaning.{collect_reading}
 use Rattle.plan_ir.specs.ReaderView.{step_of}
 use Rattle.plan_ir.specs.declared.reader.ReaderStep.{ReaderStep}
 use Rattle.plan_order.specs.Walk.{alone, before, behind, field_met, field_shown, fields_met, fields_shown, is_taken, object_in_order, pointers_met, pointers_shown}
-use Rattle.store_model.specs.Items.{asked, pointed}
-use Rattle.store_model.specs.Walks.{Found, Shown, Trace, element_at, elements_at, field_of, group_at, join_traces, mark_members, or_null, pointer_at, read_key, shown_object, value_at}
+use Rattle.plan_ir.specs.store_model.Items.{asked, pointed}
+use Rattle.plan_ir.specs.store_model.Walks.{Found, Shown, Trace, element_at, elements_at, field_of, group_at, join_traces, mark_members, or_null, pointer_at, read_key, shown_object, value_at}
 use Rattle.store_read.proofs.GatherSteps.{collect_pointer, guarded_deep}
 use Rattle.store_read.proofs.LoopSteps.{drop_at, looks_here, looks_next, shown_next}
 use Rattle.store_read.proofs.ReadSteps.{live_looks}
 use Rattle.store_read.specs.FieldView.{ask_at, asked_at, part_at, spread_at, steps_or_done}
 use Rattle.store_read.specs.Reading.{slots}
 use Rattle.store_read.specs.Walked.{if_possible}
-use Rattle.store_record.specs.declared.record.Slot.TheVariants.{Alive}
+use Rattle.plan_ir.specs.store_record.declared.record.Slot.TheVariants.{Alive}
 use Rattle.store_show.proofs.ShowDepths.{leaf_deep, object_deep, pointer_deep, typename_deep}
 use Rattle.store_show.proofs.ShowItems.{field_stood, field_tokens, field_trace, marks_of, none_met, none_shown, nothing_met, nothing_written, object_items, pointer_stood, pointer_tokens, pointer_trace}
 use Rattle.store_show.proofs.ShowParts.{object_around, one_of_three, possible_shown, three_looks, three_met, three_written, two_of_three}

@@ -2,7 +2,7 @@
 use Rattle.std.proofs.Common.{◌≡◌, ◌+◌, ◌*◌, ◌≤◌, ◌++◌, ◌∷◌, [], drop, length}
 use Rattle.plan_ir.specs.Reader.{depth}
 use Rattle.plan_ir.specs.ReaderView.{step_of, steps_of}
-use Rattle.store_model.specs.Walks.{elements_at}
+use Rattle.plan_ir.specs.store_model.Walks.{elements_at}
 use Rattle.store_show.proofs.showing.+show.Given as goal
 use Rattle.store_read.specs.FieldView.{part_at}
 use Rattle.store_show.specs.Showing.{below, elements_tokens, members_at, members_met_at, pairs_tokens, pointers_at, pointers_met_at}

@@ -1,8 +1,8 @@
 -- The walk as deep as the plan tells what the plan tells.
 use Rattle.std.proofs.Common.{◌≡◌, ◌+◌, ◌≤◌, ◌++◌, ◌∷◌, [], length, map, subst, ap, ◌∙◌}
-use Rattle.gql_plain.specs.Order.{AreSortedOf}
+use Rattle.plan_ir.specs.gql_plain.Order.{AreSortedOf}
 use Rattle.plan_ir.specs.ReaderMeaning.{plan_reads, records_below}
-use Rattle.store_model.specs.Walks.{Found, type_of_record}
+use Rattle.plan_ir.specs.store_model.Walks.{Found, type_of_record}
 use Rattle.store_read.specs.FieldView.{part_at}
 use Rattle.store_read.specs.Meeting.{Meeting}
 use Rattle.store_read.specs.Reading.{slots}

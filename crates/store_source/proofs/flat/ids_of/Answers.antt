@@ -1,7 +1,7 @@
 use Rattle.std.proofs.Common.{◌≡◌, map, string_bytes, sym, ap, subst, ◌∙◌}
 use Rattle.std.specs.Map.{keys_of}
 use Rattle.std.specs.Prelude.{IfOk}
-use Rattle.gql_plain.specs.Order.{AreInOrder}
+use Rattle.store_tree.specs.gql_plain.Order.{AreInOrder}
 use Rattle.store_source.proofs.InMemory.{records_keys, texts_end, texts_in_order}
 use Rattle.store_source.proofs.flat.ids_of.Goals as goal
 

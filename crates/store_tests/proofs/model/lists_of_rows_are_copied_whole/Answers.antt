@@ -1,6 +1,6 @@
 use Rattle.std.proofs.Common.{◌≡◌, ◌++◌, refl, sym, ap, ◌∙◌, subst}
-use Rattle.store_model.proofs.FactRowOrder.{after_row}
-use Rattle.store_model.specs.FactRows.{facts_of_row, IsRowAfter}
+use Rattle.event_script.proofs.store_model_laws.FactRowOrder.{after_row}
+use Rattle.event_script.specs.store_model.FactRows.{facts_of_row, IsRowAfter}
 use Rattle.store_tests.proofs.model.lists_of_rows_are_copied_whole.Goals as goal
 
 -- 4 stands before 5

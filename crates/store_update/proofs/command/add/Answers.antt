@@ -1,10 +1,10 @@
 use Rattle.std.proofs.Common.{◌≡◌, ap, ◌∙◌, w64}
 use Rattle.std.proofs.lemmas.Int.{to_z-of_z}
-use Rattle.gql_plain.specs.Order.{member_at}
-use Rattle.store_record.specs.declared.record.Record.{Record}
-use Rattle.store_record.specs.declared.record.Slot.TheVariants.{Alive}
-use Rattle.store_record.specs.Keys.{field_key}
-use Rattle.store_model.specs.Updates.{field_plus}
+use Rattle.store_conn.specs.gql_plain.Order.{member_at}
+use Rattle.store_conn.specs.store_record.declared.record.Record.{Record}
+use Rattle.store_conn.specs.store_record.declared.record.Slot.TheVariants.{Alive}
+use Rattle.store_conn.specs.store_record.Keys.{field_key}
+use Rattle.store_conn.specs.store_model.Updates.{field_plus}
 use Rattle.store_update.proofs.Sums.{sum_kept}
 use Rattle.store_update.proofs.command.add.Goals as goal
 

@@ -1,5 +1,5 @@
 use Rattle.std.proofs.Common.{Some, sym, ap, ◌∙◌}
-use Rattle.store_record.specs.declared.record.Slot.TheVariants.{Alive}
+use Rattle.store_conn.specs.store_record.declared.record.Slot.TheVariants.{Alive}
 use Rattle.store_update.proofs.Kept.{field_kept}
 use Rattle.store_update.proofs.command.put_field.Goals as goal
 use Rattle.store_update.specs.Fields.{has_field}

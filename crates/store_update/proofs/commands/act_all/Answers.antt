@@ -2,8 +2,8 @@ use Rattle.std.proofs.Common.{◌≡◌, true, ◌∷◌, ◌++◌, [], drop, ta
 use Rattle.std.proofs.lemmas.Bool.{and_parts}
 use Rattle.std.proofs.lemmas.List.Sums.{sum_by-cons}
 use Rattle.std.specs.List.{list_all, sum_by}
-use Rattle.store_model.specs.Entries.{asked_by_commands, weights}
-use Rattle.store_model.specs.Updates.{act_all}
+use Rattle.store_conn.specs.store_model.Entries.{asked_by_commands, weights}
+use Rattle.store_conn.specs.store_model.Updates.{act_all}
 use Rattle.store_update.proofs.Noted.{noted_more, noted_none}
 use Rattle.store_update.proofs.Runs.{run_acts, run_weighs}
 use Rattle.store_update.proofs.Turns.{passes_behind, run_goes, run_turn, run_within}

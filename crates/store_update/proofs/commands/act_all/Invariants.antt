@@ -1,8 +1,8 @@
 use Rattle.std.proofs.Common.{◌≡◌, ℕ, ◌+◌, ◌*◌, ◌≤◌, true, length, map}
 use Rattle.std.specs.List.{list_all, sum_by}
-use Rattle.store_record.specs.Keys.{Text}
-use Rattle.store_model.specs.Entries.{asked_by_commands, weights}
-use Rattle.store_model.specs.Updates.{act_all}
+use Rattle.store_conn.specs.store_record.Keys.{Text}
+use Rattle.store_conn.specs.store_model.Entries.{asked_by_commands, weights}
+use Rattle.store_conn.specs.store_model.Updates.{act_all}
 use Rattle.store_update.proofs.commands.act_all.Given as goal
 use Rattle.store_update.specs.Slots.{id_of}
 use Rattle.store_update.specs.Touched.{AreNoted}

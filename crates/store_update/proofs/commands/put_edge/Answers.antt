@@ -1,6 +1,6 @@
 use Rattle.std.proofs.Common.{◌∙◌, length, ap, arith}
 use Rattle.std.proofs.lemmas.List.{length-append}
-use Rattle.store_model.specs.Entries.{asked_by_edit}
+use Rattle.store_conn.specs.store_model.Entries.{asked_by_edit}
 use Rattle.store_update.proofs.Noted.{noted_puts, puts_few}
 use Rattle.store_update.proofs.Weights.{command_most}
 use Rattle.store_update.proofs.commands.put_edge.Goals as goal

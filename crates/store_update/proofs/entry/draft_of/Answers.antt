@@ -1,9 +1,9 @@
 use Rattle.std.proofs.Common.{◌≡◌, ◌++◌, [], length, map, refl, sym, ap, subst, ◌∙◌, arith, rules}
 use Rattle.std.proofs.lemmas.List.{length-map}
-use Rattle.store_model.specs.Entries.{asked_by_pages, merge_all, weights}
-use Rattle.store_model.specs.FactRows.{facts_of, put_rows}
-use Rattle.store_model.specs.Updates.{act_all}
-use Rattle.store_model.specs.declared.facts.FactRow.{FactRow}
+use Rattle.store_conn.specs.store_model.Entries.{asked_by_pages, merge_all, weights}
+use Rattle.store_conn.specs.store_model.FactRows.{facts_of, put_rows}
+use Rattle.store_conn.specs.store_model.Updates.{act_all}
+use Rattle.store_conn.specs.store_model.declared.facts.FactRow.{FactRow}
 use Rattle.store_update.proofs.Entries.{entry_acts, entry_weighs, no_pages, turns_are, turns_count}
 use Rattle.store_update.proofs.Noted.{noted_more, picked_few, picked_more}
 use Rattle.store_update.proofs.Turns.{later_of_record}

@@ -1,8 +1,8 @@
 use Rattle.std.proofs.Common.{◌∷◌, [], map, sym, ap, subst, ◌∙◌}
 use Rattle.std.proofs.lemmas.List.{map-append}
-use Rattle.store_model.specs.FactRows.{with_row}
-use Rattle.store_model.specs.Updates.{act_all}
-use Rattle.store_model.specs.declared.facts.FactRow.{FactRow}
+use Rattle.store_conn.specs.store_model.FactRows.{with_row}
+use Rattle.store_conn.specs.store_model.Updates.{act_all}
+use Rattle.store_conn.specs.store_model.declared.facts.FactRow.{FactRow}
 use Rattle.store_update.proofs.Noted.{noted_more, picked_more}
 use Rattle.store_update.proofs.facts.put_both.Goals as goal
 use Rattle.store_update.specs.Touched.{ArePicked}

@@ -1,8 +1,8 @@
 use Rattle.std.proofs.Common.{◌≡◌, Some, IfOk, sym, ap, subst, ◌∙◌}
 use Rattle.std.proofs.lemmas.List.{nil_from_length}
 use Rattle.std.specs.List.{list_all}
-use Rattle.store_model.specs.FactRows.{put_rows}
-use Rattle.store_model.specs.Updates.{act_all}
+use Rattle.store_conn.specs.store_model.FactRows.{put_rows}
+use Rattle.store_conn.specs.store_model.Updates.{act_all}
 use Rattle.store_update.proofs.Turns.{last_is, none_goes_on, rows_push}
 use Rattle.store_update.proofs.facts.put_facts.Goals as goal
 use Rattle.store_update.specs.Turns.{goes_on, last_id}

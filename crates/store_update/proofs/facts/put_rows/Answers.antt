@@ -1,6 +1,6 @@
 use Rattle.std.proofs.Common.{◌+◌, [], ◌∷◌, drop, take, map, refl, ap, subst, ◌∙◌, arith}
-use Rattle.store_model.specs.FactRows.{put_rows}
-use Rattle.store_model.specs.declared.facts.FactRow.{FactRow}
+use Rattle.store_conn.specs.store_model.FactRows.{put_rows}
+use Rattle.store_conn.specs.store_model.declared.facts.FactRow.{FactRow}
 use Rattle.store_update.proofs.Noted.{noted_more, noted_none, picked_more}
 use Rattle.store_update.proofs.Walks.{ids_next, rows_next}
 use Rattle.store_update.proofs.facts.put_rows.Goals as goal

@@ -1,6 +1,6 @@
 use Rattle.std.proofs.Common.{◌≡◌, ◌+◌, ◌≤◌, drop, map, take}
-use Rattle.store_model.specs.FactRows.{put_rows}
-use Rattle.store_model.specs.declared.facts.FactRow.{FactRow}
+use Rattle.store_conn.specs.store_model.FactRows.{put_rows}
+use Rattle.store_conn.specs.store_model.declared.facts.FactRow.{FactRow}
 use Rattle.store_update.proofs.facts.put_rows.Given as goal
 use Rattle.store_update.specs.Touched.{AreNoted, ArePicked}
 

@@ -1,5 +1,5 @@
 use Rattle.std.proofs.Common.{◌+◌, drop, length, refl, ap, ◌∙◌, arith}
-use Rattle.store_model.specs.Entries.{asked_by_pages, merge_all, weights}
+use Rattle.store_conn.specs.store_model.Entries.{asked_by_pages, merge_all, weights}
 use Rattle.store_update.proofs.Noted.{noted_more, noted_none}
 use Rattle.store_update.proofs.Walks.{merges_next, pages_weigh}
 use Rattle.store_update.proofs.pages.put_pages.Goals as goal

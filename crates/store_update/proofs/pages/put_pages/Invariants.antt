@@ -1,5 +1,5 @@
 use Rattle.std.proofs.Common.{◌≡◌, ◌+◌, ◌*◌, ◌≤◌, [], drop, length}
-use Rattle.store_model.specs.Entries.{asked_by_pages, merge_all, weights}
+use Rattle.store_conn.specs.store_model.Entries.{asked_by_pages, merge_all, weights}
 use Rattle.store_update.proofs.pages.put_pages.Given as goal
 use Rattle.store_update.specs.Touched.{AreNoted}
 

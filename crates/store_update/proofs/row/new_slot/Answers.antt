@@ -1,7 +1,7 @@
 use Rattle.std.proofs.Common.{◌≡◌, Some, IfOk, sym, ◌∙◌, subst}
 use Rattle.std.specs.Map.{keys_of}
-use Rattle.gql_plain.specs.Order.{AreInOrder}
-use Rattle.store_record.specs.declared.record.Slot.TheVariants.{Alive}
+use Rattle.store_conn.specs.gql_plain.Order.{AreInOrder}
+use Rattle.store_conn.specs.store_record.declared.record.Slot.TheVariants.{Alive}
 use Rattle.store_update.proofs.Kept.{put_into_none}
 use Rattle.store_update.proofs.row.new_slot.Goals as goal
 

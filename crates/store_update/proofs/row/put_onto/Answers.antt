@@ -1,5 +1,5 @@
 use Rattle.std.proofs.Common.{Some, sym, ap}
-use Rattle.store_record.specs.declared.record.Slot.TheVariants.{Alive}
+use Rattle.store_conn.specs.store_record.declared.record.Slot.TheVariants.{Alive}
 use Rattle.store_update.proofs.Kept.{row_kept}
 use Rattle.store_update.proofs.row.put_onto.Goals as goal
 

@@ -1,7 +1,7 @@
 use Rattle.std.proofs.Common.{◌+◌, drop, ap, ◌∙◌, nat_cmp}
 use Rattle.std.specs.Cmp.Lexicographic.{slice_cmp}
 use Rattle.std.specs.FinMap.Entries.{put}
-use Rattle.store_model.specs.FactRows.{with_fields}
+use Rattle.store_conn.specs.store_model.FactRows.{with_fields}
 use Rattle.store_update.proofs.Kept.{with_next}
 use Rattle.store_update.proofs.row.with_fields.Goals as goal
 

@@ -1,5 +1,5 @@
 use Rattle.std.proofs.Common.{◌≡◌, drop}
-use Rattle.store_model.specs.FactRows.{with_fields}
+use Rattle.store_conn.specs.store_model.FactRows.{with_fields}
 use Rattle.store_update.proofs.row.with_fields.Given as goal
 
 abbrev pub invariant-entries : goal.invariant-entries

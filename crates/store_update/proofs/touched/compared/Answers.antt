@@ -1,6 +1,6 @@
 use Rattle.std.proofs.Common.{◌≡◌, ◌&&◌, not, subst, ap, ◌∙◌, arith}
-use Rattle.gql_plain.specs.Order.{has_text}
-use Rattle.store_record.specs.Keys.{Text}
+use Rattle.store_conn.specs.gql_plain.Order.{has_text}
+use Rattle.store_conn.specs.store_record.Keys.{Text}
 use Rattle.store_update.proofs.Noted.{again_moved, noted_moved, touched_are}
 use Rattle.store_update.proofs.touched.compared.Goals as goal
 use Rattle.store_update.specs.Touched.{is_changed}

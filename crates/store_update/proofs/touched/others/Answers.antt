@@ -1,7 +1,7 @@
 use Rattle.std.proofs.Common.{◌≡◌, ℕ, List, [], not, rules, IfOk, sym, ap, subst, ◌∙◌, arith}
 use Rattle.std.proofs.lemmas.Fn.{filter_same}
 use Rattle.std.proofs.lemmas.List.{nil_from_length}
-use Rattle.gql_plain.specs.Order.{AreSortedOf, has_text}
+use Rattle.store_conn.specs.gql_plain.Order.{AreSortedOf, has_text}
 use Rattle.store_update.proofs.Noted.{filter_alike, has_sorted, none_out}
 use Rattle.store_update.proofs.touched.others.Goals as goal
 

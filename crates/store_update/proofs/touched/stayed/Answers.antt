@@ -1,7 +1,7 @@
 use Rattle.std.proofs.Common.{◌&&◌, ◌||◌, Bool, not, refl, ap, ◌∙◌, arith, bytes_eq}
 use Rattle.std.proofs.lemmas.List.Sums.{prefix_len-le-length}
-use Rattle.gql_plain.specs.Order.{has_text}
-use Rattle.store_record.specs.Keys.{Text}
+use Rattle.store_conn.specs.gql_plain.Order.{has_text}
+use Rattle.store_conn.specs.store_record.Keys.{Text}
 use Rattle.store_update.proofs.Groups.{rises_from, step_left, step_looks, step_stayed}
 use Rattle.store_update.proofs.Noted.{again_there}
 use Rattle.store_update.proofs.touched.stayed.Goals as goal

@@ -1,8 +1,8 @@
 -- Those so far whose slot is the same, and those that are left.
 use Rattle.std.proofs.Common.{◌≡◌, ◌+◌, ◌≤◌, ◌&&◌, ◌||◌, not, length}
 use Rattle.std.specs.List.{count_by}
-use Rattle.gql_plain.specs.Order.{has_text}
-use Rattle.store_record.specs.Keys.{Text}
+use Rattle.store_conn.specs.gql_plain.Order.{has_text}
+use Rattle.store_conn.specs.store_record.Keys.{Text}
 use Rattle.store_update.proofs.Groups.{AreLeft}
 use Rattle.store_update.proofs.touched.stayed.Given as goal
 use Rattle.store_update.specs.Touched.{is_changed}

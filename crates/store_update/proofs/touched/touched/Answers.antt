@@ -1,5 +1,5 @@
 use Rattle.std.proofs.Common.{sym, subst}
-use Rattle.gql_plain.specs.Order.{AreInOrder}
+use Rattle.store_conn.specs.gql_plain.Order.{AreInOrder}
 use Rattle.store_update.proofs.Groups.{touched_once}
 use Rattle.store_update.proofs.touched.touched.Goals as goal
 use Rattle.store_update.specs.Touched.{AreTouched}

@@ -1,7 +1,7 @@
 use Rattle.std.proofs.Common.{◌≡◌, ◌+◌, ◌≤◌, [], ◌∷◌, ◌++◌, append-nil, sym, ap, subst, ◌∙◌}
 use Rattle.std.proofs.lemmas.List.{map-append}
 use Rattle.std.specs.Option.{option_map_or}
-use Rattle.store_model.specs.Walks.{standings}
+use Rattle.plan_ir.specs.store_model.Walks.{standings}
 use Rattle.store_read.specs.Reading.{slots}
 use Rattle.store_watch.specs.Reads.{telling_at}
 use Rattle.store_watch.specs.Rows.{look_of, telling_of, tellings_of}

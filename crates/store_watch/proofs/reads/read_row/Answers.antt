@@ -1,6 +1,6 @@
 use Rattle.std.proofs.Common.{◌≡◌, ◌+◌, ◌≤◌, ap, subst, ◌∙◌}
 use Rattle.plan_ir.specs.ReaderMeaning.{plan_reads}
-use Rattle.store_model.specs.Walks.{Found, reading, standings, type_of_record}
+use Rattle.plan_ir.specs.store_model.Walks.{Found, reading, standings, type_of_record}
 use Rattle.store_read.specs.Reading.{reading_of, slots}
 use Rattle.store_watch.specs.Rows.{look_of}
 use Rattle.store_watch.specs.Watching.{differs, read_of, shows}

@@ -1,8 +1,8 @@
 -- What is collected and what is left are the whole.
 use Rattle.std.proofs.Common.{◌≡◌, ◌++◌, map, drop}
-use Rattle.schema_types.specs.ArgumentRules as rules
-use Rattle.schema_trees.specs.LocatedView.{name_of}
-use Rattle.doc_sites.specs.SitesView.{argument_of}
+use Rattle.doc_uses.specs.schema_types.ArgumentRules as rules
+use Rattle.doc_uses.specs.schema_trees.LocatedView.{name_of}
+use Rattle.doc_uses.specs.doc_sites.SitesView.{argument_of}
 use Rattle.doc_args.proofs.rules.arguments.argument_names.Given as goal
 
 abbrev pub invariant-arguments : goal.invariant-arguments

@@ -1,8 +1,8 @@
 -- One more of the list.
 use Rattle.std.proofs.Common.{arith}
-use Rattle.schema_types.specs.ArgumentRules as rules
+use Rattle.doc_uses.specs.schema_types.ArgumentRules as rules
 use Rattle.gql_graph.specs.Rules.{each}
-use Rattle.doc_sites.specs.SitesView.{definition_of}
+use Rattle.doc_uses.specs.doc_sites.SitesView.{definition_of}
 use Rattle.gql_graph.proofs.LeastSteps.{each_next}
 use Rattle.doc_args.proofs.rules.arguments.arguments_wrong.Goals as goal
 

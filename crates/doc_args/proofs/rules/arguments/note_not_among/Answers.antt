@@ -1,9 +1,9 @@
 -- One more of the list.
 use Rattle.std.proofs.Common.{[], get_or, arith}
-use Rattle.schema_types.specs.ArgumentRules as rules
-use Rattle.schema_trees.specs.LocatedView.{name_of}
-use Rattle.schema_trees.specs.declared.located.NameAt.{NameAt}
-use Rattle.schema_rules.proofs.FoundAt.{get_or_own}
+use Rattle.doc_uses.specs.schema_types.ArgumentRules as rules
+use Rattle.doc_uses.specs.schema_trees.LocatedView.{name_of}
+use Rattle.doc_uses.specs.schema_trees.declared.located.NameAt.{NameAt}
+use Rattle.doc_uses.proofs.schema_rules_laws.FoundAt.{get_or_own}
 use Rattle.gql_graph.proofs.LeastSteps.{each_next}
 use Rattle.doc_uses.proofs.Steps.{noted_if_not}
 use Rattle.doc_args.proofs.rules.arguments.note_not_among.Goals as goal

@@ -1,9 +1,9 @@
 -- What is noted and what is left are the whole.
 use Rattle.std.proofs.Common.{◌≡◌, map, drop}
-use Rattle.schema_types.specs.ArgumentRules as rules
+use Rattle.doc_uses.specs.schema_types.ArgumentRules as rules
 use Rattle.gql_graph.specs.Rules.{each}
 use Rattle.gql_graph.specs.Leasts.{least_from}
-use Rattle.schema_trees.specs.LocatedView.{name_of}
+use Rattle.doc_uses.specs.schema_trees.LocatedView.{name_of}
 use Rattle.doc_args.proofs.rules.arguments.note_not_among.Given as goal
 
 abbrev pub invariant-names : goal.invariant-names

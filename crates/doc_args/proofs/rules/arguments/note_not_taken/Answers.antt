@@ -1,9 +1,9 @@
 -- What takes any argument, and what is not known.
 use Rattle.std.proofs.Common.{ℕ, List, map, ap, sym, ◌∙◌}
-use Rattle.schema_types.specs.ArgumentRules as rules
+use Rattle.doc_uses.specs.schema_types.ArgumentRules as rules
 use Rattle.gql_graph.specs.Leasts.{least_from}
 use Rattle.gql_graph.specs.Rules.{each}
-use Rattle.schema_trees.specs.LocatedView.{name_of}
+use Rattle.doc_uses.specs.schema_trees.LocatedView.{name_of}
 use Rattle.doc_args.specs.CallView.{takes_of}
 use Rattle.doc_args.specs.declared.call.Takes.{Takes}
 use Rattle.doc_args.proofs.Steps.{free_taken, unknown_taken}

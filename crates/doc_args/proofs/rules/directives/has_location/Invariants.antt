@@ -1,7 +1,7 @@
 -- None so far is this one.
 use Rattle.std.proofs.Common.{◌≡◌, drop}
 use Rattle.std.specs.List.{list_any}
-use Rattle.schema_types.specs.ArgumentRules as rules
+use Rattle.doc_uses.specs.schema_types.ArgumentRules as rules
 use Rattle.doc_args.proofs.rules.directives.has_location.Given as goal
 
 abbrev pub invariant-locations : goal.invariant-locations

@@ -1,9 +1,9 @@
 -- What is noted and what is left are the whole.
 use Rattle.std.proofs.Common.{◌≡◌, map, drop}
-use Rattle.schema_types.specs.ArgumentRules as rules
+use Rattle.doc_uses.specs.schema_types.ArgumentRules as rules
 use Rattle.gql_graph.specs.Rules.{each}
 use Rattle.gql_graph.specs.Leasts.{least_from}
-use Rattle.doc_sites.specs.SitesView.{site_of}
+use Rattle.doc_uses.specs.doc_sites.SitesView.{site_of}
 use Rattle.doc_args.proofs.rules.directives.note_sites.Given as goal
 
 abbrev pub invariant-sites : goal.invariant-sites

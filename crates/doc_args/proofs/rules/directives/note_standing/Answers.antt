@@ -1,7 +1,7 @@
 -- One more of the list.
 use Rattle.std.proofs.Common.{arith}
-use Rattle.schema_types.specs.ArgumentRules as rules
-use Rattle.doc_sites.specs.SitesView.{directive_of}
+use Rattle.doc_uses.specs.schema_types.ArgumentRules as rules
+use Rattle.doc_uses.specs.doc_sites.SitesView.{directive_of}
 use Rattle.gql_graph.proofs.LeastSteps.{each_next}
 use Rattle.doc_uses.proofs.Steps.{noted_if_not}
 use Rattle.doc_args.proofs.rules.directives.note_standing.Goals as goal

@@ -1,7 +1,7 @@
 -- One more of the list.
 use Rattle.std.proofs.Common.{arith, rules as common}
-use Rattle.schema_types.specs.ArgumentRules as rules
-use Rattle.doc_sites.specs.SitesView.{variable_of}
+use Rattle.doc_uses.specs.schema_types.ArgumentRules as rules
+use Rattle.doc_uses.specs.doc_sites.SitesView.{variable_of}
 use Rattle.doc_args.proofs.Steps.{each_next_mapped}
 use Rattle.doc_args.proofs.rules.directives.note_variables.Goals as goal
 

@@ -1,11 +1,11 @@
 -- One more name in front.
 use Rattle.std.proofs.Common.{◌≡◌, ℕ, ◌+◌, ◌-◌, ◌<◌, List, ◌∷◌, length, drop, ap, sym, ◌∙◌, arith}
 use Rattle.std.proofs.lemmas.List.{length-map}
-use Rattle.gql_ast.specs.Value.{Val, members_of}
-use Rattle.gql_ast.specs.ValueView.{value_of, argument_of}
-use Rattle.schema_types.specs.ArgumentRules as rules
-use Rattle.schema_tables.specs.Fits.{has_member}
-use Rattle.gql_plain.specs.Order.{has_text}
+use Rattle.doc_uses.specs.gql_ast.Value.{Val, members_of}
+use Rattle.doc_uses.specs.gql_ast.ValueView.{value_of, argument_of}
+use Rattle.doc_uses.specs.schema_types.ArgumentRules as rules
+use Rattle.doc_uses.specs.schema_tables.Fits.{has_member}
+use Rattle.gql_graph.specs.gql_plain.Order.{has_text}
 use Rattle.gql_graph.specs.Texts.{Text}
 use Rattle.doc_args.proofs.Members.{member_next, seen_next, differ_next}
 use Rattle.doc_args.proofs.rules.literals.+names.Goals as goal

@@ -1,10 +1,10 @@
 -- The names that are passed are seen; what is passed differs.
 use Rattle.std.proofs.Common.{◌≡◌, ◌≤◌, List, length, map, drop}
-use Rattle.gql_ast.specs.Value.{members_of, vals_of}
-use Rattle.gql_ast.specs.ValueView.{value_of}
-use Rattle.gql_plain.specs.Order.{has_text}
-use Rattle.schema_types.specs.ArgumentRules as rules
-use Rattle.schema_tables.specs.Fits.{has_member}
+use Rattle.doc_uses.specs.gql_ast.Value.{members_of, vals_of}
+use Rattle.doc_uses.specs.gql_ast.ValueView.{value_of}
+use Rattle.gql_graph.specs.gql_plain.Order.{has_text}
+use Rattle.doc_uses.specs.schema_types.ArgumentRules as rules
+use Rattle.doc_uses.specs.schema_tables.Fits.{has_member}
 use Rattle.gql_graph.specs.Seen.{Knows}
 use Rattle.gql_graph.specs.Texts.{Text}
 use Rattle.doc_args.proofs.rules.literals.+names.Given as goal

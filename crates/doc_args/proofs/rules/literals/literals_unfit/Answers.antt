@@ -1,6 +1,6 @@
 -- One more of the list.
 use Rattle.std.proofs.Common.{arith}
-use Rattle.doc_sites.specs.SitesView.{definition_of}
+use Rattle.doc_uses.specs.doc_sites.SitesView.{definition_of}
 use Rattle.doc_args.specs.Literals.{unfit_in}
 use Rattle.gql_graph.proofs.LeastSteps.{each_next}
 use Rattle.doc_args.proofs.rules.literals.literals_unfit.Goals as goal

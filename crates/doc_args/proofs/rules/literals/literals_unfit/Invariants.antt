@@ -2,7 +2,7 @@
 use Rattle.std.proofs.Common.{◌≡◌, map, drop}
 use Rattle.gql_graph.specs.Rules.{each}
 use Rattle.gql_graph.specs.Leasts.{least_from}
-use Rattle.doc_sites.specs.SitesView.{definition_of}
+use Rattle.doc_uses.specs.doc_sites.SitesView.{definition_of}
 use Rattle.doc_args.specs.Literals.{unfit_in}
 use Rattle.doc_args.proofs.rules.literals.literals_unfit.Given as goal
 

@@ -1,6 +1,6 @@
 -- One more of the list.
 use Rattle.std.proofs.Common.{arith}
-use Rattle.doc_sites.specs.SitesView.{variable_of}
+use Rattle.doc_uses.specs.doc_sites.SitesView.{variable_of}
 use Rattle.doc_args.specs.Literals.{default_of_unfit}
 use Rattle.gql_graph.proofs.LeastSteps.{each_next}
 use Rattle.doc_args.proofs.rules.literals.note_defaults.Goals as goal

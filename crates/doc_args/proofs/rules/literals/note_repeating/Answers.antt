@@ -1,7 +1,7 @@
 -- One more of the list.
 use Rattle.std.proofs.Common.{arith}
 use Rattle.doc_uses.proofs.Steps.{noted_if_not}
-use Rattle.doc_sites.specs.SitesView.{argument_of}
+use Rattle.doc_uses.specs.doc_sites.SitesView.{argument_of}
 use Rattle.doc_args.specs.Literals.{repeating}
 use Rattle.gql_graph.proofs.LeastSteps.{each_next}
 use Rattle.doc_args.proofs.rules.literals.note_repeating.Goals as goal

@@ -1,9 +1,9 @@
 -- One more of the list.
 use Rattle.std.proofs.Common.{Option, ap, ◌∙◌, arith}
-use Rattle.gql_ast.specs.ValueView.{value_of}
-use Rattle.schema_types.specs.ArgumentRules as rules
-use Rattle.schema_tables.specs.Views.{InputDef}
-use Rattle.doc_sites.specs.SitesView.{argument_of}
+use Rattle.doc_uses.specs.gql_ast.ValueView.{value_of}
+use Rattle.doc_uses.specs.schema_types.ArgumentRules as rules
+use Rattle.doc_uses.specs.schema_tables.Views.{InputDef}
+use Rattle.doc_uses.specs.doc_sites.SitesView.{argument_of}
 use Rattle.gql_graph.proofs.LeastSteps.{each_next}
 use Rattle.doc_uses.proofs.Steps.{noted_if_not}
 use Rattle.doc_args.proofs.rules.literals.note_unfit_for.Goals as goal

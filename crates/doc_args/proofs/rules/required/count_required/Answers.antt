@@ -1,10 +1,10 @@
 -- A name is counted where it is new and that of an argument that has to be given.
 use Rattle.std.proofs.Common.{◌≡◌, ◌+◌, not, ◌&&◌, List, [], ◌∷◌, get_or, ap, ◌∙◌, arith}
 use Rattle.gql_graph.specs.Texts.{Text}
-use Rattle.gql_plain.specs.Order.{has_text}
-use Rattle.schema_rules.proofs.FoundAt.{get_or_own}
-use Rattle.schema_tables.specs.Required.{one_if, required_names}
-use Rattle.schema_trees.specs.declared.located.NameAt.{NameAt}
+use Rattle.gql_graph.specs.gql_plain.Order.{has_text}
+use Rattle.doc_uses.proofs.schema_rules_laws.FoundAt.{get_or_own}
+use Rattle.doc_uses.specs.schema_tables.Required.{one_if, required_names}
+use Rattle.doc_uses.specs.schema_trees.declared.located.NameAt.{NameAt}
 use Rattle.doc_args.proofs.Counts.{count_next, none_put, one_put}
 use Rattle.doc_args.proofs.rules.required.count_required.Goals.{then-is_counted, else-is_counted}
 use Rattle.doc_args.proofs.rules.required.count_required.Goals as goal

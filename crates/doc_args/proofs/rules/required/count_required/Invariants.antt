@@ -2,9 +2,9 @@
 use Rattle.std.proofs.Common.{◌≡◌, ◌+◌, ◌≤◌, List, [], map, drop}
 use Rattle.gql_graph.specs.Seen.{Knows}
 use Rattle.gql_graph.specs.Texts.{Text}
-use Rattle.schema_rules.specs.Rules.{names_of}
-use Rattle.schema_tables.specs.Required.{required_names}
-use Rattle.schema_trees.specs.LocatedView.{name_of}
+use Rattle.doc_uses.specs.schema_rules.Rules.{names_of}
+use Rattle.doc_uses.specs.schema_tables.Required.{required_names}
+use Rattle.doc_uses.specs.schema_trees.LocatedView.{name_of}
 use Rattle.doc_args.proofs.rules.required.count_required.Given as goal
 use Rattle.doc_args.specs.GivenNames.{count_new}
 

@@ -1,15 +1,15 @@
 -- One is left out where fewer are counted than have to be given.
 use Rattle.std.proofs.Common.{List, [], map, ap, ◌∙◌}
-use Rattle.schema_rules.specs.Rules.{names_of}
-use Rattle.schema_tables.specs.Required.{required_names}
-use Rattle.schema_trees.specs.Located.{Located}
-use Rattle.schema_trees.specs.LocatedView.{name_of}
-use Rattle.schema_trees.specs.declared.located.NameAt.{NameAt}
-use Rattle.schema_types.specs.Sites.{ArgumentAt}
+use Rattle.doc_uses.specs.schema_rules.Rules.{names_of}
+use Rattle.doc_uses.specs.schema_tables.Required.{required_names}
+use Rattle.doc_uses.specs.schema_trees.Located.{Located}
+use Rattle.doc_uses.specs.schema_trees.LocatedView.{name_of}
+use Rattle.doc_uses.specs.schema_trees.declared.located.NameAt.{NameAt}
+use Rattle.doc_uses.specs.schema_types.Sites.{ArgumentAt}
 use Rattle.doc_args.proofs.Counts.{some_left_out}
 use Rattle.doc_args.proofs.rules.required.leaves_out_any.Goals as goal
 use Rattle.doc_args.specs.GivenNames.{count_new}
-use Rattle.doc_sites.specs.SitesView.{argument_of}
+use Rattle.doc_uses.specs.doc_sites.SitesView.{argument_of}
 
 pub returns : goal.returns
 returns c =

@@ -1,6 +1,6 @@
 -- One more of the list.
 use Rattle.std.proofs.Common.{arith}
-use Rattle.schema_types.specs.ArgumentRules as rules
+use Rattle.doc_uses.specs.schema_types.ArgumentRules as rules
 use Rattle.doc_args.proofs.Steps.{noted_if}
 use Rattle.doc_args.specs.CallView.{call_of}
 use Rattle.gql_graph.proofs.LeastSteps.{each_next}

@@ -1,10 +1,10 @@
 -- An operation.
 use Rattle.std.proofs.Common.{◌≡◌, OnOk, sym, subst}
-use Rattle.schema_types.specs.ArgumentRules as rules
+use Rattle.doc_uses.specs.schema_types.ArgumentRules as rules
 use Rattle.gql_graph.specs.Leasts.{least_from}
-use Rattle.doc_sites.specs.SitesView.{definition_of}
-use Rattle.doc_sites.specs.declared.site.DefinitionAt.{DefinitionAt}
-use Rattle.doc_sites.specs.Definitions.{on_operation}
+use Rattle.doc_uses.specs.doc_sites.SitesView.{definition_of}
+use Rattle.doc_uses.specs.doc_sites.declared.site.DefinitionAt.{DefinitionAt}
+use Rattle.doc_uses.specs.doc_sites.Definitions.{on_operation}
 use Rattle.doc_args.proofs.rules.variables.note_definition.Goals as goal
 
 pub returns-in-Operation : goal.returns-in-Operation

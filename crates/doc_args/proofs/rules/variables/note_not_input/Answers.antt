@@ -1,9 +1,9 @@
 -- One more of the list.
 use Rattle.std.proofs.Common.{List, length, get_or, ap, ◌∙◌, arith}
-use Rattle.schema_types.specs.ArgumentRules as rules
+use Rattle.doc_uses.specs.schema_types.ArgumentRules as rules
 use Rattle.gql_graph.proofs.LeastSteps.{each_next}
-use Rattle.doc_sites.specs.SitesView.{variable_of}
-use Rattle.doc_sites.specs.declared.site.VariableAt.{VariableAt}
+use Rattle.doc_uses.specs.doc_sites.SitesView.{variable_of}
+use Rattle.doc_uses.specs.doc_sites.declared.site.VariableAt.{VariableAt}
 use Rattle.doc_uses.proofs.Steps.{noted_if_not}
 use Rattle.doc_args.proofs.rules.variables.note_not_input.Goals as goal
 

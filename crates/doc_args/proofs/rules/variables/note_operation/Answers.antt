@@ -1,9 +1,9 @@
 -- The four parts in turn.
 use Rattle.std.proofs.Common.{[]}
-use Rattle.schema_types.specs.ArgumentRules as rules
-use Rattle.schema_rules.specs.Rules.{each, repeated_names}
-use Rattle.schema_types.specs.Sites as spec
-use Rattle.doc_sites.specs.SitesView.{operation_of}
+use Rattle.doc_uses.specs.schema_types.ArgumentRules as rules
+use Rattle.doc_uses.specs.schema_rules.Rules.{each, repeated_names}
+use Rattle.doc_uses.specs.schema_types.Sites as spec
+use Rattle.doc_uses.specs.doc_sites.SitesView.{operation_of}
 use Rattle.doc_args.specs.UsesIn.{uses_in_operation, variable_names}
 use Rattle.doc_args.proofs.Steps.{noted_parts}
 use Rattle.doc_args.proofs.rules.variables.note_operation.Goals as goal

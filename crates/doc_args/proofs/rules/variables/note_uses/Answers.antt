@@ -1,10 +1,10 @@
 -- The uses that are looked at are those of the operation.
 use Rattle.std.proofs.Common.{◌≡◌, [], List, ◌++◌, map, OnOk, ap, subst, ◌∙◌}
-use Rattle.schema_types.specs.ArgumentRules as rules
-use Rattle.schema_types.specs.Sites as spec
+use Rattle.doc_uses.specs.schema_types.ArgumentRules as rules
+use Rattle.doc_uses.specs.schema_types.Sites as spec
 use Rattle.gql_graph.specs.Leasts.{least_from}
 use Rattle.gql_graph.specs.Rules.{each}
-use Rattle.doc_sites.specs.SitesView.{directive_of, operation_of, site_of}
+use Rattle.doc_uses.specs.doc_sites.SitesView.{directive_of, operation_of, site_of}
 use Rattle.doc_uses.specs.UseView.{use_of}
 use Rattle.doc_args.specs.UsesIn.{uses_in_fragment, uses_in_operation}
 use Rattle.doc_args.proofs.rules.variables.note_uses.Goals as goal

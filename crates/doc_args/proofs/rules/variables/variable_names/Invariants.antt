@@ -1,7 +1,7 @@
 -- What is collected and what is left are the whole.
 use Rattle.std.proofs.Common.{◌≡◌, ◌++◌, map, drop}
-use Rattle.schema_trees.specs.LocatedView.{name_of}
-use Rattle.doc_sites.specs.SitesView.{variable_of}
+use Rattle.doc_uses.specs.schema_trees.LocatedView.{name_of}
+use Rattle.doc_uses.specs.doc_sites.SitesView.{variable_of}
 use Rattle.doc_args.specs.UsesIn.{variable_names}
 use Rattle.doc_args.proofs.rules.variables.variable_names.Given as goal
 

@@ -1,14 +1,14 @@
 -- One more definition, and all of them.
 use Rattle.std.proofs.Common.{ℕ, List, map, ap, sym, ◌∙◌, arith}
-use Rattle.schema_types.specs.ArgumentRules as rules
+use Rattle.doc_uses.specs.schema_types.ArgumentRules as rules
 use Rattle.gql_graph.specs.Leasts.{least_from}
-use Rattle.schema_types.specs.NameRules.{fragments}
-use Rattle.schema_types.specs.Sites.{FragmentAt}
+use Rattle.doc_uses.specs.schema_types.NameRules.{fragments}
+use Rattle.doc_uses.specs.schema_types.Sites.{FragmentAt}
 use Rattle.gql_graph.proofs.LeastSteps.{each_next}
-use Rattle.doc_sites.specs.SitesView.{definition_of}
-use Rattle.doc_sites.specs.Definitions.{on_operation}
-use Rattle.doc_sites.proofs.DefinitionSteps.{over_operations}
-use Rattle.doc_sites.proofs.ListSteps.{noted_end}
+use Rattle.doc_uses.specs.doc_sites.SitesView.{definition_of}
+use Rattle.doc_uses.specs.doc_sites.Definitions.{on_operation}
+use Rattle.doc_uses.proofs.doc_sites_laws.DefinitionSteps.{over_operations}
+use Rattle.doc_uses.proofs.doc_sites_laws.ListSteps.{noted_end}
 use Rattle.doc_args.proofs.rules.variables.variables_wrong.Goals as goal
 
 pub definitions-preserved : goal.definitions-preserved

@@ -1,11 +1,11 @@
 -- What is noted and what is left are the whole.
 use Rattle.std.proofs.Common.{◌≡◌, map, drop}
-use Rattle.schema_types.specs.ArgumentRules as rules
+use Rattle.doc_uses.specs.schema_types.ArgumentRules as rules
 use Rattle.gql_graph.specs.Leasts.{least_from}
-use Rattle.schema_types.specs.NameRules.{fragments}
+use Rattle.doc_uses.specs.schema_types.NameRules.{fragments}
 use Rattle.gql_graph.specs.Rules.{each}
-use Rattle.doc_sites.specs.SitesView.{definition_of}
-use Rattle.doc_sites.specs.Definitions.{on_operation}
+use Rattle.doc_uses.specs.doc_sites.SitesView.{definition_of}
+use Rattle.doc_uses.specs.doc_sites.Definitions.{on_operation}
 use Rattle.doc_args.proofs.rules.variables.variables_wrong.Given as goal
 
 abbrev pub invariant-definitions : goal.invariant-definitions

@@ -4,7 +4,7 @@ use Rattle.doc_fields.specs.Keys.{Sum, join_sums, keys_view}
 use Rattle.doc_fields.proofs.BelowSteps.{known_kept, known_some}
 use Rattle.doc_fields.proofs.Sums.{joined_next, joined_end}
 use Rattle.doc_fields.proofs.below.KeysBelow.find_all.Goals as goal
-use Rattle.schema_rules.proofs.FoundAt.{get_or_own}
+use Rattle.doc_sites.proofs.schema_rules_laws.FoundAt.{get_or_own}
 use denote.Ref.{Bor}
 
 none : Bor (List ℕ)

@@ -1,6 +1,6 @@
 -- What is known of the names so far.
 use Rattle.std.proofs.Common.{◌≡◌, map, drop}
-use Rattle.gql_graph.specs.Texts.{Text}
+use Rattle.doc_sites.specs.gql_graph.Texts.{Text}
 use Rattle.doc_fields.specs.Heads.{all_of, AreKnown}
 use Rattle.doc_fields.specs.Keys.{Sum, join_sums, keys_view}
 use Rattle.doc_fields.proofs.below.KeysBelow.find_all.Given as goal

@@ -1,7 +1,7 @@
 -- One more name, or none.
 use Rattle.std.proofs.Common.{List, ap, ◌∙◌, arith}
 use Rattle.std.proofs.lemmas.Result.{on_ok_weaker}
-use Rattle.gql_graph.specs.Texts.{Text}
+use Rattle.doc_sites.specs.gql_graph.Texts.{Text}
 use Rattle.doc_fields.specs.Heads.{all_of}
 use Rattle.doc_fields.specs.Keys.{Sum, join_sums, keys_view}
 use Rattle.doc_fields.proofs.BelowSteps.{below_more, below_put, known_some}

@@ -1,7 +1,7 @@
 -- What is put is kept, and of other names what was kept before.
 use Rattle.std.proofs.Common.{Option, option_map, ap, ◌∙◌}
 use Rattle.std.proofs.lemmas.Map.Text.{btree_map_updates_str}
-use Rattle.gql_graph.proofs.Graphs.{map_cond}
+use Rattle.doc_sites.proofs.gql_graph_laws.Graphs.{map_cond}
 use Rattle.doc_fields.specs.Keys.{keys_view}
 use Rattle.doc_fields.specs.declared.keys.RootKeys.{RootKeys}
 use Rattle.doc_fields.proofs.below.KeysBelow.put.Goals as goal

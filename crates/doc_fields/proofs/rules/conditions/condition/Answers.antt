@@ -1,7 +1,7 @@
 -- The first name that a fragment leads to is its condition.
 use Rattle.std.proofs.Common.{Option, option_copied, ap, sym, ◌∙◌}
-use Rattle.schema_types.specs.NameRules.{fragment_named}
-use Rattle.gql_graph.specs.Texts.{Text}
+use Rattle.doc_sites.specs.schema_types.NameRules.{fragment_named}
+use Rattle.doc_sites.specs.gql_graph.Texts.{Text}
 use Rattle.doc_fields.specs.Fragments.{conditions_of}
 use Rattle.doc_fields.proofs.Steps.{first_condition}
 use Rattle.doc_fields.proofs.rules.conditions.condition.Goals as goal

@@ -1,9 +1,9 @@
 -- What is noted and what is left are the whole.
 use Rattle.std.proofs.Common.{◌≡◌, map, drop}
-use Rattle.schema_types.specs.FieldRules as rules
-use Rattle.gql_graph.specs.Leasts.{least_from}
-use Rattle.schema_types.specs.NameRules.{fragments, sites_of}
-use Rattle.gql_graph.specs.Rules.{each}
+use Rattle.doc_sites.specs.schema_types.FieldRules as rules
+use Rattle.doc_sites.specs.gql_graph.Leasts.{least_from}
+use Rattle.doc_sites.specs.schema_types.NameRules.{fragments, sites_of}
+use Rattle.doc_sites.specs.gql_graph.Rules.{each}
 use Rattle.doc_sites.specs.SitesView.{definition_of}
 use Rattle.doc_fields.specs.Common.{AreCommon}
 use Rattle.doc_fields.proofs.rules.conditions.conditions_never_apply.Given as goal

@@ -1,8 +1,8 @@
 -- A place that is noted already, and one more.
 use Rattle.std.proofs.Common.{Bool, ap, ◌∙◌, arith}
-use Rattle.gql_graph.specs.Leasts.{least_from}
-use Rattle.gql_graph.specs.Rules.{wrong}
-use Rattle.gql_graph.proofs.LeastSteps.{kept_least}
+use Rattle.doc_sites.specs.gql_graph.Leasts.{least_from}
+use Rattle.doc_sites.specs.gql_graph.Rules.{wrong}
+use Rattle.doc_sites.proofs.gql_graph_laws.LeastSteps.{kept_least}
 use Rattle.doc_fields.proofs.rules.conditions.note_if_never.Goals as goal
 
 pub returns-then-is_at_most-clause-noted : goal.returns-then-is_at_most-clause-noted

@@ -1,7 +1,7 @@
 -- One more selection, and all of them.
 use Rattle.std.proofs.Common.{refl, arith}
-use Rattle.schema_types.specs.FieldRules as rules
-use Rattle.gql_graph.proofs.LeastSteps.{each_next}
+use Rattle.doc_sites.specs.schema_types.FieldRules as rules
+use Rattle.doc_sites.proofs.gql_graph_laws.LeastSteps.{each_next}
 use Rattle.doc_sites.specs.SitesView.{site_of}
 use Rattle.doc_sites.proofs.ListSteps.{noted_end}
 use Rattle.doc_fields.proofs.rules.conditions.note_never_in.Goals as goal

@@ -1,10 +1,10 @@
 -- What is noted and what is left are the whole.
 use Rattle.std.proofs.Common.{◌≡◌, List, map, drop}
-use Rattle.schema_types.specs.FieldRules as rules
-use Rattle.gql_graph.specs.Graphs.{Tells}
-use Rattle.gql_graph.specs.Leasts.{least_from}
-use Rattle.gql_graph.specs.Rules.{each}
-use Rattle.schema_types.specs.Sites.{FragmentAt}
+use Rattle.doc_sites.specs.schema_types.FieldRules as rules
+use Rattle.doc_sites.specs.gql_graph.Graphs.{Tells}
+use Rattle.doc_sites.specs.gql_graph.Leasts.{least_from}
+use Rattle.doc_sites.specs.gql_graph.Rules.{each}
+use Rattle.doc_sites.specs.schema_types.Sites.{FragmentAt}
 use Rattle.doc_sites.specs.SitesView.{site_of}
 use Rattle.doc_fields.specs.Common.{AreCommon}
 use Rattle.doc_fields.specs.Fragments.{conditions_of}

@@ -1,7 +1,7 @@
 -- By the name inside the type.
 use Rattle.std.proofs.Common.{Option, option_copied, ap, sym, ◌∙◌}
-use Rattle.schema_types.specs.Sites.{field_type}
-use Rattle.gql_graph.specs.Texts.{Text}
+use Rattle.doc_sites.specs.schema_types.Sites.{field_type}
+use Rattle.doc_sites.specs.gql_graph.Texts.{Text}
 use Rattle.doc_fields.specs.Bases.{float_of}
 use Rattle.doc_fields.proofs.FieldBases.{float_by_base}
 use Rattle.doc_fields.proofs.rules.floats.is_float.Goals as goal

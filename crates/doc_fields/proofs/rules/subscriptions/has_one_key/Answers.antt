@@ -1,8 +1,8 @@
 -- The keys of the set, and those of the fragments that are reached.
 use Rattle.std.proofs.Common.{◌≡◌, List, ◌++◌, map, ap, sym, subst, ◌∙◌}
-use Rattle.schema_types.specs.FieldRules.{Key, keys_in, spreads_at_root}
-use Rattle.gql_graph.specs.Rules.{each}
-use Rattle.gql_graph.specs.Texts.{Text}
+use Rattle.doc_sites.specs.schema_types.FieldRules.{Key, keys_in, spreads_at_root}
+use Rattle.doc_sites.specs.gql_graph.Rules.{each}
+use Rattle.doc_sites.specs.gql_graph.Texts.{Text}
 use Rattle.doc_fields.specs.Heads.{keys_of_name}
 use Rattle.doc_fields.specs.Keys.{Sum, is_one, join_sums, keys_view, sum_of, AreReached}
 use Rattle.doc_fields.proofs.RootKeys.{one_root_key}

@@ -1,9 +1,9 @@
 -- What is known of the fragments, and what a search finds.
 use Rattle.std.proofs.Common.{ℕ, List, length, map, ap, ◌∙◌, arith}
-use Rattle.schema_types.specs.FieldRules.{Key}
-use Rattle.gql_graph.specs.Reached.{any_leads}
-use Rattle.gql_graph.specs.Rules.{each}
-use Rattle.gql_graph.specs.Texts.{Text}
+use Rattle.doc_sites.specs.schema_types.FieldRules.{Key}
+use Rattle.doc_sites.specs.gql_graph.Reached.{any_leads}
+use Rattle.doc_sites.specs.gql_graph.Rules.{each}
+use Rattle.doc_sites.specs.gql_graph.Texts.{Text}
 use Rattle.doc_fields.specs.Heads.{all_of, below, keys_found, keys_of_name}
 use Rattle.doc_fields.specs.Keys.{next_at_root, sum_of}
 use Rattle.doc_fields.proofs.BelowSteps.{all_below, all_reached, known_some, names_below}

@@ -1,10 +1,10 @@
 -- One more definition.
 use Rattle.std.proofs.Common.{ℕ, List, map, ap, sym, arith}
-use Rattle.schema_types.specs.FieldRules as rules
-use Rattle.gql_graph.specs.Leasts.{least_from}
-use Rattle.schema_types.specs.NameRules.{fragments}
-use Rattle.schema_types.specs.Sites.{DefinitionAt}
-use Rattle.gql_graph.proofs.LeastSteps.{each_next}
+use Rattle.doc_sites.specs.schema_types.FieldRules as rules
+use Rattle.doc_sites.specs.gql_graph.Leasts.{least_from}
+use Rattle.doc_sites.specs.schema_types.NameRules.{fragments}
+use Rattle.doc_sites.specs.schema_types.Sites.{DefinitionAt}
+use Rattle.doc_sites.proofs.gql_graph_laws.LeastSteps.{each_next}
 use Rattle.doc_sites.specs.SitesView.{definition_of}
 use Rattle.doc_sites.specs.Definitions.{on_operation}
 use Rattle.doc_sites.proofs.DefinitionSteps.{over_operations}

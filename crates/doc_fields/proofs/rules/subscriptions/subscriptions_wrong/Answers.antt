@@ -1,10 +1,10 @@
 -- Without a root type nothing is said.
 use Rattle.std.proofs.Common.{◌≡◌, ℕ, List, Option, None, option_copied, map, ap, sym, ◌∙◌}
-use Rattle.gql_ast.specs.declared.document.Kind.TheVariants.{Subscription}
-use Rattle.gql_graph.specs.Leasts.{least_from}
-use Rattle.schema_types.specs.NameRules.{fragments, operations}
-use Rattle.schema_types.specs.Sites.{DefinitionAt}
-use Rattle.schema_tables.specs.Types.{Text, root}
+use Rattle.doc_sites.specs.gql_ast.declared.document.Kind.TheVariants.{Subscription}
+use Rattle.doc_sites.specs.gql_graph.Leasts.{least_from}
+use Rattle.doc_sites.specs.schema_types.NameRules.{fragments, operations}
+use Rattle.doc_sites.specs.schema_types.Sites.{DefinitionAt}
+use Rattle.doc_sites.specs.schema_tables.Types.{Text, root}
 use Rattle.doc_sites.specs.SitesView.{definition_of}
 use Rattle.doc_fields.proofs.RootKeys.{no_root}
 use Rattle.doc_fields.proofs.rules.subscriptions.subscriptions_wrong.Goals as goal

@@ -1,7 +1,7 @@
 -- What is noted and what is left are the whole.
 use Rattle.std.proofs.Common.{◌≡◌, map, drop}
-use Rattle.schema_types.specs.FieldRules as rules
-use Rattle.gql_graph.specs.Leasts.{least_from}
+use Rattle.doc_sites.specs.schema_types.FieldRules as rules
+use Rattle.doc_sites.specs.gql_graph.Leasts.{least_from}
 use Rattle.doc_sites.specs.SitesView.{definition_of}
 use Rattle.doc_fields.proofs.rules.undefined.fields_undefined.Given as goal
 

@@ -1,7 +1,7 @@
 -- A field without a type, and one with a type.
 use Rattle.std.proofs.Common.{Option, Some, option_copied, ap, sym, ◌∙◌}
-use Rattle.schema_types.specs.Sites.{field_type}
-use Rattle.gql_graph.specs.Texts.{Text}
+use Rattle.doc_sites.specs.schema_types.Sites.{field_type}
+use Rattle.doc_sites.specs.gql_graph.Texts.{Text}
 use Rattle.doc_fields.proofs.FieldBases.{no_type, a_type}
 use Rattle.doc_fields.proofs.rules.undefined.is_undefined_on.Goals as goal
 use denote.Ref.{Bor}

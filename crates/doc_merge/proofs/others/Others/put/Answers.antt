@@ -1,7 +1,7 @@
 -- A field more is put one level further out, under its object type or without one.
 use Rattle.std.proofs.Common.{◌≡◌, Some, None, bytes_eq, cond, ap, sym, ◌∙◌}
 use Rattle.std.specs.Prelude.{option_copied}
-use Rattle.schema_tables.specs.Types.{Text}
+use Rattle.plan_ir.specs.schema_tables.Types.{Text}
 use Rattle.doc_merge.specs.Cells.{Mark, all_out, has_other_among, innermost, one_out, put}
 use Rattle.doc_merge.specs.CellView.{cells_of, cells_under}
 use Rattle.doc_merge.specs.RowView.{mark_of}

@@ -5,8 +5,8 @@ use Rattle.std.specs.BTreeMap.{get_by}
 use Rattle.std.specs.Cmp.Lexicographic.{slice_cmp}
 use Rattle.std.specs.Ordering.{nat_cmp}
 use Rattle.std.specs.Prelude.{option_copied}
-use Rattle.gql_ast.specs.declared.variable.VariableDef.{VariableDef}
-use Rattle.schema_tables.specs.Types.{Text}
+use Rattle.plan_ir.specs.gql_ast.declared.variable.VariableDef.{VariableDef}
+use Rattle.plan_ir.specs.schema_tables.Types.{Text}
 use Rattle.doc_merge.specs.Values.{variable_named}
 use Rattle.doc_merge.proofs.ValueSteps.{copied_cond, variable_next}
 use Rattle.doc_merge.proofs.variables.Variables.of.Goals as goal

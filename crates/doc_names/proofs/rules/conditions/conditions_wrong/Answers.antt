@@ -1,9 +1,9 @@
 -- One more of the list.
 use Rattle.std.proofs.Common.{arith}
 use Rattle.doc_sites.specs.SitesView.{definition_of}
-use Rattle.schema_types.specs.NameRules as names
-use Rattle.schema_rules.specs.Rules as rules
-use Rattle.gql_graph.proofs.LeastSteps.{each_next}
+use Rattle.doc_sites.specs.schema_types.NameRules as names
+use Rattle.doc_sites.specs.schema_rules.Rules as rules
+use Rattle.doc_sites.proofs.gql_graph_laws.LeastSteps.{each_next}
 use Rattle.doc_names.proofs.rules.conditions.conditions_wrong.Goals as goal
 
 pub definitions-preserved : goal.definitions-preserved

@@ -1,8 +1,8 @@
 -- What is noted and what is left are the whole.
 use Rattle.std.proofs.Common.{◌≡◌, map, drop}
 use Rattle.doc_sites.specs.SitesView.{definition_of}
-use Rattle.gql_graph.specs.Leasts.{least_from}
-use Rattle.schema_types.specs.NameRules as names
+use Rattle.doc_sites.specs.gql_graph.Leasts.{least_from}
+use Rattle.doc_sites.specs.schema_types.NameRules as names
 use Rattle.doc_names.proofs.rules.conditions.conditions_wrong.Given as goal
 
 abbrev pub invariant-definitions : goal.invariant-definitions

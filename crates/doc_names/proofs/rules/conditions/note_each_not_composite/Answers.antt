@@ -1,7 +1,7 @@
 -- One more of the list.
 use Rattle.std.proofs.Common.{arith}
-use Rattle.schema_trees.specs.LocatedView.{name_of}
-use Rattle.schema_types.specs.NameRules.{not_composite}
+use Rattle.doc_sites.specs.schema_trees.LocatedView.{name_of}
+use Rattle.doc_sites.specs.schema_types.NameRules.{not_composite}
 use Rattle.doc_names.proofs.NameSteps.{no_name, noted_at}
 use Rattle.doc_names.proofs.rules.conditions.note_each_not_composite.Goals as goal
 

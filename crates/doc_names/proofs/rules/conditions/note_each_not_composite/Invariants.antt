@@ -1,9 +1,9 @@
 -- What is noted and what is left are the whole.
 use Rattle.std.proofs.Common.{◌≡◌, map, drop}
-use Rattle.gql_graph.specs.Leasts.{least_from}
-use Rattle.schema_trees.specs.LocatedView.{name_of}
-use Rattle.schema_types.specs.NameRules.{not_composite}
-use Rattle.gql_graph.specs.Rules.{each}
+use Rattle.doc_sites.specs.gql_graph.Leasts.{least_from}
+use Rattle.doc_sites.specs.schema_trees.LocatedView.{name_of}
+use Rattle.doc_sites.specs.schema_types.NameRules.{not_composite}
+use Rattle.doc_sites.specs.gql_graph.Rules.{each}
 use Rattle.doc_names.proofs.rules.conditions.note_each_not_composite.Given as goal
 
 abbrev pub invariant-conditions : goal.invariant-conditions

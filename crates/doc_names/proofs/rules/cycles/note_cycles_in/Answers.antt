@@ -2,9 +2,9 @@
 use Rattle.std.proofs.Common.{◌≡◌, ℕ, OnOk, List, ap, sym, subst, ◌∙◌}
 use Rattle.doc_sites.specs.SitesView.{definition_of, fragment_of}
 use Rattle.doc_sites.specs.declared.site.DefinitionAt.{DefinitionAt}
-use Rattle.gql_graph.specs.Leasts.{least_from}
-use Rattle.schema_types.specs.NameRules.{spread_by, spreads_in}
-use Rattle.schema_types.specs.Sites as spec
+use Rattle.doc_sites.specs.gql_graph.Leasts.{least_from}
+use Rattle.doc_sites.specs.schema_types.NameRules.{spread_by, spreads_in}
+use Rattle.doc_sites.specs.schema_types.Sites as spec
 use Rattle.doc_names.specs.Cycles.{leading_back, leads_back_in}
 use Rattle.doc_sites.specs.Definitions.{on_fragment}
 use Rattle.doc_names.proofs.rules.cycles.note_cycles_in.Goals as goal

@@ -2,11 +2,11 @@
 use Rattle.std.proofs.Common.{◌≡◌, OnOk, List, map, ap, subst, ◌∙◌}
 use Rattle.doc_sites.specs.SitesView.{fragment_of, site_of}
 use Rattle.doc_sites.specs.declared.site.Site.{Site}
-use Rattle.gql_graph.specs.Leasts.{least_from}
-use Rattle.schema_trees.specs.LocatedView.{name_of}
-use Rattle.schema_trees.specs.Located.{Located}
-use Rattle.schema_types.specs.NameRules.{spreads_in}
-use Rattle.gql_graph.specs.Texts.{Text}
+use Rattle.doc_sites.specs.gql_graph.Leasts.{least_from}
+use Rattle.doc_sites.specs.schema_trees.LocatedView.{name_of}
+use Rattle.doc_sites.specs.schema_trees.Located.{Located}
+use Rattle.doc_sites.specs.schema_types.NameRules.{spreads_in}
+use Rattle.doc_sites.specs.gql_graph.Texts.{Text}
 use Rattle.doc_names.specs.Cycles.{leading_back}
 use Rattle.doc_names.proofs.rules.cycles.note_cycles_of.Goals as goal
 

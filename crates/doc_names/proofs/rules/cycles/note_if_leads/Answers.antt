@@ -1,13 +1,13 @@
 -- One after a place that is noted, one of a lower rank, and one that is searched from.
 use Rattle.std.proofs.Common.{◌≡◌, ◌<◌, Bool, true, ap, sym, ◌∙◌, arith}
-use Rattle.gql_graph.specs.Leasts.{least_from}
-use Rattle.gql_graph.specs.Reached.{leads}
-use Rattle.gql_graph.specs.Rules.{wrong}
-use Rattle.gql_graph.specs.Texts.{Text}
-use Rattle.gql_graph.proofs.LeastSteps.{kept_least}
-use Rattle.gql_graph.specs.Ranks.{rank_in}
+use Rattle.doc_sites.specs.gql_graph.Leasts.{least_from}
+use Rattle.doc_sites.specs.gql_graph.Reached.{leads}
+use Rattle.doc_sites.specs.gql_graph.Rules.{wrong}
+use Rattle.doc_sites.specs.gql_graph.Texts.{Text}
+use Rattle.doc_sites.proofs.gql_graph_laws.LeastSteps.{kept_least}
+use Rattle.doc_sites.specs.gql_graph.Ranks.{rank_in}
 use Rattle.doc_names.proofs.CycleSteps.{reached_alone}
-use Rattle.gql_graph.proofs.RankSteps.{not_leading}
+use Rattle.doc_sites.proofs.gql_graph_laws.RankSteps.{not_leading}
 use Rattle.doc_names.proofs.rules.cycles.note_if_leads.Goals as goal
 
 pub returns-then-is_at_most : goal.returns-then-is_at_most

@@ -1,6 +1,6 @@
 -- One more of the list.
 use Rattle.std.proofs.Common.{arith}
-use Rattle.schema_trees.specs.LocatedView.{name_of}
+use Rattle.doc_sites.specs.schema_trees.LocatedView.{name_of}
 use Rattle.doc_names.specs.Cycles.{leads_to}
 use Rattle.doc_names.proofs.NameSteps.{no_name, noted_at}
 use Rattle.doc_names.proofs.rules.cycles.note_leading_back.Goals as goal

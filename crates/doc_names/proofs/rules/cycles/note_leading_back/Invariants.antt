@@ -1,11 +1,11 @@
 -- What is noted and what is left are the whole.
 use Rattle.std.proofs.Common.{◌≡◌, List, map, drop}
-use Rattle.gql_graph.specs.Graphs.{Tells}
-use Rattle.gql_graph.specs.Leasts.{least_from}
-use Rattle.schema_trees.specs.LocatedView.{name_of}
-use Rattle.gql_graph.specs.Texts.{Text}
+use Rattle.doc_sites.specs.gql_graph.Graphs.{Tells}
+use Rattle.doc_sites.specs.gql_graph.Leasts.{least_from}
+use Rattle.doc_sites.specs.schema_trees.LocatedView.{name_of}
+use Rattle.doc_sites.specs.gql_graph.Texts.{Text}
 use Rattle.doc_names.specs.Cycles.{leading_back}
-use Rattle.gql_graph.specs.Ranks.{rank_in, NeverRises}
+use Rattle.doc_sites.specs.gql_graph.Ranks.{rank_in, NeverRises}
 use Rattle.doc_names.proofs.rules.cycles.note_leading_back.Given as goal
 
 abbrev pub invariant-spreads : goal.invariant-spreads

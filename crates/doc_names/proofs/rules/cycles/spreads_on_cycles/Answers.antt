@@ -1,10 +1,10 @@
 -- One more definition, and all of them.
 use Rattle.std.proofs.Common.{ℕ, List, map, ap, sym, ◌∙◌, arith}
 use Rattle.doc_sites.specs.SitesView.{definition_of}
-use Rattle.gql_graph.specs.Leasts.{least_from}
-use Rattle.schema_types.specs.NameRules.{fragments, spread_by}
-use Rattle.schema_types.specs.Sites.{FragmentAt}
-use Rattle.gql_graph.proofs.LeastSteps.{each_next}
+use Rattle.doc_sites.specs.gql_graph.Leasts.{least_from}
+use Rattle.doc_sites.specs.schema_types.NameRules.{fragments, spread_by}
+use Rattle.doc_sites.specs.schema_types.Sites.{FragmentAt}
+use Rattle.doc_sites.proofs.gql_graph_laws.LeastSteps.{each_next}
 use Rattle.doc_names.specs.Cycles.{leads_back_in}
 use Rattle.doc_sites.specs.Definitions.{on_fragment}
 use Rattle.doc_sites.proofs.ListSteps.{noted_end}

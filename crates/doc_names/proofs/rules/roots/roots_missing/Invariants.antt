@@ -1,8 +1,8 @@
 -- What is noted and what is left are the whole.
 use Rattle.std.proofs.Common.{◌≡◌, map, drop}
 use Rattle.doc_sites.specs.SitesView.{definition_of}
-use Rattle.gql_graph.specs.Leasts.{least_from}
-use Rattle.gql_graph.specs.Rules.{each}
+use Rattle.doc_sites.specs.gql_graph.Leasts.{least_from}
+use Rattle.doc_sites.specs.gql_graph.Rules.{each}
 use Rattle.doc_names.proofs.NameSteps.{no_root_in}
 use Rattle.doc_names.proofs.rules.roots.roots_missing.Given as goal
 

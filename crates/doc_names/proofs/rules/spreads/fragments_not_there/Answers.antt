@@ -1,10 +1,10 @@
 -- One more of the list.
 use Rattle.std.proofs.Common.{List, map, arith}
 use Rattle.doc_sites.specs.SitesView.{definition_of}
-use Rattle.schema_types.specs.NameRules.{fragment_names, names_of_all, not_there, sites_of, spreads_in}
-use Rattle.gql_graph.specs.Rules.{each}
-use Rattle.gql_graph.specs.Texts.{Text}
-use Rattle.gql_graph.proofs.LeastSteps.{each_next}
+use Rattle.doc_sites.specs.schema_types.NameRules.{fragment_names, names_of_all, not_there, sites_of, spreads_in}
+use Rattle.doc_sites.specs.gql_graph.Rules.{each}
+use Rattle.doc_sites.specs.gql_graph.Texts.{Text}
+use Rattle.doc_sites.proofs.gql_graph_laws.LeastSteps.{each_next}
 use Rattle.doc_names.proofs.rules.spreads.fragments_not_there.Goals as goal
 
 pub definitions-preserved : goal.definitions-preserved

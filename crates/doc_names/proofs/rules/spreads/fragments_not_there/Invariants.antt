@@ -1,7 +1,7 @@
 -- What is noted and what is left are the whole.
 use Rattle.std.proofs.Common.{◌≡◌, map, drop}
 use Rattle.doc_sites.specs.SitesView.{definition_of}
-use Rattle.gql_graph.specs.Leasts.{least_from}
+use Rattle.doc_sites.specs.gql_graph.Leasts.{least_from}
 use Rattle.doc_names.proofs.NameSteps.{not_there_in}
 use Rattle.doc_names.proofs.rules.spreads.fragments_not_there.Given as goal
 

@@ -1,9 +1,9 @@
 -- One more of the list.
 use Rattle.std.proofs.Common.{Bool, not, get_or, ap, ◌∙◌, arith}
-use Rattle.gql_graph.specs.Leasts.{least_from}
-use Rattle.schema_trees.specs.LocatedView.{name_of}
-use Rattle.schema_types.specs.NameRules.{not_there}
-use Rattle.gql_graph.specs.Rules.{wrong}
+use Rattle.doc_sites.specs.gql_graph.Leasts.{least_from}
+use Rattle.doc_sites.specs.schema_trees.LocatedView.{name_of}
+use Rattle.doc_sites.specs.schema_types.NameRules.{not_there}
+use Rattle.doc_sites.specs.gql_graph.Rules.{wrong}
 use Rattle.doc_names.proofs.NameSteps.{no_name, noted_at}
 use Rattle.doc_names.proofs.rules.spreads.note_not_there.Goals as goal
 

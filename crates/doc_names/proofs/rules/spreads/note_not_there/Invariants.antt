@@ -1,11 +1,11 @@
 -- What is noted and what is left are the whole.
 use Rattle.std.proofs.Common.{◌≡◌, List, map, drop}
-use Rattle.gql_graph.specs.Leasts.{least_from}
-use Rattle.schema_trees.specs.LocatedView.{name_of}
-use Rattle.schema_types.specs.NameRules.{not_there}
-use Rattle.gql_graph.specs.Rules.{each}
-use Rattle.gql_graph.specs.Seen.{Knows}
-use Rattle.gql_graph.specs.Texts.{Text}
+use Rattle.doc_sites.specs.gql_graph.Leasts.{least_from}
+use Rattle.doc_sites.specs.schema_trees.LocatedView.{name_of}
+use Rattle.doc_sites.specs.schema_types.NameRules.{not_there}
+use Rattle.doc_sites.specs.gql_graph.Rules.{each}
+use Rattle.doc_sites.specs.gql_graph.Seen.{Knows}
+use Rattle.doc_sites.specs.gql_graph.Texts.{Text}
 use Rattle.doc_names.proofs.rules.spreads.note_not_there.Given as goal
 
 abbrev pub invariant-spreads : goal.invariant-spreads

@@ -1,7 +1,7 @@
 -- Each part is what is wanted of it.
 use Rattle.std.proofs.Common.{◌≡◌, length, map, arith}
-use Rattle.schema_types.specs.NameRules.{fragments}
-use Rattle.gql_graph.specs.Texts.{Text}
+use Rattle.doc_sites.specs.schema_types.NameRules.{fragments}
+use Rattle.doc_sites.specs.gql_graph.Texts.{Text}
 use Rattle.doc_sites.specs.SitesView.{definition_of}
 use Rattle.doc_uses.proofs.UseSteps.{count_names}
 use Rattle.doc_uses.proofs.fragment_uses.FragmentUses.of.Goals as goal

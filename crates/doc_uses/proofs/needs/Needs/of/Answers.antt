@@ -1,6 +1,6 @@
 -- Nothing is known, and one more name.
 use Rattle.std.proofs.Common.{List, Option, sym, subst}
-use Rattle.schema_types.specs.ArgumentRules.{Use}
+use Rattle.doc_sites.specs.schema_types.ArgumentRules.{Use}
 use Rattle.doc_uses.specs.Needs.{Sums}
 use Rattle.doc_uses.proofs.needs.Needs.of.Goals as goal
 

@@ -1,8 +1,8 @@
 -- What is known so far sums up.
 use Rattle.std.proofs.Common.{List}
-use Rattle.schema_types.specs.ArgumentRules.{Use}
-use Rattle.gql_graph.specs.Graphs.{Tells}
-use Rattle.gql_graph.specs.Texts.{Text}
+use Rattle.doc_sites.specs.schema_types.ArgumentRules.{Use}
+use Rattle.doc_sites.specs.gql_graph.Graphs.{Tells}
+use Rattle.doc_sites.specs.gql_graph.Texts.{Text}
 use Rattle.doc_uses.specs.Needs.{SumsUp}
 use Rattle.doc_uses.specs.UsesByName.{Gathers}
 use Rattle.doc_uses.proofs.needs.Needs.of.Given as goal

@@ -1,7 +1,7 @@
 -- What is put covers what there was, and what the names so far need.
 use Rattle.std.proofs.Common.{◌≡◌, true, false, map, drop}
-use Rattle.gql_plain.specs.Order.{has_text}
-use Rattle.gql_graph.specs.Texts.{Text}
+use Rattle.doc_sites.specs.gql_plain.Order.{has_text}
+use Rattle.doc_sites.specs.gql_graph.Texts.{Text}
 use Rattle.doc_uses.specs.Needs.{Covers, CoversKnown, uses_needed}
 use Rattle.doc_uses.specs.UseView.{use_of}
 use Rattle.doc_uses.proofs.needs.Needs.put_needs_of.Given as goal

@@ -1,10 +1,10 @@
 -- What a name needs is put, with the uses in its fragments and what those need that they spread.
 use Rattle.std.proofs.Common.{◌≡◌, true, List, ◌++◌, map, option_map, Vec, Global, ap, sym, subst, ◌∙◌, arith}
 use Rattle.std.proofs.lemmas.Map.Text.{btree_map_updates_str}
-use Rattle.gql_plain.specs.Order.{has_text}
-use Rattle.schema_types.specs.ArgumentRules as rules
-use Rattle.gql_graph.specs.Texts.{Text}
-use Rattle.gql_graph.proofs.Graphs.{is_some-map, map_cond}
+use Rattle.doc_sites.specs.gql_plain.Order.{has_text}
+use Rattle.doc_sites.specs.schema_types.ArgumentRules as rules
+use Rattle.doc_sites.specs.gql_graph.Texts.{Text}
+use Rattle.doc_sites.proofs.gql_graph_laws.Graphs.{is_some-map, map_cond}
 use Rattle.doc_uses.specs.Needs.{Covers}
 use Rattle.doc_uses.specs.UseView.{use_of}
 use Rattle.doc_uses.specs.declared.uses.Use.{Use}

@@ -1,7 +1,7 @@
 -- The uses that are left are put.
 use Rattle.std.proofs.Common.{◌≡◌, List, ◌++◌, map, OnOk, ap, subst, ◌∙◌}
-use Rattle.schema_types.specs.ArgumentRules as rules
-use Rattle.schema_types.specs.Sites as spec
+use Rattle.doc_sites.specs.schema_types.ArgumentRules as rules
+use Rattle.doc_sites.specs.schema_types.Sites as spec
 use Rattle.doc_sites.specs.SitesView.{fragment_of}
 use Rattle.doc_uses.specs.Parts.{free_uses}
 use Rattle.doc_uses.specs.UsesByName.{Gathers, named_uses}

@@ -1,6 +1,6 @@
 -- What is kept, or none.
 use Rattle.std.proofs.Common.{List, [], Option, unwrap_or, ap, ◌∙◌}
-use Rattle.schema_types.specs.ArgumentRules as rules
+use Rattle.doc_sites.specs.schema_types.ArgumentRules as rules
 use Rattle.doc_uses.specs.UseView.{use_of}
 use Rattle.doc_uses.proofs.Gathering.{kept_or_none}
 use Rattle.doc_uses.proofs.uses_by_name.UsesByName.uses.Goals as goal

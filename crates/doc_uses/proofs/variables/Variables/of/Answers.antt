@@ -5,10 +5,10 @@ use Rattle.std.specs.BTreeMap.{get_by}
 use Rattle.std.specs.Cmp.Lexicographic.{slice_cmp}
 use Rattle.std.specs.Ordering.{nat_cmp}
 use Rattle.std.specs.Prelude.{ℕ}
-use Rattle.schema_types.specs.ArgumentRules.{variable_named}
+use Rattle.doc_sites.specs.schema_types.ArgumentRules.{variable_named}
 use Rattle.doc_sites.specs.SitesView.{variable_of}
 use Rattle.doc_sites.specs.declared.site.VariableAt.{VariableAt}
-use Rattle.gql_graph.proofs.Graphs.{map_cond}
+use Rattle.doc_sites.proofs.gql_graph_laws.Graphs.{map_cond}
 use Rattle.doc_uses.proofs.UseSteps.{variable_next}
 use Rattle.doc_uses.proofs.variables.Variables.of.Goals as goal
 use denote.Ref.{Bor}

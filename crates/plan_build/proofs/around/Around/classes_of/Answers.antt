@@ -1,6 +1,6 @@
 -- The types of a name, and of a list.
 use Rattle.std.proofs.Common.{List, ap, subst, sym, ◌∙◌}
-use Rattle.schema_tables.specs.Types.{Text}
+use Rattle.plan_ir.specs.schema_tables.Types.{Text}
 use Rattle.plan_build.specs.AroundView.{IsOfComposite, types_of}
 use Rattle.plan_build.specs.Classes.{classes_of}
 use Rattle.plan_build.specs.declared.around.Around.{Around}

@@ -1,7 +1,7 @@
 -- Of the types that one type may be, and of a list.
 use Rattle.std.proofs.Common.{◌≡◌, sym, subst, ◌∙◌}
 use Rattle.std.specs.Prelude.{IfOk}
-use Rattle.schema_tables.specs.Types.{possible}
+use Rattle.plan_ir.specs.schema_tables.Types.{possible}
 use Rattle.plan_build.specs.AroundView.{IsOfComposite, types_of}
 use Rattle.plan_build.specs.Steps.{are_within}
 use Rattle.plan_build.specs.declared.around.Around.{Around}

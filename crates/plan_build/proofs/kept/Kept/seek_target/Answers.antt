@@ -1,7 +1,7 @@
 -- It is found, or it is not the same on all types.
 use Rattle.std.proofs.Common.{List, ap, sym, ◌∙◌}
 use Rattle.std.specs.Prelude.{option_map}
-use Rattle.schema_tables.specs.Types.{Text}
+use Rattle.plan_ir.specs.schema_tables.Types.{Text}
 use Rattle.plan_build.specs.Classes.{one_target}
 use Rattle.plan_build.specs.ClassView.{target_view}
 use Rattle.plan_build.proofs.kept.Kept.seek_target.Goals as goal

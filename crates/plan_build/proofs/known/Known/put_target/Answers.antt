@@ -1,6 +1,6 @@
 -- One more field.
 use Rattle.std.proofs.lemmas.Map.Text.{btree_map_updates_str}
-use Rattle.schema_tables.specs.Types.{possible}
+use Rattle.plan_ir.specs.schema_tables.Types.{possible}
 use Rattle.plan_build.proofs.KeptSteps.{target_with}
 use Rattle.plan_build.proofs.known.Known.put_target.Goals as goal
 

@@ -1,7 +1,7 @@
 -- One more type.
 use Rattle.std.proofs.Common.{◌≡◌}
 use Rattle.std.proofs.lemmas.Map.Text.{btree_map_updates_str}
-use Rattle.schema_tables.specs.Types.{possible}
+use Rattle.plan_ir.specs.schema_tables.Types.{possible}
 use Rattle.plan_build.specs.Steps.{are_within}
 use Rattle.plan_build.proofs.KeptSteps.{put_some}
 use Rattle.plan_build.proofs.known.Known.put_within.Goals as goal

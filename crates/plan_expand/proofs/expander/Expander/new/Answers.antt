@@ -1,7 +1,7 @@
 -- What stands ready is that of the schema and the documents.
 use Rattle.std.proofs.Common.{option_map, length, ap, ◌∙◌}
 use Rattle.plan_ir.specs.Expansion.{operation_named}
-use Rattle.schema_types.specs.NameRules.{fragment_named, fragments, operations}
+use Rattle.plan_ir.specs.schema_types.NameRules.{fragment_named, fragments, operations}
 use Rattle.plan_expand.specs.Places.{place_in}
 use Rattle.plan_expand.specs.OperationsView.{ready_operation}
 use Rattle.plan_expand.specs.ReadyView.{ready_fragment}

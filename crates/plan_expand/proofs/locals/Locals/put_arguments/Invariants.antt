@@ -1,11 +1,11 @@
 -- What is put and what is left are the whole.
 use Rattle.std.proofs.Common.{◌≡◌, map, drop}
 use Rattle.std.specs.Option.{option_or}
-use Rattle.gql_graph.specs.Rules.{each}
-use Rattle.doc_sites.specs.SitesView.{argument_of}
-use Rattle.relay_dirs.specs.Locals.{local_at}
+use Rattle.plan_ir.specs.gql_graph.Rules.{each}
+use Rattle.plan_ir.specs.doc_sites.SitesView.{argument_of}
+use Rattle.plan_ir.specs.relay_dirs.Locals.{local_at}
 use Rattle.plan_ir.specs.Substitution.{default_named}
-use Rattle.schema_tables.specs.Types.{Text}
+use Rattle.plan_ir.specs.schema_tables.Types.{Text}
 use Rattle.plan_expand.specs.LocalsView.{find_default}
 use Rattle.plan_expand.proofs.locals.Locals.put_arguments.Given as goal
 

@@ -4,7 +4,7 @@ use Rattle.std.proofs.lemmas.Map.Text.{btree_map_updates_str}
 use Rattle.std.specs.BTreeMap.{get_by}
 use Rattle.std.specs.Cmp.Lexicographic.{slice_cmp}
 use Rattle.std.specs.Ordering.{nat_cmp}
-use Rattle.gql_ast.specs.ValueView.{value_of}
+use Rattle.plan_ir.specs.gql_ast.ValueView.{value_of}
 use Rattle.plan_expand.proofs.Tables.{name_comes, name_stays}
 use Rattle.plan_expand.proofs.scope.Gifts.put.Goals as goal
 

@@ -1,10 +1,10 @@
 -- What is given and what is left are the whole.
 use Rattle.std.proofs.Common.{◌≡◌, map, drop}
 use Rattle.std.specs.Option.{option_or}
-use Rattle.gql_ast.specs.ValueView.{argument_of}
-use Rattle.relay_dirs.specs.Connections.{value_of_name}
+use Rattle.plan_ir.specs.gql_ast.ValueView.{argument_of}
+use Rattle.plan_ir.specs.relay_dirs.Connections.{value_of_name}
 use Rattle.plan_ir.specs.Substitution.{substitute_in}
-use Rattle.schema_tables.specs.Types.{Text}
+use Rattle.plan_ir.specs.schema_tables.Types.{Text}
 use Rattle.plan_expand.specs.ScopeView.{find_gift, scope_of}
 use Rattle.plan_expand.proofs.scope.Gifts.put_arguments.Given as goal
 

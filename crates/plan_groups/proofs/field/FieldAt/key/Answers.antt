@@ -3,7 +3,7 @@ use Rattle.std.proofs.Common.{◌≡◌, option_copied, ap, ◌∙◌}
 use Rattle.std.proofs.lemmas.Result.{IfOk-weaker}
 use Rattle.plan_groups.proofs.field.FieldAt.key.Goals as goal
 use Rattle.plan_groups.specs.FieldView.{ask_at}
-use Rattle.store_model.specs.Items.{key_of}
+use Rattle.plan_ir.specs.store_model.Items.{key_of}
 
 pub returns-in-Some : goal.returns-in-Some
 returns-in-Some c =

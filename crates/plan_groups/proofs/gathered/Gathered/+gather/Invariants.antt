@@ -4,7 +4,7 @@ use Rattle.plan_ir.specs.Normal.{depth}
 use Rattle.plan_ir.specs.NormalMeaning.{collect_steps}
 use Rattle.plan_ir.specs.NormalView.{step_of, steps_of}
 use Rattle.plan_groups.specs.Placed.{groups_in, IsPlaced}
-use Rattle.store_model.specs.Items.{asked_of, grouped_onto}
+use Rattle.plan_ir.specs.store_model.Items.{asked_of, grouped_onto}
 use Rattle.plan_groups.proofs.gathered.Gathered.+gather.Given as goal
 
 abbrev pub decreases-put_steps : goal.decreases-put_steps

@@ -5,7 +5,7 @@ use Rattle.plan_groups.proofs.GroupSteps.{kept_parts, no_others, one_part}
 use Rattle.plan_groups.proofs.group.GroupAt.parts.Goals as goal
 use Rattle.plan_groups.specs.FieldView.{plan_at}
 use Rattle.plan_groups.specs.GroupView.{group_of}
-use Rattle.store_model.specs.Items.{parts}
+use Rattle.plan_ir.specs.store_model.Items.{parts}
 
 pub returns-then-is_empty : goal.returns-then-is_empty
 returns-then-is_empty c =

@@ -1,10 +1,10 @@
 -- What is made stands ready for the project.
 use Rattle.std.proofs.Common.{List, sym, subst, ◌∙◌}
-use Rattle.gql_ast.specs.declared.document.Document.{Document}
-use Rattle.gql_ast.specs.declared.place.Placed.{Placed}
+use Rattle.plan_ir.specs.gql_ast.declared.document.Document.{Document}
+use Rattle.plan_ir.specs.gql_ast.declared.place.Placed.{Placed}
 use Rattle.plan_project.proofs.planner.Planner.of.Goals as goal
 use Rattle.plan_project.specs.Projects.{IsAcceptedProject}
-use Rattle.schema_tables.specs.Types.{Defs}
+use Rattle.plan_ir.specs.schema_tables.Types.{Defs}
 
 pub returns-clause-ready : goal.returns-clause-ready
 returns-clause-ready c =

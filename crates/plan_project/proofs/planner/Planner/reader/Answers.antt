@@ -1,13 +1,13 @@
 -- The plan that reads is that of the project's operation or fragment.
 use Rattle.std.proofs.Common.{◌≡◌, List, Some, is_some, ap, sym, subst, ◌∙◌}
-use Rattle.gql_ast.specs.declared.document.Document.{Document}
-use Rattle.gql_ast.specs.declared.place.Placed.{Placed}
+use Rattle.plan_ir.specs.gql_ast.declared.document.Document.{Document}
+use Rattle.plan_ir.specs.gql_ast.declared.place.Placed.{Placed}
 use Rattle.plan_ir.specs.declared.reader.ReaderPlan.{ReaderPlan}
 use Rattle.plan_project.proofs.KeptReaders.{is_on_composite}
 use Rattle.plan_project.proofs.planner.Planner.reader.Goals as goal
 use Rattle.plan_read.specs.Plans.{reader_in}
 use Rattle.plan_read.specs.Premises.{IsOnComposite}
-use Rattle.schema_tables.specs.Types.{Defs}
+use Rattle.plan_ir.specs.schema_tables.Types.{Defs}
 
 pub plan-requires-clause-there : goal.plan-requires-clause-there
 plan-requires-clause-there c =

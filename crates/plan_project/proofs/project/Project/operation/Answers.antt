@@ -1,13 +1,13 @@
 -- What the table has under a name is the operation of that name, with its plans.
 use Rattle.std.proofs.Common.{List, Option, option_copied, sym, subst}
-use Rattle.gql_ast.specs.declared.document.Document.{Document}
-use Rattle.gql_ast.specs.declared.place.Placed.{Placed}
+use Rattle.plan_ir.specs.gql_ast.declared.document.Document.{Document}
+use Rattle.plan_ir.specs.gql_ast.declared.place.Placed.{Placed}
 use Rattle.plan_project.proofs.KeptPlans.{agree_so}
 use Rattle.plan_project.proofs.project.Project.operation.Goals as goal
 use Rattle.plan_project.specs.Lookups.{Agree, IsOperation, KeepsOperation, Normalizes, ReadsOperation, operation_in}
 use Rattle.plan_project.specs.declared.operations.Compiled.{Compiled}
-use Rattle.schema_tables.specs.Types.{Defs}
-use Rattle.schema_types.specs.Sites.{OperationAt}
+use Rattle.plan_ir.specs.schema_tables.Types.{Defs}
+use Rattle.plan_ir.specs.schema_types.Sites.{OperationAt}
 
 pub returns-clause-kept : goal.returns-clause-kept
 returns-clause-kept c =

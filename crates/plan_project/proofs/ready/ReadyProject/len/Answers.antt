@@ -1,11 +1,11 @@
 -- There is one list of lines for each definition.
 use Rattle.std.proofs.Common.{rules, ◌≡◌, List, length, ap, ◌∙◌}
-use Rattle.gql_ast.specs.declared.document.Document.{Document}
-use Rattle.gql_ast.specs.declared.place.Placed.{Placed}
+use Rattle.plan_ir.specs.gql_ast.declared.document.Document.{Document}
+use Rattle.plan_ir.specs.gql_ast.declared.place.Placed.{Placed}
 use Rattle.plan_project.proofs.ArtifactSteps.{lists_length}
 use Rattle.plan_project.proofs.ready.ReadyProject.len.Goals as goal
 use Rattle.plan_project.specs.Expansions.{line_lists}
-use Rattle.schema_tables.specs.Types.{Defs}
+use Rattle.plan_ir.specs.schema_tables.Types.{Defs}
 
 pub returns : goal.returns
 returns c =

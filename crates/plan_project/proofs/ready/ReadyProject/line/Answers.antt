@@ -1,13 +1,13 @@
 -- The line of the definition of a number; behind the last there is none.
 use Rattle.std.proofs.Common.{◌≡◌, ◌<◌, ◌≤◌, List, [], get_or, length, ap, ◌∙◌, arith}
 use Rattle.std.proofs.lemmas.Result.{IfOk-weaker}
-use Rattle.doc_sites.specs.SitesView.{definition_of}
-use Rattle.gql_ast.specs.declared.document.Document.{Document}
-use Rattle.gql_ast.specs.declared.place.Placed.{Placed}
+use Rattle.plan_ir.specs.doc_sites.SitesView.{definition_of}
+use Rattle.plan_ir.specs.gql_ast.declared.document.Document.{Document}
+use Rattle.plan_ir.specs.gql_ast.declared.place.Placed.{Placed}
 use Rattle.plan_project.proofs.ArtifactSteps.{limits_at, line_is, no_line}
 use Rattle.plan_project.proofs.ready.ReadyProject.line.Goals as goal
 use Rattle.plan_project.specs.Expansions.{line_lists, lines_at, list_of}
-use Rattle.schema_tables.specs.Types.{Defs}
+use Rattle.plan_ir.specs.schema_tables.Types.{Defs}
 
 pub definition_line-requires-clause-within : goal.definition_line-requires-clause-within
 definition_line-requires-clause-within c =

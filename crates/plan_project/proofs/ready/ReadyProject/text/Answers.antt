@@ -1,12 +1,12 @@
 -- The text of the operation of a name: no operation breaks E1 or E2.
 use Rattle.std.proofs.Common.{◌≡◌, List, ap, ◌∙◌}
 use Rattle.std.proofs.lemmas.Result.{IfOk-weaker}
-use Rattle.gql_ast.specs.declared.document.Document.{Document}
-use Rattle.gql_ast.specs.declared.place.Placed.{Placed}
+use Rattle.plan_ir.specs.gql_ast.declared.document.Document.{Document}
+use Rattle.plan_ir.specs.gql_ast.declared.place.Placed.{Placed}
 use Rattle.plan_project.proofs.ArtifactSteps.{limits_named}
 use Rattle.plan_project.proofs.ready.ReadyProject.text.Goals as goal
 use Rattle.plan_project.specs.Expansions.{text_named}
-use Rattle.schema_tables.specs.Types.{Defs}
+use Rattle.plan_ir.specs.schema_tables.Types.{Defs}
 
 pub operation_text_of-requires-clause-few : goal.operation_text_of-requires-clause-few
 operation_text_of-requires-clause-few c =

@@ -1,10 +1,10 @@
 -- One more definition, and all of them.
 use Rattle.std.proofs.Common.{map, option_map, refl, ap, arith}
 use Rattle.std.specs.Option.{option_or}
-use Rattle.doc_sites.specs.SitesView.{definition_of}
+use Rattle.plan_ir.specs.doc_sites.SitesView.{definition_of}
 use Rattle.plan_ir.specs.Expansion.{operation_named}
 use Rattle.plan_read.specs.OperationsView.{operation_in, ready_operation}
-use Rattle.schema_types.specs.NameRules.{operations}
+use Rattle.plan_ir.specs.schema_types.NameRules.{operations}
 use Rattle.plan_read.proofs.Tables.{operation_before, or_end, or_next}
 use Rattle.plan_read.proofs.operations.Operations.of.Goals as goal
 

@@ -2,7 +2,7 @@
 use Rattle.std.proofs.Common.{◌≡◌, ◌+◌, ◌-◌, ◌<◌, ◌∷◌, List, length, map, drop, get_or, add-one, ap, sym, subst, ◌∙◌, arith}
 use Rattle.std.proofs.Math.Seq.{drop-cons}
 use Rattle.std.specs.Prelude.{ℕ}
-use Rattle.gql_graph.specs.Texts.{Text}
+use Rattle.schema_values.specs.gql_graph.Texts.{Text}
 use Rattle.relay_dirs.specs.Locals.{Local}
 use Rattle.relay_dirs.specs.Tables.{NamesFragments, pair_of}
 use Rattle.relay_dirs.specs.declared.fragments.FragmentLocals.{FragmentLocals}

@@ -1,8 +1,8 @@
 -- The local variables of the fragment in front.
 use Rattle.std.proofs.Common.{Bool, true, false, List, map, Some, Option, bytes_eq, cond, sym, subst}
 use Rattle.std.proofs.lemmas.Map.Text.{btree_map_updates_str}
-use Rattle.gql_ast.specs.declared.variable.VariableDef.{VariableDef}
-use Rattle.gql_graph.specs.Texts.{Text}
+use Rattle.gql_syntax.specs.gql_ast.declared.variable.VariableDef.{VariableDef}
+use Rattle.schema_values.specs.gql_graph.Texts.{Text}
 use Rattle.relay_dirs.specs.Locals.{Local}
 use Rattle.relay_dirs.specs.Tables.{Finds, Serves, locals_among, table_found}
 use Rattle.relay_dirs.specs.View.{local_view}

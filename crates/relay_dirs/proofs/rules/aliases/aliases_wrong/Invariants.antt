@@ -1,10 +1,10 @@
 -- What is noted and what is left are the whole.
 use Rattle.std.proofs.Common.{◌≡◌, map, drop}
-use Rattle.gql_graph.specs.Leasts.{least_from}
-use Rattle.gql_graph.specs.Rules.{each}
-use Rattle.doc_sites.specs.SitesView.{definition_of}
+use Rattle.schema_values.specs.gql_graph.Leasts.{least_from}
+use Rattle.schema_values.specs.gql_graph.Rules.{each}
+use Rattle.doc_uses.specs.doc_sites.SitesView.{definition_of}
 use Rattle.relay_dirs.specs.RelayRules as rules
-use Rattle.schema_types.specs.NameRules.{sites_of}
+use Rattle.schema_values.specs.schema_types.NameRules.{sites_of}
 use Rattle.relay_dirs.proofs.rules.aliases.aliases_wrong.Given as goal
 
 abbrev pub invariant-definitions : goal.invariant-definitions

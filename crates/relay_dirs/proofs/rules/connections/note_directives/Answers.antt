@@ -1,7 +1,7 @@
 -- One more of the list.
 use Rattle.std.proofs.Common.{arith}
-use Rattle.gql_graph.proofs.LeastSteps.{each_next}
-use Rattle.doc_sites.specs.SitesView.{directive_of}
+use Rattle.schema_values.proofs.gql_graph_laws.LeastSteps.{each_next}
+use Rattle.doc_uses.specs.doc_sites.SitesView.{directive_of}
 use Rattle.relay_dirs.specs.Connections as spec
 use Rattle.relay_dirs.proofs.rules.connections.note_directives.Goals as goal
 

@@ -1,7 +1,7 @@
 -- All so far name arguments.
 use Rattle.std.proofs.Common.{◌≡◌, map, drop}
-use Rattle.gql_ast.specs.Value.{vals_of}
-use Rattle.gql_ast.specs.ValueView.{value_of}
+use Rattle.gql_syntax.specs.gql_ast.Value.{vals_of}
+use Rattle.gql_syntax.specs.gql_ast.ValueView.{value_of}
 use Rattle.relay_dirs.specs.Connections.{are_among, argument_names}
 use Rattle.relay_dirs.proofs.rules.keys.are_among.Given as goal
 

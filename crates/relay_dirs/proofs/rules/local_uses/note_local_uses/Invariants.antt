@@ -1,10 +1,10 @@
 -- What is noted and what is left are the whole.
 use Rattle.std.proofs.Common.{◌≡◌, List, map, drop}
-use Rattle.gql_graph.specs.Leasts.{least_from}
-use Rattle.gql_graph.specs.Rules.{each}
-use Rattle.schema_types.specs.Sites.{FragmentAt}
-use Rattle.doc_sites.specs.Definitions.{on_fragment}
-use Rattle.doc_sites.specs.SitesView.{definition_of}
+use Rattle.schema_values.specs.gql_graph.Leasts.{least_from}
+use Rattle.schema_values.specs.gql_graph.Rules.{each}
+use Rattle.schema_values.specs.schema_types.Sites.{FragmentAt}
+use Rattle.doc_uses.specs.doc_sites.Definitions.{on_fragment}
+use Rattle.doc_uses.specs.doc_sites.SitesView.{definition_of}
 use Rattle.relay_dirs.specs.Spreads.{local_uses_wrong}
 use Rattle.relay_dirs.specs.Tables.{Suits}
 use Rattle.relay_dirs.proofs.rules.local_uses.note_local_uses.Given as goal

@@ -1,10 +1,10 @@
 -- One more of the list, and all of them.
 use Rattle.std.proofs.Common.{Option, ap, option_map, ◌∙◌, arith}
-use Rattle.gql_graph.proofs.LeastSteps.{each_next}
+use Rattle.schema_values.proofs.gql_graph_laws.LeastSteps.{each_next}
 use Rattle.relay_dirs.specs.Locals.{Local}
 use Rattle.relay_dirs.specs.Spreads.{is_allowed, local_use_wrong}
 use Rattle.doc_uses.specs.UseView.{place_of, use_of}
-use Rattle.doc_sites.proofs.ListSteps.{noted_end}
+use Rattle.doc_uses.proofs.doc_sites_laws.ListSteps.{noted_end}
 use Rattle.doc_uses.proofs.Steps.{noted_if_not}
 use Rattle.relay_dirs.proofs.rules.local_uses.note_uses.Goals as goal
 

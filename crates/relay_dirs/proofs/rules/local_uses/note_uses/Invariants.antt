@@ -1,7 +1,7 @@
 -- What is noted and what is left are the whole.
 use Rattle.std.proofs.Common.{◌≡◌, List, map, drop}
-use Rattle.gql_graph.specs.Leasts.{least_from}
-use Rattle.gql_graph.specs.Rules.{each}
+use Rattle.schema_values.specs.gql_graph.Leasts.{least_from}
+use Rattle.schema_values.specs.gql_graph.Rules.{each}
 use Rattle.relay_dirs.specs.Locals.{Local}
 use Rattle.relay_dirs.specs.Tables.{Serves}
 use Rattle.relay_dirs.specs.Spreads.{local_use_wrong}

@@ -1,8 +1,8 @@
 -- What is noted and what is left are the whole.
 use Rattle.std.proofs.Common.{◌≡◌, map, drop}
-use Rattle.gql_graph.specs.Leasts.{least_from}
-use Rattle.gql_graph.specs.Rules.{each}
-use Rattle.doc_sites.specs.SitesView.{directive_of}
+use Rattle.schema_values.specs.gql_graph.Leasts.{least_from}
+use Rattle.schema_values.specs.gql_graph.Rules.{each}
+use Rattle.doc_uses.specs.doc_sites.SitesView.{directive_of}
 use Rattle.relay_dirs.specs.RelayRules as rules
 use Rattle.relay_dirs.proofs.rules.masks.note_directives.Given as goal
 

@@ -1,13 +1,13 @@
 -- One more definition, and all of them.
 use Rattle.std.proofs.Common.{ℕ, List, arith}
-use Rattle.gql_graph.specs.Rules.{each}
-use Rattle.gql_graph.proofs.LeastSteps.{each_next}
-use Rattle.schema_tables.specs.Types.{Defs}
-use Rattle.schema_types.specs.NameRules.{sites_of}
-use Rattle.schema_types.specs.Sites.{FragmentAt, DefinitionAt}
-use Rattle.doc_sites.specs.SitesView.{definition_of}
+use Rattle.schema_values.specs.gql_graph.Rules.{each}
+use Rattle.schema_values.proofs.gql_graph_laws.LeastSteps.{each_next}
+use Rattle.schema_values.specs.schema_tables.Types.{Defs}
+use Rattle.schema_values.specs.schema_types.NameRules.{sites_of}
+use Rattle.schema_values.specs.schema_types.Sites.{FragmentAt, DefinitionAt}
+use Rattle.doc_uses.specs.doc_sites.SitesView.{definition_of}
 use Rattle.relay_dirs.specs.Spreads.{given_wrong_at}
-use Rattle.doc_sites.proofs.ListSteps.{noted_end}
+use Rattle.doc_uses.proofs.doc_sites_laws.ListSteps.{noted_end}
 use Rattle.relay_dirs.proofs.rules.spreads.note_given.Goals as goal
 
 abbrev in_definition : Defs → List FragmentAt → DefinitionAt → List ℕ

@@ -1,9 +1,9 @@
 -- One more selection, and all of them.
 use Rattle.std.proofs.Common.{arith}
-use Rattle.gql_graph.proofs.LeastSteps.{each_next}
-use Rattle.doc_sites.specs.SitesView.{site_of}
+use Rattle.schema_values.proofs.gql_graph_laws.LeastSteps.{each_next}
+use Rattle.doc_uses.specs.doc_sites.SitesView.{site_of}
 use Rattle.relay_dirs.specs.Spreads.{given_wrong_at}
-use Rattle.doc_sites.proofs.ListSteps.{noted_end}
+use Rattle.doc_uses.proofs.doc_sites_laws.ListSteps.{noted_end}
 use Rattle.relay_dirs.proofs.rules.spreads.note_given_among.Goals as goal
 
 pub sites-preserved : goal.sites-preserved

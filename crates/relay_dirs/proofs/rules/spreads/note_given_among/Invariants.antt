@@ -1,9 +1,9 @@
 -- What is noted and what is left are the whole.
 use Rattle.std.proofs.Common.{◌≡◌, List, map, drop}
-use Rattle.gql_graph.specs.Leasts.{least_from}
-use Rattle.gql_graph.specs.Rules.{each}
-use Rattle.schema_types.specs.Sites.{FragmentAt}
-use Rattle.doc_sites.specs.SitesView.{site_of}
+use Rattle.schema_values.specs.gql_graph.Leasts.{least_from}
+use Rattle.schema_values.specs.gql_graph.Rules.{each}
+use Rattle.schema_values.specs.schema_types.Sites.{FragmentAt}
+use Rattle.doc_uses.specs.doc_sites.SitesView.{site_of}
 use Rattle.relay_dirs.specs.Spreads.{given_wrong_at}
 use Rattle.relay_dirs.specs.Tables.{Suits}
 use Rattle.relay_dirs.proofs.rules.spreads.note_given_among.Given as goal

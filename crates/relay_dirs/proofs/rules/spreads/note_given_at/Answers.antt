@@ -1,10 +1,10 @@
 -- A spread may be wrong; other selections are not.
 use Rattle.std.proofs.Common.{◌≡◌, OnOk, List, map, ap, sym, subst}
-use Rattle.gql_graph.specs.Leasts.{least_from}
-use Rattle.schema_trees.specs.LocatedView.{name_of}
-use Rattle.doc_sites.specs.SitesView.{directive_of, site_of}
-use Rattle.doc_sites.specs.declared.site.DirectiveAt.{DirectiveAt}
-use Rattle.doc_sites.specs.declared.site.Site.{Site}
+use Rattle.schema_values.specs.gql_graph.Leasts.{least_from}
+use Rattle.schema_values.specs.schema_trees.LocatedView.{name_of}
+use Rattle.doc_uses.specs.doc_sites.SitesView.{directive_of, site_of}
+use Rattle.doc_uses.specs.doc_sites.declared.site.DirectiveAt.{DirectiveAt}
+use Rattle.doc_uses.specs.doc_sites.declared.site.Site.{Site}
 use Rattle.relay_dirs.specs.Spreads.{given_wrong_at, spread_wrong}
 use Rattle.relay_dirs.proofs.rules.spreads.note_given_at.Goals as goal
 

@@ -1,11 +1,11 @@
 -- The uses that are looked at are those of the spreads.
 use Rattle.std.proofs.Common.{◌≡◌, OnOk, ℕ, [], List, ◌++◌, map, ap, subst, ◌∙◌}
-use Rattle.gql_graph.specs.Leasts.{least_from}
-use Rattle.gql_graph.specs.Rules.{each}
-use Rattle.schema_types.specs.ArgumentRules as rules
-use Rattle.schema_types.specs.Sites as parts
-use Rattle.doc_sites.specs.SitesView.{operation_of, site_of}
-use Rattle.doc_sites.specs.declared.site.Site.{Site}
+use Rattle.schema_values.specs.gql_graph.Leasts.{least_from}
+use Rattle.schema_values.specs.gql_graph.Rules.{each}
+use Rattle.schema_values.specs.schema_types.ArgumentRules as rules
+use Rattle.schema_values.specs.schema_types.Sites as parts
+use Rattle.doc_uses.specs.doc_sites.SitesView.{operation_of, site_of}
+use Rattle.doc_uses.specs.doc_sites.declared.site.Site.{Site}
 use Rattle.doc_uses.specs.Parts.{uses_wrong_in}
 use Rattle.doc_uses.specs.UseView.{use_of}
 use Rattle.doc_uses.specs.declared.uses.Use.{Use}

@@ -9,8 +9,8 @@ use Rattle.relay_engine.specs.Kept.{Kept}
 use Rattle.relay_machine.specs.Machine.{State, Step, accept, is_layer, noticed, refuse, result_of, step_begin, unless, with_layer}
 use Rattle.relay_machine.specs.Printed.{event_line}
 use Rattle.relay_machine.specs.Refusals.{layer_taken, layers, most, too_many}
-use Rattle.store_model.specs.Events as events
-use Rattle.store_model.specs.declared.entry.Entry.{Entry}
+use Rattle.plan_ir.specs.store_model.Events as events
+use Rattle.plan_ir.specs.store_model.declared.entry.Entry.{Entry}
 
 pub returns-then-is_live-clause-step : goal.returns-then-is_live-clause-step
 returns-then-is_live-clause-step g c =

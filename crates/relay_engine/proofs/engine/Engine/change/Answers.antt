@@ -11,8 +11,8 @@ use Rattle.relay_engine.specs.Steps.{IsStep}
 use Rattle.relay_machine.specs.Machine.{noticed}
 use Rattle.store_layers.specs.Drafts.{Fits, placed}
 use Rattle.store_layers.specs.Layered.{view_of}
-use Rattle.store_model.specs.Records.{Records}
-use Rattle.store_read.specs.Reading.{slots}
+use Rattle.plan_ir.specs.store_model.Records.{Records}
+use Rattle.store_watch.specs.store_read.Reading.{slots}
 use Rattle.store_watch.specs.Watching.{DifferAt, Telling, Watch}
 
 pub with_notices-requires-clause-within : goal.with_notices-requires-clause-within

@@ -7,7 +7,7 @@ use Rattle.relay_engine.proofs.engine.Engine.confirm.Goals as goal
 use Rattle.relay_engine.specs.Kept.{Kept}
 use Rattle.relay_machine.specs.Machine.{accept, confirm, noticed, result_of}
 use Rattle.relay_machine.specs.Printed.{event_line}
-use Rattle.store_model.specs.Events as events
+use Rattle.plan_ir.specs.store_model.Events as events
 
 pub returns-in-Entry-clause-step : goal.returns-in-Entry-clause-step
 returns-in-Entry-clause-step g c =

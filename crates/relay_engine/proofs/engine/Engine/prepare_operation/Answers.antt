@@ -10,7 +10,7 @@ use Rattle.relay_engine.specs.Kept.{Kept}
 use Rattle.relay_machine.specs.Machine.{Handle, Step, accept, refuse, retain_operation, unless_failure, with_handle}
 use Rattle.relay_machine.specs.Printed.{event_line}
 use Rattle.relay_machine.specs.Refusals.{handles, most, too_many}
-use Rattle.schema_types.specs.Environments.{Failure, environment, first_failure}
+use Rattle.plan_ir.specs.schema_types.Environments.{Failure, environment, first_failure}
 
 pub returns-then-count-eq-MAX_HANDLES-clause-step : goal.returns-then-count-eq-MAX_HANDLES-clause-step
 returns-then-count-eq-MAX_HANDLES-clause-step g c = λ p s o stands keeps is name.

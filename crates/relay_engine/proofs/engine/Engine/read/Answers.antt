@@ -15,10 +15,10 @@ use Rattle.relay_machine.specs.Effects.{reads_of_target}
 use Rattle.relay_machine.specs.Machine.{Handle, PartShown, Step, accept, handle_named, shown, step_read, view}
 use Rattle.relay_machine.specs.Printed.{read_line}
 use Rattle.store_layers.specs.Layered.{view_of}
-use Rattle.store_model.specs.Events as events
-use Rattle.store_model.specs.Records.{Records}
-use Rattle.store_model.specs.Walks.{standings}
-use Rattle.store_read.specs.Reading.{slots}
+use Rattle.plan_ir.specs.store_model.Events as events
+use Rattle.plan_ir.specs.store_model.Records.{Records}
+use Rattle.plan_ir.specs.store_model.Walks.{standings}
+use Rattle.store_watch.specs.store_read.Reading.{slots}
 use Rattle.store_watch.specs.Rows.{look_of}
 use Rattle.store_watch.specs.Watching.{read_of, shows}
 

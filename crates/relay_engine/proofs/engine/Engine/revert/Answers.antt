@@ -19,8 +19,8 @@ use Rattle.store_layers.specs.Changed.{AreChanged}
 use Rattle.store_layers.specs.Drafts.{Fits, placed}
 use Rattle.store_layers.specs.Layered.{Layered, above, below, entries_of, from_on, is_live, reverted, view_of}
 use Rattle.store_layers.specs.Work.{counted}
-use Rattle.store_model.specs.Entries.{fold_entries}
-use Rattle.store_model.specs.Events as events
+use Rattle.plan_ir.specs.store_model.Entries.{fold_entries}
+use Rattle.plan_ir.specs.store_model.Events as events
 
 pub returns-then-not-is_live-clause-step : goal.returns-then-not-is_live-clause-step
 returns-then-not-is_live-clause-step g c =

@@ -10,7 +10,7 @@ use Rattle.relay_machine.specs.Machine as machine
 use Rattle.relay_machine.specs.Machine.{State, shown, started, view}
 use Rattle.relay_machine.specs.Printed.{watch_line}
 use Rattle.store_layers.specs.Layered.{view_of}
-use Rattle.store_read.specs.Reading.{reading_of, slots}
+use Rattle.store_watch.specs.store_read.Reading.{reading_of, slots}
 use Rattle.store_watch.specs.Rows.{look_of}
 use Rattle.store_watch.specs.Watching.{is_live, shows}
 

@@ -12,7 +12,7 @@ use Rattle.relay_engine.specs.RetainedReads.{KeepsRetainedReads}
 use Rattle.relay_engine.specs.Steps.{HasStepped}
 use Rattle.relay_engine.specs.Work.{AppliesAbove, IsWithinWork}
 use Rattle.relay_machine.specs.Machine.{step}
-use Rattle.store_model.specs.Events.{line_of}
+use Rattle.plan_ir.specs.store_model.Events.{line_of}
 
 pub returns-clause-step : goal.returns-clause-step
 returns-clause-step g c =

@@ -7,7 +7,7 @@ use Rattle.relay_engine.specs.Kept.{Kept}
 use Rattle.relay_engine.specs.Steps.{HasStepped}
 use Rattle.relay_engine.specs.Work.{IsWithinWork, is_collect}
 use Rattle.relay_machine.specs.Machine.{step_event, step_read, step_release, step_retain, step_unwatch, step_watch}
-use Rattle.store_model.specs.Events.{event}
+use Rattle.plan_ir.specs.store_model.Events.{event}
 
 pub returns-in-Retain-clause-step : goal.returns-in-Retain-clause-step
 returns-in-Retain-clause-step g c =

@@ -9,7 +9,7 @@ use Rattle.relay_engine.specs.Kept.{Kept}
 use Rattle.relay_engine.specs.Steps.{HasStepped}
 use Rattle.relay_engine.specs.Work.{AppliesAbove, IsWithinWork}
 use Rattle.relay_machine.specs.Machine.{step, step_line}
-use Rattle.store_model.specs.Events.{line_of}
+use Rattle.plan_ir.specs.store_model.Events.{line_of}
 
 pub returns-in-Ok-clause-step : goal.returns-in-Ok-clause-step
 returns-in-Ok-clause-step g c =

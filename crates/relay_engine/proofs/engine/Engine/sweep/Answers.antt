@@ -13,13 +13,13 @@ use Rattle.relay_machine.specs.Machine.{Project, State, Step, noticed, sweep_bas
 use Rattle.relay_machine.specs.Printed.{collect_line}
 use Rattle.store_layers.specs.Drafts.{Fits, placed}
 use Rattle.store_layers.specs.Layered.{swept, view_of}
-use Rattle.store_model.specs.Sweeps.{dropped}
-use Rattle.gql_plain.specs.Order.{has_text}
-use Rattle.store_read.specs.Reading.{slots}
+use Rattle.plan_ir.specs.store_model.Sweeps.{dropped}
+use Rattle.plan_ir.specs.gql_plain.Order.{has_text}
+use Rattle.store_watch.specs.store_read.Reading.{slots}
 use Rattle.store_retain.specs.Kept.{all_held, is_kept}
 use Rattle.store_retain.specs.Steps.{slots_of}
 use Rattle.store_watch.specs.Watching.{DifferAt}
-use Rattle.schema_tables.specs.Types.{Text}
+use Rattle.plan_ir.specs.schema_tables.Types.{Text}
 
 pub returns-clause-step : goal.returns-clause-step
 returns-clause-step g c =

@@ -5,7 +5,7 @@ use Rattle.relay_engine.specs.Answered.{Gives}
 use Rattle.relay_engine.specs.Stands.{StandsFor}
 use Rattle.relay_machine.specs.Machine as machine
 use Rattle.relay_machine.specs.Refusals as model
-use Rattle.store_model.specs.declared.entry.Entry as E
+use Rattle.plan_ir.specs.store_model.declared.entry.Entry as E
 
 pub returns-in-Some : goal.returns-in-Some
 returns-in-Some g c =

@@ -14,7 +14,7 @@ use Rattle.relay_engine.specs.Stands.{KeepsHandle, StandsFor}
 use Rattle.relay_machine.specs.Machine.{Handle, Project, State, Step, answer_to, first_refused, handle_named, of_verdict, refuse, said_to, unless, unless_unknown}
 use Rattle.relay_machine.specs.Refusals.{layers, too_many, unknown_handle}
 use Rattle.serde_json.specs.View.{view}
-use Rattle.store_model.specs.declared.entry.Entry.{Entry}
+use Rattle.plan_ir.specs.store_model.declared.entry.Entry.{Entry}
 
 pub returns-in_default : goal.returns-in_default
 returns-in_default g c = λ p s stands take.

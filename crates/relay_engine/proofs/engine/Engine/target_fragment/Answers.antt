@@ -1,14 +1,14 @@
 use Rattle.std.proofs.Common.{◌≡◌, [], ◌∷◌, None, Some, Option, map, ap, sym, ◌∙◌}
 use Rattle.event_script.specs.Seen.{part_seen}
-use Rattle.relay_dirs.specs.Locals.{locals_of}
-use Rattle.relay_dirs.specs.View.{local_view}
+use Rattle.plan_ir.specs.relay_dirs.Locals.{locals_of}
+use Rattle.plan_ir.specs.relay_dirs.View.{local_view}
 use Rattle.relay_engine.proofs.StepLaws.{failing, same_step}
 use Rattle.relay_engine.proofs.TargetLaws.{under_scope}
 use Rattle.relay_engine.proofs.engine.Engine.target_fragment.Goals as goal
 use Rattle.relay_engine.specs.Kept.{Kept}
 use Rattle.relay_machine.specs.Machine.{PartShown, Step, first_local_failure, fragment_read, of_fragment, scope_given, unless_failure}
-use Rattle.schema_types.specs.Environments.{Failure, Values}
-use Rattle.store_model.specs.Walks.{Found}
+use Rattle.plan_ir.specs.schema_types.Environments.{Failure, Values}
+use Rattle.plan_ir.specs.store_model.Walks.{Found}
 use Rattle.store_watch.specs.Rows.{look_of}
 
 pub returns-in_ok-what-in-Ok-clause-step : goal.returns-in_ok-what-in-Ok-clause-step

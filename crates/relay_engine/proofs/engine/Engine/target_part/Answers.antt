@@ -12,8 +12,8 @@ use Rattle.relay_engine.specs.Stands.{KeepsHandle, StandsFor}
 use Rattle.relay_engine.specs.Targets.{ReadsFragmentAt, ReadsPart, TargetsPart}
 use Rattle.relay_machine.specs.Machine.{Handle, PartShown, Project, State, Step, of_fragment, of_part, refuse, unless}
 use Rattle.relay_machine.specs.Refusals.{too_many, unknown_fragment, watches}
-use Rattle.schema_types.specs.Sites.{FragmentAt}
-use Rattle.store_model.specs.Events.{Part}
+use Rattle.plan_ir.specs.schema_types.Sites.{FragmentAt}
+use Rattle.plan_ir.specs.store_model.Events.{Part}
 
 pub returns-in_default-clause-step : goal.returns-in_default-clause-step
 returns-in_default-clause-step g c = λ p s h stands keeps take.

@@ -10,8 +10,8 @@ use Rattle.relay_engine.specs.Stands.{KeepsHandle, StandsFor}
 use Rattle.relay_engine.specs.Targets.{ReadsPart, TargetsPart}
 use Rattle.relay_machine.specs.Machine.{Handle, PartShown, Project, State, Step, of_part, refuse, unless}
 use Rattle.relay_machine.specs.Refusals.{too_many, watches}
-use Rattle.store_model.specs.Events.{Part}
-use Rattle.store_model.specs.Walks.{Found}
+use Rattle.plan_ir.specs.store_model.Events.{Part}
+use Rattle.plan_ir.specs.store_model.Walks.{Found}
 
 pub returns-then-is_full-clause-step : goal.returns-then-is_full-clause-step
 returns-then-is_full-clause-step g c =

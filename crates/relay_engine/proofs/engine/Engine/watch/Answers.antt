@@ -13,10 +13,10 @@ use Rattle.relay_engine.specs.Targets.{ReadsTarget, Targets}
 use Rattle.relay_machine.specs.Effects.{reads_of_target}
 use Rattle.relay_machine.specs.Machine.{Handle, PartShown, Project, State, Step, handle_named, is_watch, of_target, refuse, start_watch, step_watch, unless, view}
 use Rattle.relay_machine.specs.Refusals.{most, too_many, watch_taken, watches}
-use Rattle.store_model.specs.Events as events
-use Rattle.store_model.specs.Records.{Records}
-use Rattle.store_model.specs.Walks.{standings}
-use Rattle.store_read.specs.Reading.{slots}
+use Rattle.plan_ir.specs.store_model.Events as events
+use Rattle.plan_ir.specs.store_model.Records.{Records}
+use Rattle.plan_ir.specs.store_model.Walks.{standings}
+use Rattle.store_watch.specs.store_read.Reading.{slots}
 use Rattle.store_watch.specs.Rows.{look_of}
 use Rattle.store_watch.specs.Watching.{is_live, read_of}
 

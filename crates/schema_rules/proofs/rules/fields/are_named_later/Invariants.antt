@@ -1,6 +1,6 @@
 -- If those that are left are not before the least place, none is.
 use Rattle.std.proofs.Common.{◌≡◌, List, map, drop}
-use Rattle.gql_ast.specs.declared.member.InputTree.{InputTree}
+use Rattle.schema_trees.specs.gql_ast.declared.member.InputTree.{InputTree}
 use Rattle.gql_graph.specs.Leasts.{least_from}
 use Rattle.schema_trees.specs.LocatedView.{input_of}
 use Rattle.schema_rules.specs.Rules as rules

@@ -1,10 +1,10 @@
 -- What has a place is there.
 use Rattle.std.proofs.Common.{ℕ, List, Option, is_some, bytes_eq, ap, sym, subst, ◌∙◌}
-use Rattle.gql_ast.specs.declared.member.InputTree.{InputTree}
+use Rattle.schema_trees.specs.gql_ast.declared.member.InputTree.{InputTree}
 use Rattle.schema_rules.proofs.FoundAt.{placed_is_there, input_named-first}
 use Rattle.schema_rules.proofs.rules.fields.is_wanted.Goals as goal
-use Rattle.schema_tables.specs.Indexes.{IsNameIndex, input_name, is_named}
-use Rattle.schema_tables.specs.Places.{first_at}
+use Rattle.schema_trees.specs.schema_tables.Indexes.{IsNameIndex, input_name, is_named}
+use Rattle.schema_trees.specs.schema_tables.Places.{first_at}
 
 pub find-requires : goal.find-requires
 find-requires c = subst (λ (is : List InputTree). IsNameIndex input_name is c.args.places.now) (sym c.as_slice.ensures) c.requires

@@ -1,6 +1,6 @@
 -- The count decides whether the type lacks a field.
 use Rattle.std.proofs.Common.{List, ltb, length, map, ap, ◌∙◌}
-use Rattle.gql_ast.specs.declared.member.FieldTree.{FieldTree}
+use Rattle.schema_trees.specs.gql_ast.declared.member.FieldTree.{FieldTree}
 use Rattle.gql_graph.specs.Leasts.{least_from}
 use Rattle.gql_graph.specs.Rules.{wrong}
 use Rattle.schema_trees.specs.LocatedView.{field_of}

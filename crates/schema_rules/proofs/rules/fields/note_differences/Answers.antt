@@ -1,6 +1,6 @@
 -- One more field of the interface.
 use Rattle.std.proofs.Common.{map, Option, ap, ◌∙◌, arith}
-use Rattle.gql_ast.specs.declared.member.FieldTree.{FieldTree}
+use Rattle.schema_trees.specs.gql_ast.declared.member.FieldTree.{FieldTree}
 use Rattle.gql_graph.specs.Leasts.{least_from}
 use Rattle.schema_trees.specs.Located.{FieldAt}
 use Rattle.schema_trees.specs.LocatedView.{field_of}

@@ -2,7 +2,7 @@
 use Rattle.std.proofs.Common.{List, [], ap, arith}
 use Rattle.schema_rules.specs.Needing.{needing}
 use Rattle.schema_rules.specs.Rules as rules
-use Rattle.schema_tables.specs.Types.{Text, Defs}
+use Rattle.schema_trees.specs.schema_tables.Types.{Text, Defs}
 use Rattle.gql_graph.proofs.Graphs.{tells_held, pairs_next, pairs_end}
 use Rattle.schema_rules.proofs.NeededTypes.{next_needing}
 use Rattle.schema_rules.proofs.rules.needs.needs.Goals as goal

@@ -1,7 +1,7 @@
 -- What is collected and what is left are the whole.
 use Rattle.std.proofs.Common.{◌≡◌, ◌++◌, map, drop}
 use Rattle.std.specs.List.{filter_map}
-use Rattle.gql_ast.specs.TypeView.{ty_of}
+use Rattle.schema_trees.specs.gql_ast.TypeView.{ty_of}
 use Rattle.schema_rules.specs.Rules as rules
 use Rattle.schema_rules.proofs.rules.needs.needs_of.Given as goal
 

@@ -1,6 +1,6 @@
 -- An input type with what it needs.
 use Rattle.std.proofs.Common.{◌≡◌, OnOk, List, [], ◌∷◌, ◌++◌, map, ap, sym, subst, ◌∙◌}
-use Rattle.gql_ast.specs.declared.schema.SchemaDef.{SchemaDef}
+use Rattle.schema_trees.specs.gql_ast.declared.schema.SchemaDef.{SchemaDef}
 use Rattle.gql_graph.specs.Graphs.{Holds}
 use Rattle.schema_rules.specs.Needing.{needing}
 use Rattle.gql_graph.specs.Texts.{Text}

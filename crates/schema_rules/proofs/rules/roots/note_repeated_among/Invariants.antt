@@ -1,6 +1,6 @@
 -- The marks stand for the kinds before; what is noted and what is left are the whole.
 use Rattle.std.proofs.Common.{◌≡◌, List, [], map, drop}
-use Rattle.gql_ast.specs.declared.document.Kind.{Kind}
+use Rattle.schema_trees.specs.gql_ast.declared.document.Kind.{Kind}
 use Rattle.schema_rules.specs.Kinds.{KnowsKinds}
 use Rattle.gql_graph.specs.Leasts.{least_from}
 use Rattle.schema_trees.specs.LocatedView.{root_of}

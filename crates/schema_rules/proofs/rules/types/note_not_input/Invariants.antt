@@ -3,7 +3,7 @@ use Rattle.std.proofs.Common.{◌≡◌, map, drop}
 use Rattle.gql_graph.specs.Leasts.{least_from}
 use Rattle.schema_trees.specs.LocatedView.{input_of}
 use Rattle.schema_rules.specs.Rules as rules
-use Rattle.schema_tables.specs.Types as types
+use Rattle.schema_trees.specs.schema_tables.Types as types
 use Rattle.schema_rules.proofs.rules.types.note_not_input.Given as goal
 
 abbrev pub invariant-inputs : goal.invariant-inputs

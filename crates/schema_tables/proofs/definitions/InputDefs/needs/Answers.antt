@@ -1,5 +1,5 @@
 use Rattle.std.proofs.Common.{is_some, ap, ◌∙◌}
-use Rattle.gql_plain.specs.Order.{has_text}
+use Rattle.gql_graph.specs.gql_plain.Order.{has_text}
 use Rattle.schema_tables.proofs.InputsFound.{needed}
 use Rattle.schema_tables.proofs.definitions.InputDefs.needs.Goals as goal
 use Rattle.schema_tables.specs.Required.{required_names}

@@ -1,4 +1,4 @@
-use Rattle.gql_plain.proofs.InOrder.{AreInOrder-none}
+use Rattle.gql_ast.proofs.gql_plain_laws.InOrder.{AreInOrder-none}
 use Rattle.std.proofs.Common.{refl}
 use Rattle.schema_tables.proofs.definitions.TypeFields.none.Goals as goal
 

@@ -1,7 +1,7 @@
 -- The tables are of the definitions.
 use Rattle.std.proofs.Common.{sym, ap, ◌∙◌}
 use Rattle.schema_rules.specs.Checked.{first_fault}
-use Rattle.schema_tables.specs.Types.{Defs}
+use Rattle.schema_rules.specs.schema_tables.Types.{Defs}
 use Rattle.schema_types.proofs.schema.Schema.build.Goals as goal
 
 pub returns-in-Some-clause-fault : goal.returns-in-Some-clause-fault

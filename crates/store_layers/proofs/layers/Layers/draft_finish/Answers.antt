@@ -1,5 +1,5 @@
 use Rattle.std.proofs.Common.{◌≡◌, ◌+◌, ◌*◌, ◌≤◌, ◌∷◌, sym, ◌∙◌, subst}
-use Rattle.store_model.specs.Entries.{apply}
+use Rattle.store_update.specs.store_model.Entries.{apply}
 use Rattle.store_layers.proofs.Removed.{without_entries}
 use Rattle.store_layers.proofs.layers.Layers.draft_finish.Goals as goal
 use Rattle.store_layers.specs.Changed.{AreChanged}

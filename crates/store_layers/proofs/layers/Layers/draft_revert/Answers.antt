@@ -1,5 +1,5 @@
 use Rattle.std.proofs.Common.{◌≡◌, ◌+◌, ◌*◌, ◌≤◌, drop, sym, ◌∙◌, subst}
-use Rattle.store_model.specs.Entries.{fold_entries}
+use Rattle.store_update.specs.store_model.Entries.{fold_entries}
 use Rattle.store_layers.proofs.Removed.{below_entries, from_on_entries, above_entries}
 use Rattle.store_layers.proofs.layers.Layers.draft_revert.Goals as goal
 use Rattle.store_layers.specs.Changed.{AreChanged}

@@ -1,11 +1,11 @@
 use Rattle.std.proofs.Common.{◌≡◌, List, [], sym, ap, ◌∙◌, subst}
-use Rattle.gql_plain.specs.Order.{has_text}
-use Rattle.store_model.specs.Sweeps.{dropped}
+use Rattle.store_update.specs.gql_plain.Order.{has_text}
+use Rattle.store_update.specs.store_model.Sweeps.{dropped}
 use Rattle.store_layers.proofs.Swept.{base_swept}
 use Rattle.store_layers.proofs.layers.Layers.draft_sweep.Goals as goal
 use Rattle.store_layers.specs.Layered.{Layered, Layer, entries_of, swept}
 use Rattle.store_layers.specs.Versions.{AreVersions, shown}
-use Rattle.store_model.specs.Entries.{fold_entries}
+use Rattle.store_update.specs.store_model.Entries.{fold_entries}
 
 pub returns-clause-fits : goal.returns-clause-fits
 returns-clause-fits g c =

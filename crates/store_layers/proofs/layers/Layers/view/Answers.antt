@@ -1,5 +1,5 @@
 use Rattle.std.proofs.Common.{ap, ◌∙◌}
-use Rattle.store_layers.proofs.Versions.{newest_is}
+use Rattle.store_layers.proofs.VersionSteps.{newest_is}
 use Rattle.store_layers.proofs.layers.Layers.view.Goals as goal
 use Rattle.store_layers.specs.Layered.{entries_of, view_of}
 use Rattle.store_layers.specs.Versions.{shown, newest, layers_of}

@@ -1,7 +1,7 @@
 -- One more owner of the key that is kept.
 use Rattle.std.proofs.Common.{◌≡◌, option_copied, ap, ◌∙◌}
 use Rattle.std.proofs.lemmas.Result.{IfOk-weaker}
-use Rattle.store_model.specs.Items.{key_of}
+use Rattle.plan_ir.specs.store_model.Items.{key_of}
 use Rattle.store_read.proofs.field.FieldAt.own_key.Goals as goal
 use Rattle.store_read.specs.FieldView.{ask_at}
 

@@ -3,7 +3,7 @@ use Rattle.std.proofs.Common.{◌≡◌, ◌+◌, ◌*◌, drop}
 use Rattle.plan_ir.specs.Reader.{depth}
 use Rattle.plan_ir.specs.ReaderMeaning.{collect_reading}
 use Rattle.plan_ir.specs.ReaderView.{step_of, steps_of}
-use Rattle.store_model.specs.Items.{asked_of, grouped_onto}
+use Rattle.plan_ir.specs.store_model.Items.{asked_of, grouped_onto}
 use Rattle.store_read.specs.Gathering.{groups_in, spreads_in, IsPlaced}
 use Rattle.store_read.specs.Spreads.{pointers_onto}
 use Rattle.store_read.proofs.gathered.Gathered.+gather.Given as goal

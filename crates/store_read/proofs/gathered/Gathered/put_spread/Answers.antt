@@ -2,7 +2,7 @@
 use Rattle.std.proofs.Common.{◌≡◌, true, false, ◌∷◌, [], ◌++◌, map, is_some, option_copied, ap, sym, ◌∙◌}
 use Rattle.std.proofs.lemmas.List.{map-append}
 use Rattle.std.proofs.lemmas.Map.Text.{btree_map_updates_str}
-use Rattle.gql_plain.specs.Order.{has_text}
+use Rattle.plan_ir.specs.gql_plain.Order.{has_text}
 use Rattle.store_read.proofs.SpreadSteps.{known_more, pointer_known, pointer_new}
 use Rattle.store_read.proofs.gathered.Gathered.put_spread.Goals as goal
 use Rattle.store_read.specs.FieldView.{spread_at}

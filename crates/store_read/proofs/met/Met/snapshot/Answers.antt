@@ -1,7 +1,7 @@
 -- The ids are the distinct ones in byte order.
 use Rattle.std.proofs.Common.{◌≡◌, ap, ◌∙◌}
-use Rattle.gql_plain.proofs.SortedTexts.{AreSortedOf-is}
-use Rattle.gql_plain.specs.Order.{sorted_texts}
+use Rattle.plan_ir.proofs.gql_plain_laws.SortedTexts.{AreSortedOf-is}
+use Rattle.plan_ir.specs.gql_plain.Order.{sorted_texts}
 use Rattle.store_read.proofs.met.Met.snapshot.Goals as goal
 use Rattle.store_read.specs.Meeting.{Meeting}
 

@@ -1,9 +1,9 @@
 use Rattle.std.proofs.Common.{option_map, ap, ◌∙◌}
-use Rattle.gql_plain.specs.declared.plain.Plain.TheVariants.{Text as Words}
+use Rattle.gql_order.specs.gql_plain.declared.plain.Plain.TheVariants.{Text as Words}
 use Rattle.store_model.specs.Records.{typename}
 use Rattle.store_model.specs.Says.{put_at}
-use Rattle.store_record.specs.Keys.{Text}
-use Rattle.store_record.specs.declared.field.Field.TheVariants.{Leaf}
+use Rattle.store_model.specs.store_record.Keys.{Text}
+use Rattle.store_model.specs.store_record.declared.field.Field.TheVariants.{Leaf}
 use Rattle.store_report.proofs.GatherSteps.{with_put}
 use Rattle.store_report.proofs.gathered.Gathered.name.Goals as goal
 use Rattle.store_report.specs.Gathering.{gathered_onto}

@@ -1,7 +1,7 @@
 -- One more id, and all of them in order.
 use Rattle.std.proofs.Common.{◌≡◌, ap, ◌∙◌}
 use Rattle.std.proofs.lemmas.Result.{IfOk-weaker}
-use Rattle.gql_plain.specs.Order.{AreSortedOf, has_text}
+use Rattle.plan_ir.specs.gql_plain.Order.{AreSortedOf, has_text}
 use Rattle.store_retain.proofs.CommonSteps.{sorted_has, texts_end, texts_next}
 use Rattle.store_retain.proofs.found.Found.all_ids.Goals as goal
 use Rattle.store_retain.specs.Steps.{Found}

@@ -1,5 +1,5 @@
 use Rattle.std.proofs.Common.{◌||◌, bytes_eq, ap, ◌∙◌, map}
-use Rattle.gql_plain.specs.Order.{has_text}
+use Rattle.plan_ir.specs.gql_plain.Order.{has_text}
 use Rattle.store_retain.proofs.Sets.{any_text}
 use Rattle.store_retain.specs.Steps.{Found}
 use Rattle.store_retain.proofs.found.Found.see.Goals as goal

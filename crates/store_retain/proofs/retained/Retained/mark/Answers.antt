@@ -1,7 +1,7 @@
 -- What live handles hold, and then what was released.
 use Rattle.std.proofs.Common.{◌≡◌, ◌∙◌}
 use Rattle.std.proofs.lemmas.Result.{IfOk-weaker}
-use Rattle.gql_plain.specs.Order.{has_text}
+use Rattle.plan_ir.specs.gql_plain.Order.{has_text}
 use Rattle.store_retain.proofs.MarkSteps.{kept_all}
 use Rattle.store_retain.proofs.retained.Retained.mark.Goals as goal
 use Rattle.store_retain.specs.Kept.{all_held, is_kept}

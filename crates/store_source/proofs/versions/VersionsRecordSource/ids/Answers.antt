@@ -1,7 +1,7 @@
 use Rattle.std.proofs.Common.{◌≡◌, ◌++◌, ◌∙◌, ap, arith}
 use Rattle.std.proofs.lemmas.Result.{IfOk-weaker}
 use Rattle.std.specs.FinMap.{from_sorted, keys}
-use Rattle.gql_plain.specs.Order.{AreSortedOf}
+use Rattle.store_tree.specs.gql_plain.Order.{AreSortedOf}
 use Rattle.store_tree.specs.Contents.{keys_of}
 use Rattle.store_source.proofs.InMemory.{no_length}
 use Rattle.store_source.proofs.Laid.{bare_keys, laid_keys}

@@ -1,6 +1,6 @@
 use Rattle.std.proofs.Common.{◌≡◌, ◌+◌, ◌≤◌, ap, sym, subst, ◌∙◌}
 use Rattle.std.specs.Map.{values_of}
-use Rattle.store_model.specs.Walks.{Slots}
+use Rattle.plan_ir.specs.store_model.Walks.{Slots}
 use Rattle.store_read.specs.Reading.{slots}
 use Rattle.store_watch.proofs.Told.{all_shown, notices_rise, notices_within, others_shown, told_all, work_all}
 use Rattle.store_watch.specs.Lists.{under}
