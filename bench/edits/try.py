@@ -7,19 +7,14 @@ and over sources else. An edit that changes definitions alone is tried on the wh
 it and what it said first. The status is 0 if each was refused. It calls parts of `rt` itself, so it goes with the kit that it was written for.
 """
 import glob
-import importlib.machinery
-import importlib.util
 import os
 import re
-import shutil
 import subprocess
 import sys
 
 HERE = os.path.dirname(os.path.abspath(__file__))
-loader = importlib.machinery.SourceFileLoader("rt", shutil.which("rt"))
-rt = importlib.util.module_from_spec(importlib.util.spec_from_loader("rt", loader))
-sys.modules["rt"] = rt
-loader.exec_module(rt)
+sys.path.insert(0, f"{HERE}/../gate")
+from kit import rt
 
 def module_of(path):
     """The path of the module that a file of src/ is."""

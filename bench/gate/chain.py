@@ -6,12 +6,15 @@ is none, and four more for crates that are urgent). The crates with the longest 
 at each of them, the first of all before the others; the rest get one, and what is left. Words in the file `hold` keep crates back, those in
 `urgent` come first, those in `calm` last, and a crate that failed is tried again once its name stands in `retry`. Crates that are named behind
 the folder count as passed. What happens is told in `log` there, what each crate said in `said/NAME`. With edits in the folder `rt ci` tries those of all crates below a crate first, so take the `must-fail/` folders away in a copy of the repository, and try the edits in another.
+It wants a kit that keeps what `rt ci NAME` passed; where none does, `rt ci` alone is the gate.
 """
 import glob
 import os
 import subprocess
 import sys
 import time
+
+from kit import want_kept
 
 ROOT = os.path.abspath(sys.argv[1])
 HERE = os.path.join(os.path.dirname(ROOT), "chain.state")
@@ -95,6 +98,7 @@ def main():
         if not running and not ready and not words("hold") and failed:
             sys.exit(f"failed: {' '.join(sorted(failed))}")
 
+want_kept()
 os.makedirs(f"{HERE}/said", exist_ok=True)
 BEGUN = time.time()
 main()

@@ -5,20 +5,14 @@ So a crate can be worked on before those below it are proved: run give.py first.
 `--only PATH` the functions of those sources that are called are checked too. The flags are those of `rattle check`. It calls parts of `rt`
 itself, so it goes with the kit that it was written for.
 """
-import importlib.machinery
-import importlib.util
 import os
-import shutil
 import subprocess
 import sys
 import tempfile
 
-KIT = "/opt/rattle"
-loader = importlib.machinery.SourceFileLoader("rt", shutil.which("rt"))
-rt = importlib.util.module_from_spec(importlib.util.spec_from_loader("rt", loader))
-sys.modules["rt"] = rt
-loader.exec_module(rt)
-rt.rtlib.Crate = rt.Crate
+from kit import rt
+
+KIT = rt.KIT
 crate = next(it for it in rt.rtlib.crates_below(os.getcwd()) if it.name == sys.argv[1])
 below, built = crate.below(), set()
 for dep in below:

@@ -7,21 +7,14 @@ the first of these is checked from nothing. The numbers come from wait4(2): they
 and all its own children used, whatever ran beside it.
 """
 
-import importlib.machinery
-import importlib.util
 import os
-import shutil
 import subprocess
 import sys
 import threading
 
+from kit import PLACE, rt
+
 records, words = sys.argv[1], sys.argv[2:]
-place = os.path.realpath(shutil.which("rt"))
-loader = importlib.machinery.SourceFileLoader("rt_command", place)
-spec = importlib.util.spec_from_loader("rt_command", loader)
-rt = importlib.util.module_from_spec(spec)
-sys.modules["rt_command"] = rt
-loader.exec_module(rt)
 here, lock = threading.local(), threading.Lock()
 
 
@@ -58,7 +51,7 @@ def waited(self, flags):
 rt.must_fail = labelled(rt.must_fail, lambda crate, edit, *more: ("edit", os.path.basename(edit)[: -len(".edit")]))
 rt.checked = labelled(rt.checked, lambda crate, *more: ("seed", ""))
 subprocess.Popen._try_wait = waited
-sys.argv[0] = place
+sys.argv[0] = PLACE
 status = rt.main(words)
 sys.stdout.flush()
 sys.exit(status)
