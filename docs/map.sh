@@ -1,13 +1,18 @@
 #!/bin/bash
 # Writes the picture of the crates between the two marks of MAP.md, from crates.txt: a line a level,
-# lowest last, and of each crate those that it stands on, but for those that follow from the others.
-# With --check nothing is written, and the status is 1 where the picture is not that of crates.txt.
+# lowest last, and of each crate those that it stands on, but for those that follow from the others;
+# and behind it how many ways lead down from one crate to another, which is what `rt` pays for.
+# With --check nothing is written, and the status is 1 where the picture is not that of crates.txt,
+# or where there are more ways than are allowed.
 set -eu
 cd "$(dirname "$0")"
 exec python3 - "$@" <<'END'
 import sys
 
-ALL_BELOW, LEVELS = {}, {}
+ALL_BELOW, LEVELS, WAYS = {}, {}, {}
+# A kit may walk each way for each crate that it proves, and read the files of each crate on it. So the
+# time before and between the proofs grows with this number.
+MOST_WAYS = 20_000
 BEGIN, END = "<!-- picture: made by docs/map.sh -->\n", "<!-- end of the picture -->\n"
 
 def crates_of(path):
@@ -33,6 +38,12 @@ def level(crates, crate):
         LEVELS[crate] = max((level(crates, dep) + 1 for dep in crates[crate]), default=0)
     return LEVELS[crate]
 
+def ways(crates, crate):
+    """How many ways lead down from a crate to one that it stands on, through others too."""
+    if crate not in WAYS:
+        WAYS[crate] = sum(1 + ways(crates, dep) for dep in crates[crate])
+    return WAYS[crate]
+
 def line_of(crates, number):
     """The crates of a level, those together that stand on the same ones."""
     groups = {}
@@ -41,9 +52,13 @@ def line_of(crates, number):
     told = [f"{', '.join(above)} -> {', '.join(below)}" if below else ", ".join(above) for below, above in groups.items()]
     return f"{number}  {' | '.join(told)}\n"
 
+def all_ways(crates):
+    return sum(ways(crates, it) for it in crates)
+
 def picture(crates):
     levels = range(max(level(crates, it) for it in crates), -1, -1)
-    return f"```\n{''.join(line_of(crates, number) for number in levels)}```\n"
+    told = f"{all_ways(crates):,} ways lead down from one crate to another. At most {MOST_WAYS:,} are allowed.\n"
+    return f"```\n{''.join(line_of(crates, number) for number in levels)}```\n\n{told}"
 
 if sys.argv[1:] not in ([], ["--check"]):
     sys.exit("usage: docs/map.sh [--check]")
@@ -52,10 +67,14 @@ before, _, rest = text.partition(BEGIN)
 _, mark, after = rest.partition(END)
 if not mark:
     sys.exit("docs/MAP.md has not the two marks of the picture")
-made = f"{before}{BEGIN}{picture(crates_of('../crates.txt'))}{END}{after}"
+crates = crates_of("../crates.txt")
+made = f"{before}{BEGIN}{picture(crates)}{END}{after}"
 if sys.argv[1:] == ["--check"]:
     if made != text:
         sys.exit("the picture in docs/MAP.md is not that of crates.txt: run docs/map.sh")
+    if all_ways(crates) > MOST_WAYS:
+        sys.exit(f"crates.txt has {all_ways(crates):,} ways from one crate down to another, more than {MOST_WAYS:,}: "
+                 "let crates list fewer, and take what is below from those that they list (docs/MAP.md)")
 else:
     open("MAP.md", "w", encoding="utf-8").write(made)
 END
