@@ -1,0 +1,15 @@
+//! The keys that reads look at.
+ghost use Rattle.masked_keys.specs.Laws.{FragmentsLookAtTheirKeys, OperationsLookAtTheirKeys};
+
+/// Law: each key that the read of an operation looks at is that of a field which stands in the
+/// operation's text, in that of a spread with `@relay(mask: false)`, or in that of an `@inline`
+/// fragment, and so on through these two.
+pub fn operations_look_at_their_keys()
+    ensures { OperationsLookAtTheirKeys }
+{}
+
+/// Law: each key that the read of a fragment looks at is that of a field which stands in the fragment's
+/// text, and so on in the same way. No text of another fragment counts.
+pub fn fragments_look_at_their_keys()
+    ensures { FragmentsLookAtTheirKeys }
+{}
