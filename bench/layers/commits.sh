@@ -17,7 +17,7 @@ cd "$folder"
 make_program() {
     git clone -q "$repository" repo
     cd repo
-    python3 "$here/../gate/cut.py" store_layers
+    python3 "$here/../../tools/gate/cut.py" store_layers
     for crate in crates/*; do
         if [ -d "$repository/$crate/out/rlib" ]; then
             mkdir "$crate/out"

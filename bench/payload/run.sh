@@ -26,7 +26,7 @@ cd "$folder"
 make_program() {
     git clone -q "$repository" repo
     cd repo
-    python3 "$here/../gate/cut.py" store_norm
+    python3 "$here/../../tools/gate/cut.py" store_norm
     for crate in crates/*; do
         if [ -d "$repository/$crate/out/rlib" ]; then
             mkdir "$crate/out"
