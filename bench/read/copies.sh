@@ -21,7 +21,7 @@ rm -rf crates/copier/{src,specs,proofs,stdin,stdout,BUILD.bazel}
 mkdir crates/copier/src
 echo 'copier: gql_plain serde_json' >> crates.txt
 cat > crates/copier/src/main.rt <<'END'
-//! Reads a line, and copies its data so often.
+//! Reads a line, and copies its data as often as it is asked to.
 #![tactic(auto)]
 
 use gql_plain::{Plain, plain_of};
@@ -46,7 +46,7 @@ fn plain_data(alloc: Global, data: &Value) -> Plain {
     }
 }
 
-/// Whether a copy was made; it is let go.
+/// Whether a copy was made; it is dropped.
 fn is_copied(plain: &Plain) -> bool {
     match plain.copy() {
         Ok(_) => true,

@@ -1,6 +1,6 @@
 #!/bin/bash
 # Times the built program on the scripts of a bench: run.sh BENCH [PROGRAM [WORD..]] runs the rows of bench/BENCH/rows.py, in a folder of
-# its own, and says of each script whether its last line is the expected one. With words it runs only the rows whose names have one of
+# its own, and says of each script whether its last line is the expected one. With more arguments it runs only the rows whose names have one of
 # them. ROUNDS=N takes N rounds in place of five; COUNT=1 counts instructions by valgrind in place of times. What bench/BENCH/make.sh
 # makes, where there is one, stands in the folder too.
 # Build the program first: cd crates/relay_run && rt run -- run 10 data/schema.graphql data/q.graphql < stdin
