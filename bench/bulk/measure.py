@@ -1,7 +1,7 @@
 """Times the program on the scripts of this bench, beside a plain program where one is named: measure.py PROGRAM [BASELINE].
 
-The whole output is held against that of the plain program, byte for byte, and the last lines against those that are due. Where the
-program takes the words `bulk`, they are timed too, and their summary is held against the one of that output."""
+The whole output is compared with that of the plain program, byte for byte, and the last lines against the expected ones. Where the
+program takes the arguments `bulk`, they are timed too, and their summary is compared with the one of that output."""
 
 import os, subprocess, sys, time
 import script
@@ -40,7 +40,7 @@ class Scripts:
         last = subprocess.check_output(["tail", "-n", "2", output], text=True).splitlines()
         wrong = []
         if self.name == "updates" and last != script.last_of_updates(count):
-            wrong.append("the last lines are not those that are due")
+            wrong.append("the last lines are not the expected ones")
         if baseline and not is_same(output, f"{output}-plain"):
             wrong.append("the plain program writes otherwise")
         return wrong, script.summary(output, count)
@@ -81,13 +81,13 @@ class Scripts:
             cells = [f"{self.name:8} {count:8} {took*1e3:7.0f} {clock*1e3:7.0f} {peak:6.0f} {f'{took/half:.2f}' if half else '':>6}",
                      f"{plain[0]*1e3:7.0f} {plain[2]:6.0f} {took/plain[0]:6.2f}" if plain else " " * 21,
                      f"{words[0]*1e3:7.0f} {words[1]*1e3:7.0f} {words[2]:6.0f}" + (f" {words[0]/plain[0]:6.2f}" if plain else "") if words else ""]
-            print(" ".join(cells), "; ".join(wrongs[count]) or "as due", flush=True)
+            print(" ".join(cells), "; ".join(wrongs[count]) or "as expected", flush=True)
             half = took
 
 program, baseline = sys.argv[1], (sys.argv[2:] or [None])[0]
 has_bulk = run([program, "bulk", str(SEED), "3"], os.devnull, "first")[3] == 0
 if has_bulk and open("first").read() != '{"bytes":205,"lines":3,"notices":1,"refused":0}\n':
-    sys.exit("the words bulk 7 3 give another summary than the one that is due")
+    sys.exit("the words bulk 7 3 give another summary than the expected one")
 print("load", *open("/proc/loadavg").read().split()[:3], f"least of {ROUNDS} rounds;", "the words bulk are timed too" if has_bulk else "the program has no words bulk yet")
 print("script      lines      ms   clock   peak  grown   plain   peak  ratio  | the words bulk: ms, clock, peak, ratio")
 kinds = [Scripts("bulk", (50_000, 100_000, 200_000), lambda count: script.bulk(SEED, count), script.SCHEMA, script.DOCUMENT, "B"),

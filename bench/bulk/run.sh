@@ -1,6 +1,6 @@
 #!/bin/bash
-# Times the script of the words `bulk 7 COUNT` for 50,000, 100,000 and 200,000 lines, and 25,000, 50,000 and 100,000 updates under one
-# watch, by processor time and by the clock, with the most memory: run.sh [PROGRAM]. ROUNDS=N takes so many rounds in place of five.
+# Times the script of the arguments `bulk 7 COUNT` for 50,000, 100,000 and 200,000 lines, and 25,000, 50,000 and 100,000 updates under one
+# watch, by processor time and by the clock, with the most memory: run.sh [PROGRAM]. ROUNDS=N takes N rounds in place of five.
 # Beside it stands a plain Rust program (baseline/), which answers the same lines by hand with a hash map and serde_json, and has to
 # write the same bytes. It is built by cargo from the sources of serde_json that Debian has (librust-serde-json-dev), with no network;
 # where cargo or these sources are not there, the ratio is left out. BASELINE=PATH names one that was built so.

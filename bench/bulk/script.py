@@ -1,4 +1,4 @@
-"""The script of the words `bulk SEED COUNT`, and the script of many updates under one watch: script.py bulk SEED COUNT, or script.py updates COUNT.
+"""The script of the arguments `bulk SEED COUNT`, and the script of many updates under one watch: script.py bulk SEED COUNT, or script.py updates COUNT.
 
 The first is defined in crates/relay_machine/specs/Bulk.antt; it is written here once more, line by line. The project stands beside the
 script: s.graphql and d.graphql."""
@@ -13,7 +13,7 @@ UPDATE_SCHEMA = "type Query{me:User} type User{id:ID! age:Int}"
 UPDATE_DOCUMENT = "query G{me{age}}"
 
 def bulk(seed, count):
-    """So many lines."""
+    """`count` lines."""
     first = ['{"do":"retain","handle":"h","op":"B"}', '{"do":"watch","handle":"h","watch":"w"}']
     yield from first[:count]
     drawn, live = seed, False
@@ -32,7 +32,7 @@ def bulk(seed, count):
             yield '{"do":"collect"}'
 
 def updates(count):
-    """A record, a watch of its age, and so many updates of it."""
+    """A record, a watch of its age, and `count` updates of it."""
     yield '{"do":"retain","handle":"h","op":"G"}'
     yield '{"do":"payload","handle":"h","response":{"data":{"me":{"id":"4","age":5}}}}'
     yield '{"do":"watch","watch":"w","handle":"h"}'
@@ -40,12 +40,12 @@ def updates(count):
         yield '{"do":"update","updates":[{"add":{"id":"4","field":"age","by":1}}]}'
 
 def last_of_updates(count):
-    """The last two lines that are due."""
+    """The expected last two lines."""
     n = count + 3
     return [f'{{"n":{n},"ok":"update"}}', f'{{"data":{{"me":{{"age":{5 + count}}}}},"missing":false,"n":{n},"notice":"w","seen":["4","client:root"]}}']
 
 def summary(path, count):
-    """The summary of what was written into a file for so many lines, none of them refused."""
+    """The summary of what was written into a file for `count` lines, none of them refused."""
     written = lines = 0
     with open(path, "rb") as file:
         while piece := file.read(2**16):

@@ -1,4 +1,4 @@
-"""Projects for the words `compile`: a schema, documents of so many parts, and the lines that are due, the same at each run.
+"""Projects for the arguments `compile`: a schema, documents of a given number of parts, and the expected lines, the same at each run.
 
 The lines are written here by hand for each form, and never taken from the program."""
 
@@ -48,7 +48,7 @@ def operations(count):
         yield source, query(f"Q{n}", text) + fragment(f"A{n}", "User") + fragment(f"B{n}", "Node")
 
 def product(count):
-    """A project in so many files, each of some 4 KB with two operations and two fragments: arguments, directives, a connection, and spreads
+    """A project in `count` files, each of some 4 KB with two operations and two fragments: arguments, directives, a connection, and spreads
     with arguments."""
     for n in range(count):
         sources, lines = [], []
@@ -73,21 +73,21 @@ def one_set(name, parts, texts):
     yield f"query {name} {{ me {{\n" + "".join(f"{part}\n" for part in parts) + "} }\n", query(name, f"query {name}{{me{{" + " ".join(texts) + " id}}")
 
 def typenames(count):
-    """An operation of so many fields `__typename`, each under a name of its own."""
+    """An operation of `count` fields `__typename`, each under a name of its own."""
     parts = [f"a{n}:__typename" for n in range(count)]
     yield "query Q {\n" + "\n".join(parts) + "\n}\n", query("Q", "query Q{" + " ".join(parts) + "}")
 
 def same_field(count):
-    """An operation that has one field so many times."""
+    """An operation that has one field `count` times."""
     yield from one_set("Q", ["name"] * count, ["name"] * count)
 
 def abstract(count):
-    """So many fields of an interface that a thousand objects implement."""
+    """`count` fields of an interface that a thousand objects implement."""
     yield ("query Q {\n" + "".join(f'a{n}: node(id: "{n}") {{ id }}\n' for n in range(count)) + "}\n",
            query("Q", "query Q{" + " ".join(f'a{n}:node(id:"{n}"){{id __typename}}' for n in range(count)) + "}"))
 
 def spreads(count):
-    """An operation that spreads so many fragments side by side."""
+    """An operation that spreads `count` fragments side by side."""
     yield from one_set("Q", [f"...F{n}" for n in range(count)], ["...on User{name}"] * count)
     for n in range(count):
         yield f"fragment F{n} on User {{ name }}\n", fragment(f"F{n}", "User")
@@ -112,33 +112,33 @@ def nested(count):
         yield f"fragment F{n} on User {{ {inside(99)} n{n}:name }}\n", fragment(f"F{n}", "User")
 
 def over_one(count):
-    """So many operations that spread one large fragment."""
+    """`count` operations that spread one large fragment."""
     body = " ".join(f"a{n}:name" for n in range(200))
     for n in range(count):
         yield f"query Q{n} {{ me {{ ...F }} }}\n", query(f"Q{n}", f"query Q{n}{{me{{...on User{{{body}}} id}}}}")
     yield f"fragment F on User {{ {body} }}\n", fragment("F", "User")
 
 def connections(count):
-    """So many connections, each with filters."""
+    """`count` connections, each with filters."""
     added = "edges{cursor} edges{cursor node{id}} pageInfo{endCursor hasNextPage hasPreviousPage startCursor}"
     yield from one_set("Q", [f'a{n}: friends(first: {n}) @connection(key: "Q_a{n}", filters: ["first", "after"]) {{ edges {{ cursor }} }}' for n in range(count)],
                        [f"a{n}:friends(first:{n}){{{added}}}" for n in range(count)])
 
 def twice(count):
-    """A chain of so many fragments, of which each spreads the next twice: the first have too many nodes."""
+    """A chain of `count` fragments, of which each spreads the next twice: the first have too many nodes."""
     yield "query Q { me { ...F0 } }\n", ""
     for n in range(count - 1):
         yield f"fragment F{n} on User {{ ...F{n + 1} ...F{n + 1} }}\n", ""
     yield f"fragment F{count - 1} on User {{ name }}\n", refusal("E1", 1, 7)
 
 def chain(count):
-    """A chain of so many fragments: the first nest too deep."""
+    """A chain of `count` fragments: the first nest too deep."""
     yield "query Q { me { ...F0 } }\n", ""
     for n in range(count - 1):
         yield f"fragment F{n} on User {{ ...F{n + 1} }}\n", ""
     yield f"fragment F{count - 1} on User {{ name }}\n", refusal("E2", 1, 7)
 
-# name, schema, parts, how many, whether each part is a file, and the status that is due
+# name, schema, parts, how many, whether each part is a file, and the expected status
 PROJECTS = [
     ("a product, in files", plain, product, [250, 500, 1_000], True, 0),
     ("operations", plain, operations, [1_000, 2_000, 4_000], False, 0),

@@ -1,7 +1,7 @@
 #!/bin/bash
-# Times the built program with the words `compile` on projects of 1, 2 and 4 times so many parts: the
+# Times the built program with the arguments `compile` on projects of 1, 2 and 4 times as many parts: the
 # reading of the files, all rules, what operations and fragments become, and their lines. It tells of
-# each answer whether it is the one that is due. Times are processor times, the least of nine rounds.
+# each answer whether it is the expected one. Times are processor times, the least of nine rounds.
 # Build it first:
 # cd crates/relay_run && rt run -- run 10 data/schema.graphql data/q.graphql < stdin
 set -eu
@@ -48,13 +48,13 @@ for name, schema, make, counts, files, status in PROJECTS:
     best, said = {}, {}
     for _ in range(ROUNDS):
         for count in counts:
-            if said.get(count, "as due") != "as due":
+            if said.get(count, "as expected") != "as expected":
                 continue
             took, peak, *answer = run(str(count))
             best[count] = min((took, peak), best.get(count, (took, peak)))
-            said[count] = "as due" if tuple(answer) == due[count] else f"WRONG: status {answer[0]}, {answer[1][:200]}; due {due[count][1][:200]}"
+            said[count] = "as expected" if tuple(answer) == due[count] else f"WRONG: status {answer[0]}, {answer[1][:200]}; due {due[count][1][:200]}"
     for count in counts:
-        wrong = wrong or said[count] != "as due"
+        wrong = wrong or said[count] != "as expected"
         (took, peak), half = best[count], best.get(count // 2)
         size = sum(os.path.getsize(f"{count}/{file}") for file in os.listdir(str(count))) / 2**20
         print(f"{name:25} {count:7}  {size:4.1f} {took*1000:5.0f}  {f'{took/half[0]:.2f}' if half else '':>14}  {peak:8.0f}  {said[count]}", flush=True)

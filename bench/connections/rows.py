@@ -1,6 +1,6 @@
-"""Connections: pages of 100 behind and in front of a long one, a long one fetched again whole, and edges put in front one by one.
+"""Connections: pages of 100 after and before a long one, a long one fetched again whole, and edges put in front one by one.
 
-The script that makes the connection alone is taken off, so that what is left is the pages; microseconds are told for each page, or edge."""
+The script that makes the connection alone is subtracted, so that what is left is the pages; microseconds are given for each page, or edge."""
 
 from scripts import Row, payload, read, retain, shown, update
 
@@ -31,29 +31,29 @@ def paged(pages, numbers, places):
     return PAGED, lines, shown(len(lines), {"me": {"friends": {"edges": [{"cursor": f"c{n}"} for n in numbers]}}}, seen_of(places))
 
 def next_pages(count, pages=PAGES):
-    """A connection of so many edges, and pages of 100 behind them."""
+    """A connection of `count` edges, and pages of 100 after them."""
     more = [({"first": PAGE, "after": f"c{count + PAGE * n - 1}"}, page(count + PAGE * n, PAGE)) for n in range(pages)]
     return paged([({"first": count}, page(0, count))] + more, range(count + pages * PAGE), range(count + pages * PAGE))
 
 def previous_pages(count, pages=PAGES):
-    """A connection of so many edges, and pages of 100 in front of them."""
+    """A connection of `count` edges, and pages of 100 before them."""
     more = [({"last": PAGE, "before": f"c{START - PAGE * n}"}, page(START - PAGE * (n + 1), PAGE)) for n in range(pages)]
     return paged([({"first": count}, page(START, count))] + more, range(START - pages * PAGE, START + count), range(count + pages * PAGE))
 
 def refetches(count, times=2):
-    """A connection of so many edges that is fetched so often more, whole: its edges get ever new ids."""
+    """A connection of `count` edges that is fetched again, whole: its edges get ever new ids."""
     return paged([({"first": count}, page(0, count)) for _ in range(times + 1)], range(count), range(times * count, (times + 1) * count))
 
 def first_pages(count):
-    """A connection of so many edges, and then its first page alone, which takes its place."""
+    """A connection of `count` edges, and then its first page alone, which takes its place."""
     return paged([({"first": count}, page(0, count)), ({"first": PAGE}, page(0, PAGE))], range(PAGE), range(count, count + PAGE))
 
 def prepended(count):
-    """A connection of one edge, and so many put in front one by one."""
+    """A connection of one edge, and `count` put in front one by one."""
     return put_in_front(1, count)
 
 def prepended_to(count):
-    """A connection of so many edges, and ten put in front one by one."""
+    """A connection of `count` edges, and ten put in front one by one."""
     return put_in_front(count, 10)
 
 def put_in_front(count, more):
@@ -65,17 +65,17 @@ def put_in_front(count, more):
     return PAGED, lines, shown(len(lines), {"me": {"friends": {"edges": edges}}}, seen_of(range(count + more)))
 
 def alone(count):
-    """The connection of so many edges, read."""
+    """The connection of `count` edges, read."""
     return next_pages(count, 0)
 
 def begun(count):
     return put_in_front(count, 0)
 
 ROWS = [
-    Row("ten pages more behind", SMALL, next_pages, without=alone, parts=lambda count: PAGES),
-    Row("ten pages more behind", LARGE, next_pages, without=alone, parts=lambda count: PAGES),
-    Row("ten pages more in front", SMALL, previous_pages, without=alone, parts=lambda count: PAGES),
-    Row("ten pages more in front", LARGE, previous_pages, without=alone, parts=lambda count: PAGES),
+    Row("ten pages more after the end", SMALL, next_pages, without=alone, parts=lambda count: PAGES),
+    Row("ten pages more after the end", LARGE, next_pages, without=alone, parts=lambda count: PAGES),
+    Row("ten pages more before the start", SMALL, previous_pages, without=alone, parts=lambda count: PAGES),
+    Row("ten pages more before the start", LARGE, previous_pages, without=alone, parts=lambda count: PAGES),
     Row("fetched again twice", SMALL, refetches, without=alone, parts=lambda count: 2),
     Row("fetched again twice", LARGE, refetches, without=alone, parts=lambda count: 2),
     Row("its first page fetched again", SMALL, first_pages, without=alone, parts=lambda count: 1),

@@ -1,5 +1,5 @@
 #!/bin/bash
-# Times pages of 100 behind and in front of long connections, connections that are fetched again, and edges that are put in front one by
-# one. What makes and reads the connection is taken off. The words that it takes are told in bench/events/run.sh.
+# Times pages of 100 after and before long connections, connections that are fetched again, and edges that are put in front one by
+# one. What makes and reads the connection is subtracted. tools/timing/run.sh says which arguments it takes.
 set -eu
-exec "$(dirname "$0")/../events/run.sh" connections "$@"
+exec "$(dirname "$0")/../../tools/timing/run.sh" connections "$@"

@@ -1,6 +1,6 @@
 #!/bin/bash
 # Times parse_document and parse_schema on generated texts of 1, 2 and 4 MiB, beside `wc` on the same
-# file, and tells the peak memory. Times are processor times, the least of nine rounds. The program is
+# file, and prints the peak memory. Times are processor times, the least of nine rounds. The program is
 # made and run in a folder of its own outside the repository, where the crates that it stands on are
 # proved first.
 set -eu
@@ -23,7 +23,7 @@ mkdir crates/grammar_bench/src
 echo 'grammar_bench: gql_parse gql_sdl gql_syntax gql_lex gql_ast gql_plain' >> crates.txt
 
 cat > crates/grammar_bench/src/main.rt <<'END'
-//! Reads one text, and tells how many nodes it has.
+//! Reads one text, and prints how many nodes it has.
 #![tactic(auto)]
 
 use gql_parse::parse_document;

@@ -2,7 +2,7 @@
 # Times commits with no layer live, each of a sum that is added to a field of one record, and beside them
 # the same changes of std's BTreeMap from ids to records, in the same run, at 8,192, 131,072 and 524,288
 # records in mixed order. A change of the map looks the record up, makes a new one with the sum, and
-# inserts it. Entries and changes are made before, and are let go within the time. Each figure is the least
+# inserts it. Entries and changes are made before, and are dropped within the time. Each figure is the least
 # of three rounds. The program is made in a folder of its own outside the repository, where the crates that
 # it stands on are proved first; libraries that are proved in the repository's out/ are taken along.
 # Instead, a program may be named that was made so: commits.sh PROGRAM. With KEEP=PATH it is left there.
@@ -17,7 +17,7 @@ cd "$folder"
 make_program() {
     git clone -q "$repository" repo
     cd repo
-    python3 "$here/../gate/cut.py" store_layers
+    python3 "$here/../../tools/gate/cut.py" store_layers
     for crate in crates/*; do
         if [ -d "$repository/$crate/out/rlib" ]; then
             mkdir "$crate/out"
@@ -220,7 +220,7 @@ fn agree(layers: &Layers<Versions>, map: &BTreeMap<String, Rc<Record>>, keys: &[
     true
 }
 
-/// Nanoseconds for each of so many calls.
+/// Nanoseconds for each of `count` calls.
 fn each(took: Duration, count: u64) -> u64 {
     u64::try_from(took.as_nanos()).unwrap_or(u64::MAX) / count.max(1)
 }

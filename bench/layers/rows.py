@@ -1,7 +1,7 @@
-"""Layers that are taken off, updates with and without a layer, an entry of many commands, wide records, and many records.
+"""Layers that are reverted, updates with and without a layer, an entry of many commands, wide records, and many records.
 
-The reading of the lines is taken off: a script of as many lines of about the same length, each of which is refused after it was read,
-since its command names no type of the schema, or since its layer is not live. What is left is held against a plain program with a map and undo lists,
+The reading of the lines is subtracted: a script of as many lines of about the same length, each of which is refused after it was read,
+since its command names no type of the schema, or since its layer is not live. What is left is compared with a plain program with a map and undo lists,
 which makes the same changes from lists of its own, ten times over."""
 
 from scripts import Row, add, answer, begin, line, payload, read, retain, revert, shown, update
@@ -30,36 +30,36 @@ def refused(documents, before, count, lines, handle="h"):
     return documents, before + lines, due
 
 def from_newest(count):
-    """So many layers, then each taken off again, the newest first."""
+    """`count` layers, then each reverted again, the newest first."""
     return aged([begin(f"l{n}", add()) for n in range(count)] + [revert(f"l{n}") for n in reversed(range(count))], 5)
 
 def from_oldest(count):
-    """So many layers, then each taken off again, the oldest first: each applies all that are left."""
+    """`count` layers, then each reverted again, the oldest first: each applies all that are left."""
     return aged([begin(f"l{n}", add()) for n in range(count)] + [revert(f"l{n}") for n in range(count)], 5)
 
 def no_layers(count):
     return refused(AGED, AGE, 2 * count, [begin(f"l{n}", NO_TYPE) for n in range(count)] + [revert(NONE)] * count)
 
 def updates(count):
-    """So many updates of one field, with no layer."""
+    """`count` updates of one field, with no layer."""
     return aged([update(add())] * count, 5 + count)
 
 def updates_below(count):
-    """So many updates of one field, under a layer."""
+    """`count` updates of one field, under a layer."""
     return script(AGED, AGE + [begin("l", add(100))], [update(add())] * count, {"me": {"age": 105 + count}}, ["4", "client:root"])
 
 def no_updates(count):
     return refused(AGED, AGE, count, [update(NO_TYPE)] * count)
 
 def commands(count):
-    """An entry of so many commands on one record."""
+    """An entry of `count` commands on one record."""
     return aged([update(*[add()] * count)], 5 + count)
 
 def no_commands(count):
     return refused(AGED, AGE, 1, [update(*[NO_TYPE] * count)])
 
 def wide(count):
-    """A record of so many fields, before a thousand updates of one of them."""
+    """A record of `count` fields, before a thousand updates of one of them."""
     names = " ".join(f"a{n}:age(n:{n})" for n in range(count))
     values = {f"a{n}": n for n in range(count)}
     return f"query W{{me{{age {names}}}}} {AGED}", [retain("W"), payload({"me": {"id": "4", "age": 5, **values}}), retain("Q", "i")]
@@ -71,12 +71,12 @@ def no_fields(count):
     return refused(*wide(count), 1_000, [update(NO_TYPE)] * 1_000)
 
 def many(count):
-    """So many records, and a handle that reads one of them."""
+    """`count` records, and a handle that reads one of them."""
     team = [{"id": f"u{n:06}", "age": n} for n in range(count)]
     return f"query W{{team{{id age}}}} {AGED}", [retain("W"), payload({"team": team}), retain("Q", "i"), payload({"me": {"id": "u000000", "age": 0}}, "i")]
 
 def ids(count):
-    """So many records, and as many updates, each of another one."""
+    """`count` records, and as many updates, each of another one."""
     return script(*many(count), [update(add(id=f"u{n:06}")) for n in range(count)], {"me": {"age": 1}}, ["client:root", "u000000"], "i")
 
 def no_ids(count):
@@ -88,8 +88,8 @@ def row(name, counts, make, without, beside, parts):
                beside_times=TIMES)
 
 ROWS = [
-    row("layers, the newest off first", (250, 500, 1_000), from_newest, no_layers, "newest", lambda count: 2 * count),
-    row("layers, the oldest off first", (250, 500, 1_000), from_oldest, no_layers, "oldest", lambda count: 2 * count),
+    row("layers, the newest reverted first", (250, 500, 1_000), from_newest, no_layers, "newest", lambda count: 2 * count),
+    row("layers, the oldest reverted first", (250, 500, 1_000), from_oldest, no_layers, "oldest", lambda count: 2 * count),
     row("updates without a layer", (25_000, 50_000, 100_000), updates, no_updates, "updates", lambda count: count),
     row("updates below a layer", (25_000, 50_000, 100_000), updates_below, no_updates, "below", lambda count: count),
     row("an entry of many commands", (5_000, 10_000, 20_000), commands, no_commands, "commands", lambda count: count),

@@ -1,18 +1,18 @@
 #!/bin/bash
 # Times the facts of payloads of 1, 2 and 4 MB beside serde_json, which reads the same text alone:
 # lists of many objects, with ids and without, an object of many aliases, objects 60 deep, many objects
-# that meet in one id with equal values, and one long text. It tells of each number of facts whether it
-# is the one that is due. A program reads a text, or gathers its facts, as often as its words say, each
+# that meet in one id with equal values, and one long text. It says of each number of facts whether it
+# is the expected one. A program reads a text, or gathers its facts, as often as its arguments say, each
 # time from the beginning, and takes the time of each by the clock. Told is the least of eight times in
 # each of three runs, over all sizes, and of 25 where none takes 50 milliseconds; and the first time of a
-# run, which has its memory from the system, as the least of the runs. It tells how many times as long each
+# run, which has its memory from the system, as the least of the runs. It prints how many times as long each
 # size takes as the one before, and the last as the first. `facts / reading` is the time for the facts, of
 # a text that was read, as a
-# ratio to that for the reading; what either has made is let go within its time. Most memory is that of
+# ratio to that for the reading; what either has made is dropped within its time. Most memory is that of
 # a run that does it once. The program is made in a folder of its own outside the repository, where the
 # crates that it stands on are proved first. Instead, a program may be named that was made so: run.sh
 # PROGRAM. With KEEP=PATH the program is left there. With COUNT=1 it counts instructions by valgrind in
-# place of times, of one reading and of one gathering of the facts behind it.
+# place of times, of one reading and of one gathering of the facts after it.
 set -eu
 here=$(cd "$(dirname "$0")" && pwd)
 repository=$(cd "$here/../.." && pwd)
@@ -26,7 +26,7 @@ cd "$folder"
 make_program() {
     git clone -q "$repository" repo
     cd repo
-    python3 "$here/../gate/cut.py" store_norm
+    python3 "$here/../../tools/gate/cut.py" store_norm
     for crate in crates/*; do
         if [ -d "$repository/$crate/out/rlib" ]; then
             mkdir "$crate/out"
@@ -48,7 +48,7 @@ make_program() {
 
 if [ -z "$program" ]; then
     make_program <<'END'
-//! Reads a payload, and gathers its facts, as far as the words say.
+//! Reads a payload, and gathers its facts, as far as the arguments say.
 #![tactic(auto)]
 
 use gql_ast::{Argument, Arguments, ValueTree};
@@ -115,7 +115,7 @@ fn user_steps(alloc: Global) -> Result<NormalSteps, NoMemory> {
     Ok(steps)
 }
 
-/// `id`, and so many aliases of a field, each with an argument of its own or none.
+/// `id`, and `count` aliases of a field, each with an argument of its own or none.
 fn alias_steps(alloc: Global, count: i64, are_many: bool) -> Result<NormalSteps, NoMemory> {
     let mut steps = NormalSteps::new(alloc);
     steps.push(leaf(alloc, "id", "id", None)?)?;
@@ -205,7 +205,7 @@ impl Times {
     }
 }
 
-/// Reads a payload so often.
+/// Reads a payload `rounds` times.
 fn read_times(rt: &HostRuntime, bytes: &[u8], rounds: u64) -> io::Result<Times> {
     let mut times = Times::new();
     for _ in 0..rounds {
@@ -218,7 +218,7 @@ fn read_times(rt: &HostRuntime, bytes: &[u8], rounds: u64) -> io::Result<Times> 
     Ok(times)
 }
 
-/// Gathers the facts of a payload so often.
+/// Gathers the facts of a payload `rounds` times.
 fn facts_times(
     rt: &HostRuntime,
     plan: &NormalPlan,
@@ -296,7 +296,7 @@ for row, (name, plan, _, counts) in enumerate(PAYLOADS):
         (_, start), (_, read), (said, whole) = counted(plan, count, "read", 0), counted(plan, count, "read", 1), counted(plan, count, "facts", 1)
         reading, facts = read - start, whole - read
         wrong = wrong or said != due
-        answer = "as due" if said == due else f"WRONG: {said}, due {due}"
+        answer = "as expected" if said == due else f"WRONG: {said}, due {due}"
         grown = f"{facts / half:.2f}" if half else ""
         print(f"{name:22} {count:8} {os.path.getsize(f'{count}.json') / 1e6:5.1f} {reading:17.1f} {facts:8.1f} {facts / reading:16.2f} {grown:>15}  {answer}", flush=True)
         half = facts
@@ -350,7 +350,7 @@ for row, (name, plan, _, counts) in enumerate(PAYLOADS):
         whole = [f"{new[1] / old[1]:.2f}" for new, old in zip(now, start)] if count == counts[-1] else ["", ""]
         size = os.path.getsize(f"{count}.json") / 1e6
         wrong = wrong or count in other
-        answer = other.get(count, "as due")
+        answer = other.get(count, "as expected")
         (read, took), (read_first, took_first) = now
         cells = f"{read_first:8.1f} {took_first:8.1f} {took_first / read_first:6.2f} {grown[1]:>6} {whole[1]:>6}"
         print(f"{name:22} {count:8} {size:5.1f} {read:11.1f} {took:9.1f}  {took / read:15.2f}  {grown[0]:>14} {whole[0]:>6}  {cells:>52}  {most[count, 'facts']:8.0f}  {most[count, 'read']:10.0f}  {answer}", flush=True)

@@ -43,7 +43,7 @@ def abstract(count):
         yield f"interface F{n}{{a:Int}} type T{n} implements F{n}{{a:Int b:T{n}}} union U{n}=T{n}|T{(n + 1) % count}\n"
 
 def tower(count):
-    """So many names of interfaces: each interface implements all before it, and a type implements all."""
+    """`count` names of interfaces: each interface implements all before it, and a type implements all."""
     height = math.isqrt(2 * count)
     names = [f"I{n}" for n in range(height)]
     yield "type Query{me:T} interface I0{a:Int}\n"

@@ -11,7 +11,7 @@ cd "$folder"
 "$here/make.sh"
 git clone -q "$repository" repo
 cd repo
-python3 bench/gate/cut.py gql_plain
+python3 tools/gate/cut.py gql_plain
 if [ -d "$repository/crates/gql_plain/out/rlib" ]; then
     mkdir crates/gql_plain/out
     cp -r "$repository/crates/gql_plain/out/rlib" crates/gql_plain/out/rlib
@@ -21,7 +21,7 @@ rm -rf crates/copier/{src,specs,proofs,stdin,stdout,BUILD.bazel}
 mkdir crates/copier/src
 echo 'copier: gql_plain serde_json' >> crates.txt
 cat > crates/copier/src/main.rt <<'END'
-//! Reads a line, and copies its data so often.
+//! Reads a line, and copies its data as often as it is asked to.
 #![tactic(auto)]
 
 use gql_plain::{Plain, plain_of};
@@ -46,7 +46,7 @@ fn plain_data(alloc: Global, data: &Value) -> Plain {
     }
 }
 
-/// Whether a copy was made; it is let go.
+/// Whether a copy was made; it is dropped.
 fn is_copied(plain: &Plain) -> bool {
     match plain.copy() {
         Ok(_) => true,
@@ -97,4 +97,4 @@ for name, make, count in [("a list of links", rows.links, 5_000), ("masked fragm
     printed, copied = each("./printer"), each("./copier")
     print(f"{name:28} {count:6} {printed / 1e6:17.2f} {copied / 1e6:16.2f} {copied / printed:6.2f}")
 END
-PYTHONDONTWRITEBYTECODE=1 PYTHONPATH="$here:$here/../events" python3 count.py
+PYTHONDONTWRITEBYTECODE=1 PYTHONPATH="$here:$here/../../tools/timing" python3 count.py

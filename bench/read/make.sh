@@ -1,5 +1,5 @@
 #!/bin/bash
-# Makes the program `printer` in this folder: it reads a line that shows a read, and prints the data so often. It is proved and built
+# Makes the program `printer` in this folder: it reads a line that shows a read, and prints the data as often as it is asked to. It is proved and built
 # in a folder of its own, unless PRINTER names one that was made so.
 set -eu
 if [ -n "${PRINTER:-}" ]; then
@@ -16,7 +16,7 @@ rm -rf crates/printer/{src,specs,proofs,stdin,stdout,BUILD.bazel}
 mkdir crates/printer/src
 echo 'printer: serde_json' > crates.txt
 cat > crates/printer/src/main.rt <<'END'
-//! Reads a line, and prints its data so often.
+//! Reads a line, and prints its data as often as it is asked to.
 #![tactic(auto)]
 
 use serde_json::Value;

@@ -1,7 +1,7 @@
 """Reads, five to a script, and fifty of a wide record: lists of links, masked and inline fragments in them, and a cycle of records 60 deep.
 
-The script without reads is taken off. What is left is held against a program that prints the data of the same line so often by serde_json
-alone; the reading of it is taken off. It prints ten times as often, and takes a tenth of the time for it, so that short times are told
+The script without reads is subtracted. What is left is compared with a program that prints the data of the same line as often by serde_json
+alone; the reading of it is subtracted. It prints ten times as often, and takes a tenth of the time for it, so that short times are told
 well."""
 
 from scripts import Row, answer, payload, read, retain, shown
@@ -9,7 +9,7 @@ from scripts import Row, answer, payload, read, retain, shown
 READS, TIMES = 5, 10
 
 def with_reads(reads, documents, before, data, seen, handle="h"):
-    """The lines before, and then so many reads, of which the last shows this."""
+    """The lines before, and then reads, of which the last shows this."""
     return documents, before + [read(handle)] * reads, shown(len(before) + reads, data, seen)
 
 def before_reads(documents, before, *_):
@@ -23,30 +23,30 @@ def seen_of(team):
     return ["client:root"] + [it["id"] for it in team]
 
 def links(count):
-    """A list of so many links."""
+    """A list of `count` links."""
     team = users(count)
     return "query Q{team{id name}}", [retain("Q"), payload({"team": team})], {"team": team}, seen_of(team)
 
 def pointers(count):
-    """A list of so many links, of which each has a masked fragment."""
+    """A list of `count` links, of which each has a masked fragment."""
     team = users(count)
     data = {"team": [{"__fragments": {"P": {}}, "__id": it["id"], "__owner": "h"} for it in team]}
     return "query Q{team{...P}} fragment P on User{name}", [retain("Q"), payload({"team": team})], data, seen_of(team)
 
 def inline(count):
-    """A list of so many links, of which each has an inline fragment."""
+    """A list of `count` links, of which each has an inline fragment."""
     team = users(count)
     data = {"team": [{"__fragments": {"P": {"name": it["name"]}}, "__id": it["id"], "__owner": "h"} for it in team]}
     return "query Q{team{...P}} fragment P on User@inline{name}", [retain("Q"), payload({"team": team})], data, seen_of(team)
 
 def wide(count):
-    """A record of so many fields."""
+    """A record of `count` fields."""
     fields = " ".join(f"a{n}:age(n:{n})" for n in range(count))
     values = {f"a{n}": n for n in range(count)}
     return f"query Q{{me{{{fields}}}}}", [retain("Q"), payload({"me": {"id": "4", **values}})], {"me": values}, ["4", "client:root"]
 
 def deep(count):
-    """So many records that each have 58 more below one another, which are one record that links to itself."""
+    """`count` records that each have 58 more below one another, which are one record that links to itself."""
     inside, below = "name", {"name": "n"}
     for _ in range(57):
         inside, below = f"friend{{{inside}}}", {"friend": below}
@@ -57,7 +57,7 @@ def deep(count):
 
 def row(name, counts, make, reads=READS):
     def printing(count):
-        """The words that print the data of the last line, and those that read it alone."""
+        """The arguments that print the data of the last line, and those that read it alone."""
         return ["./printer", "{count}/due", str(reads * TIMES)], ["./printer", "{count}/due", "0"]
     return Row(name, counts, lambda count: with_reads(reads, *make(count)), without=lambda count: before_reads(*make(count)), beside=printing, beside_times=TIMES)
 

@@ -1,4 +1,4 @@
-"""Projects for the rules of documents: a schema, and documents of so many definitions, the same at each run."""
+"""Projects for the rules of documents: a schema, and documents of a given number of definitions, the same at each run."""
 
 SCHEMA = """interface Node { id: ID! }
 type User implements Node { id: ID! name: String friend: User friends(first: Int, after: String): Friends }
@@ -33,7 +33,7 @@ def subscription(count):
     yield f"fragment F{count - 1} on Subscription {{ changed {{ id }} }}\n"
 
 def subscriptions(count):
-    """So many operations, and below all of them a chain of so many fragments, the last of which has the one field."""
+    """`count` operations, and below all of them a chain of `count` fragments, the last of which has the one field."""
     for n in range(count):
         yield f"subscription S{n} {{ ...F0 }}\n"
     for n in range(count - 1):
@@ -41,7 +41,7 @@ def subscriptions(count):
     yield f"fragment F{count - 1} on Subscription {{ changed {{ id }} }}\n"
 
 def kinds(count):
-    """A schema with a union and an interface of so many objects, which have the last one in common."""
+    """A schema with a union and an interface of `count` objects, which have the last one in common."""
     yield SCHEMA.replace("type Query {", "type Query { any: Any")
     yield "interface Late { id: ID! }\n"
     for n in range(count):
@@ -49,7 +49,7 @@ def kinds(count):
     yield "type Z implements Late { id: ID! }\nunion Any = Z" + "".join(f" | A{n}" for n in range(count)) + "\n"
 
 def conditions(count):
-    """A selection with so many conditions on the interface inside the union."""
+    """A selection with `count` conditions on the interface inside the union."""
     yield "query Q { any { __typename\n"
     for n in range(count):
         yield "  ... on Late { id }\n"
@@ -109,7 +109,7 @@ def pages(count):
     yield "type PageInfo { hasNextPage: Boolean hasPreviousPage: Boolean startCursor: String endCursor: String }\n"
 
 def connections(count):
-    """A selection with so many connections."""
+    """A selection with `count` connections."""
     yield "query Q { me {\n"
     for n in range(count):
         yield f'  a{n}: friends(first: {n}) @connection(key: "Q_a{n}", filters: ["first", "after"]) {{ edges {{ cursor }} }}\n'
@@ -118,7 +118,7 @@ def connections(count):
 LAST = 'query Last { me { friend @connection(key: "Last_friend") { name } } }\n'
 
 def broken_at_last(make):
-    """The same, and behind it a connection that is none: all rules on documents are asked, and V22 is broken.
+    """The same, and after it a connection that is none: all rules on documents are asked, and V22 is violated.
     What the operations and fragments become is not asked then: chains are deeper than that may be."""
     def whole(count):
         yield from make(count)
@@ -146,7 +146,7 @@ def plain(count):
     """The schema of all projects but one."""
     yield SCHEMA
 
-# name, schema, documents, how many definitions, and the answer that is due
+# name, schema, documents, how many definitions, and the expected answer
 BROKEN_AT_LAST = [
     (name, schema, broken_at_last(make), counts)
     for name, schema, make, counts in [

@@ -1,7 +1,7 @@
 #!/bin/bash
-# Times the built program on projects of 1, 2 and 4 times so many operations or fragments with a script
+# Times the built program on projects of 1, 2 and 4 times as many operations or fragments with a script
 # of no line: the reading of the files and all rules on documents, and for a project that meets them
-# also its plans. The last column tells whether the answer is the one that is due. Times are processor times, the least of nine rounds. Build it first:
+# also its plans. The last column says whether the answer is the expected one. Times are processor times, the least of nine rounds. Build it first:
 # cd crates/relay_run && rt run -- run 10 data/schema.graphql data/q.graphql < stdin
 set -eu
 here=$(cd "$(dirname "$0")" && pwd)
@@ -41,12 +41,12 @@ for name, schema, make, counts, due in PROJECTS:
     best, said = {}, {}
     for _ in range(ROUNDS):
         for count in counts:
-            if said.get(count, "as due").startswith("WRONG"):
+            if said.get(count, "as expected").startswith("WRONG"):
                 continue
             took, status, answer = run(str(count))
             best[count] = min(took, best.get(count, took))
             is_due = (status, answer) == (3 if due(count) else 0, due(count))
-            said[count] = f"as due: {answer.strip()}" if is_due else f"WRONG: status {status}, {answer}; due {due(count).strip()}"
+            said[count] = f"as expected: {answer.strip()}" if is_due else f"WRONG: status {status}, {answer}; due {due(count).strip()}"
     for count in counts:
         wrong = wrong or said[count].startswith("WRONG")
         size, half = os.path.getsize(f"{count}/d.graphql") / 2**20, best.get(count // 2)

@@ -10,7 +10,7 @@ trap 'rm -rf "$folder"' EXIT
 printf 'type Query{me:Int}' > "$folder/schema.graphql"
 printf 'query Q{me}' > "$folder/q.graphql"
 
-# A number of bytes of script, the status that is due, and the output that is due.
+# A number of bytes of script, the expected status, and the expected output.
 run() {
     local status=0
     head -c "$1" /dev/zero | tr '\0' x | "$program" run 1 "$folder/schema.graphql" "$folder/q.graphql" > "$folder/out" || status=$?
@@ -18,7 +18,7 @@ run() {
         echo "a script of $1 bytes: status $status, not $2, or other output"
         exit 1
     fi
-    echo "a script of $1 bytes: status $status, as is due"
+    echo "a script of $1 bytes: status $status, as expected"
 }
 
 run 1073741824 1 '{"code":4,"error":"LineTooLong","n":1}'

@@ -71,7 +71,7 @@ struct Times {
     map: u64,
 }
 
-/// Nanoseconds for each of so many calls.
+/// Nanoseconds for each of `count` calls.
 fn each(took: Duration, count: u64) -> u64 {
     u64::try_from(took.as_nanos()).unwrap_or(u64::MAX) / count.max(1)
 }

@@ -1,7 +1,7 @@
 """Sweeps: stores of which a part is kept, sweeps that drop nothing, many retained operations over the same records, and plans that are
 made to be hard for the walk along what is retained.
 
-The script without what is timed is taken off; microseconds are told for each sweep."""
+The script without what is timed is subtracted; microseconds are given for each sweep."""
 
 from scripts import BUFFER, Row, answer, collect, collected, payload, release, retain
 
@@ -16,13 +16,13 @@ def let_go(handle):
     return [release(handle)] + others
 
 def store(count, kept):
-    """A store of so many records, of which the first are kept."""
+    """A store of `count` records, of which the first are kept."""
     team = users(count)
     documents = "query A{team(size:1){id age}} query B{team{id age}} query N{me{id}}"
     return documents, [retain("A", "a"), payload({"team": team[:kept]}, "a"), retain("B", "b"), payload({"team": team}, "b")] + let_go("b")
 
 def swept(before, times, dropped):
-    """The lines before, and then so many sweeps, of which the first drops so many records."""
+    """The lines before, and then sweeps, of which the first drops `dropped` records."""
     documents, lines = before
     n = len(lines) + times
     if times == 0:
@@ -38,7 +38,7 @@ def once_more(name, share):
     return Row(name, (10_000, 20_000, 40_000), make(1 + AGAIN), without=make(1), parts=lambda count: AGAIN)
 
 def operations(count, records):
-    """So many retained operations over the same records."""
+    """`count` retained operations over the same records."""
     lines = [retain("R", f"r{n}") for n in range(count)] + [payload({"team": [{"id": it["id"], "friend": {"id": it["id"]}} for it in users(records)]}, "r0")]
     return "query R{team{id friend{id}}} query N{me{id}}", lines + [retain("N", "n"), release("n")]
 
@@ -47,14 +47,14 @@ def over_records(name, counts, size):
     return Row(name, counts, make(AGAIN), without=make(0), parts=lambda count: AGAIN)
 
 def fragments(each, depth):
-    """A fragment that is spread so often in each of so many nested sets, over one record that links to itself."""
+    """A fragment that is spread `each` times in each of `depth` nested sets, over one record that links to itself."""
     spread = lambda n: " ".join([f"...F{n}"] * each) if n < depth else "name"
     documents = f"query H{{me{{{spread(0)}}}}} query C{{me{{id friend{{id}}}}}} query N{{me{{id}}}}"
     documents += "".join(f" fragment F{n} on User{{friend{{{spread(n + 1)}}}}}" for n in range(depth))
     return documents, [retain("C", "c"), payload({"me": {"id": "c", "friend": {"id": "c"}}}, "c"), retain("H"), retain("N", "n"), release("n")]
 
 def conditions(depth, ends=("", "")):
-    """Two records of two types that both link to both, and so many nested conditions on one of the types. At the innermost level stands
+    """Two records of two types that both link to both, and nested conditions, `depth` of them, on one of the types. At the innermost level stands
     one of the ends on the way along the conditions, and the other on the ways that leave it."""
     plain, inner = f"name {ends[1]}", f"name {ends[0]}"
     for _ in range(depth):
@@ -79,7 +79,7 @@ ROWS = [
     once_more("nothing dropped, all were kept", 1),
     over_records("operations over 100 records", (250, 500, 1_000), lambda count: (count, 100)),
     over_records("1,000 operations, records", (100, 200, 400), lambda count: (1_000, count)),
-    # Their plans have so many steps
+    # How many steps their plans have
     hard("a fragment twice in nested sets", (2_048, 4_096, 8_192), lambda count: fragments(2, count.bit_length() - 1)),
     hard("a fragment eight times", (512, 4_096), lambda count: fragments(8, (count.bit_length() - 1) // 3)),
     hard("conditions nested so deep", (6, 8, 10, 12), conditions),

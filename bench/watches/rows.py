@@ -1,6 +1,6 @@
 """Watches: many of which one is touched, their beginnings and ends, many handles, layers below a watch, and watches of long lists.
 
-The script without what is timed is taken off; microseconds are told for each line that is timed."""
+The script without what is timed is subtracted; microseconds are given for each line that is timed."""
 
 from scripts import Row, add, answer, begin, line, noticed, payload, release, retain, revert, update
 
@@ -20,23 +20,23 @@ def started(n, data, seen):
 FRAGMENT = "query Q{team{...P}} fragment P on User{age}"
 
 def users(count):
-    """So many records."""
+    """`count` records."""
     return [retain("Q"), payload({"team": [{"id": f"u{n:06}", "age": n} for n in range(count)]})]
 
 def watches(count, records):
-    """So many records, and watches of so many of them."""
+    """`records` records, and watches of the first `count` of them."""
     return users(records) + [watch(f"w{n}", fragment="P", id=f"u{n:06}") for n in range(count)]
 
 def started_last(lines, count):
     return FRAGMENT, lines, started(len(lines), {"age": count - 1}, [f"u{count - 1:06}"])
 
 def touched(count):
-    """So many watches, of which the last is touched again and again."""
+    """`count` watches, of which the last is touched again and again."""
     lines = watches(count, count) + [update(add(id=f"u{count - 1:06}"))] * TIMES
     return FRAGMENT, lines, noticed(len(lines), f"w{count - 1}", {"age": count - 1 + TIMES}, [f"u{count - 1:06}"])
 
 def untouched(count):
-    """So many watches, and a record that none of them saw, touched again and again."""
+    """`count` watches, and a record that none of them saw, touched again and again."""
     lines = watches(count, count + 1) + [update(add(id=f"u{count:06}"))] * TIMES
     return FRAGMENT, lines, answer(len(lines), "update")
 
@@ -50,7 +50,7 @@ def no_watches(count):
     return FRAGMENT, users(count), answer(2, "payload")
 
 def of_one(count):
-    """So many watches of one record, which is touched ten times: each is told each time."""
+    """`count` watches of one record, which is touched ten times: each is notified each time."""
     lines = users(1) + [watch(f"w{n}", fragment="P", id="u000000") for n in range(count)] + [update(add(id="u000000"))] * 10
     return FRAGMENT, lines, noticed(len(lines), f"w{count - 1}", {"age": 10}, ["u000000"])
 
@@ -59,7 +59,7 @@ def of_one_untouched(count):
     return FRAGMENT, lines, started(len(lines), {"age": 0}, ["u000000"])
 
 def ended(order):
-    """So many watches, and the end of each."""
+    """`count` watches, and the end of each."""
     def make(count):
         lines = watches(count, count) + [unwatch(f"w{n}") for n in order(range(count))]
         return FRAGMENT, lines, answer(len(lines), "unwatch")
@@ -68,7 +68,7 @@ def ended(order):
 # ---- many handles
 
 def handles(count):
-    """So many handles, each of which is let go."""
+    """`count` handles, each of which is released."""
     lines = [retain("Q", f"h{n}") for n in range(count)] + [release(f"h{n}") for n in range(count)]
     return FRAGMENT, lines, answer(len(lines), "release")
 
@@ -77,7 +77,7 @@ def retained(count):
     return FRAGMENT, lines, answer(len(lines), "retain")
 
 def handles_beside(count):
-    """So many watches, and as many handles that are let go beside them."""
+    """`count` watches, and as many handles that are released beside them."""
     lines = watches(count, count) + [retain("Q", f"h{n}") for n in range(count - 1)] + [release(f"h{n}") for n in range(count - 1)]
     return FRAGMENT, lines, answer(len(lines), "release")
 
@@ -90,13 +90,13 @@ def handles_kept_beside(count):
 AGED = "query Q{me{age}}"
 
 def layers(count):
-    """A watch, so many layers, and the end of each, the newest first: each line is told."""
+    """A watch, `count` layers, and the end of each, the newest first: each line is reported."""
     lines = [retain("Q"), payload({"me": {"id": "4", "age": 5}}), watch("w")]
     lines += [begin(f"l{n}", add()) for n in range(count)] + [revert(f"l{n}") for n in reversed(range(count))]
     return AGED, lines, noticed(len(lines), "w", {"me": {"age": 5}}, ["4", "client:root"])
 
 def below_layers(count):
-    """So many layers, and ten updates below them, all of which are told to a watch."""
+    """`count` layers, and ten updates below them, all of which are reported to a watch."""
     lines = [retain("Q"), payload({"me": {"id": "4", "age": 5}}), watch("w")] + [begin(f"l{n}", add()) for n in range(count)] + [update(add())] * 10
     return AGED, lines, noticed(len(lines), "w", {"me": {"age": 15 + count}}, ["4", "client:root"])
 
@@ -109,12 +109,12 @@ def layers_alone(count):
 LISTED = "query Q{team{age}} query M{me{age}}"
 
 def listed(count):
-    """A watch of a list of so many records, and beside it a record that it did not see."""
+    """A watch of a list of `count` records, and beside it a record that it did not see."""
     team = [{"id": f"u{n:06}", "age": n} for n in range(count)]
     return [retain("Q"), payload({"team": team}), retain("M", "m"), payload({"me": {"id": "m", "age": 0}}, "m"), watch("w")]
 
 def list_touched(times):
-    """The last of the list is touched so often."""
+    """The last of the list is touched again and again."""
     def make(count):
         lines = listed(count) + [update(add(id=f"u{count - 1:06}"))] * times
         data = [{"age": n} for n in range(count - 1)] + [{"age": count - 1 + times}]
@@ -122,7 +122,7 @@ def list_touched(times):
     return make
 
 def list_beside(times):
-    """The record beside it is touched so often."""
+    """The record beside it is touched again and again."""
     def make(count):
         lines = listed(count) + [update(add(id="m"))] * times
         return LISTED, lines, answer(len(lines), "update")
@@ -138,7 +138,7 @@ ROWS = [
     Row("all of them touched, ten times", MANY, of_one, without=of_one_untouched, parts=lambda count: 10 * count),
     Row("watches that end, oldest first", MANY, ended(list), without=no_updates, parts=lambda count: count),
     Row("watches that end, newest first", MANY, ended(reversed), without=no_updates, parts=lambda count: count),
-    Row("handles that are let go", MANY, handles, without=retained, parts=lambda count: count),
+    Row("handles that are released", MANY, handles, without=retained, parts=lambda count: count),
     Row("the same beside as many watches", MANY, handles_beside, without=handles_kept_beside, parts=lambda count: count),
     Row("layers below a watch", (250, 500, 1_000), layers, parts=lambda count: 2 * count),
     Row("ten updates below layers", (250, 500, 1_000), below_layers, without=layers_alone, parts=each(10)),

@@ -206,7 +206,7 @@ impl Client {
         writeln!(out, "{{\"dropped\":{dropped},\"n\":{n},\"ok\":\"collect\",\"waiting\":{waiting}}}")
     }
 
-    /// Reads the watch again where it saw an id that was touched, and tells what differs.
+    /// Reads the watch again where it saw an id that was touched, and reports what differs.
     fn tell(&mut self, touched: &[String], n: usize, out: &mut impl Write) -> io::Result<()> {
         let Some(kept) = &self.watch else { return Ok(()) };
         if !touched.iter().any(|id| kept.seen.contains(id)) {

@@ -4,8 +4,8 @@
 A proof starts as soon as the crates below it have passed. At most as many run at once as the file `slots` in FOLDER/../chain.state says (8 where there
 is none, and four more for crates that are urgent). The crates with the longest way before them take whatever processors are idle and come first
 at each of them, the first of all before the others; the rest get one, and what is left. Words in the file `hold` keep crates back, those in
-`urgent` come first, those in `calm` last, and a crate that failed is tried again once its name stands in `retry`. Crates that are named behind
-the folder count as passed. What happens is told in `log` there, what each crate said in `said/NAME`. With edits in the folder `rt ci` tries those of all crates below a crate first, so take the `must-fail/` folders away in a copy of the repository, and try the edits in another.
+`urgent` come first, those in `calm` last, and a crate that failed is tried again once its name stands in `retry`. Crates that are named after
+the folder count as passed. What happens is written into `log` there, what each crate said in `said/NAME`. With mutants in must-fail/ `rt ci` tries those of all crates below a crate first, so take the `must-fail/` folders away in a copy of the repository, and try the mutants in another.
 It wants a kit that keeps what `rt ci NAME` passed; where none does, `rt ci` alone is the gate.
 """
 import glob

@@ -1,6 +1,6 @@
 """What the rows of the benches over the built program have in common: a schema, and the lines that go in and come out.
 
-A row of a bench makes the documents, the lines of a script of so many parts, and the last line that is due, the same at each run. The
+A row of a bench makes the documents, the lines of a script of a given number of parts, and the expected last line, the same at each run. The
 last lines are written by hand for each form, and never taken from the program."""
 
 import dataclasses
@@ -20,7 +20,7 @@ type UserConnection { edges: [UserEdge] pageInfo: PageInfo! }
 type UserEdge { cursor: String node: User }
 type PageInfo { hasNextPage: Boolean! hasPreviousPage: Boolean! startCursor: String endCursor: String }
 """
-# The words of the program: how many released operations it keeps
+# The arguments of the program: how many released operations it keeps
 BUFFER = 10
 
 @dataclasses.dataclass
@@ -29,15 +29,15 @@ class Row:
     name: str
     counts: tuple
     make: typing.Callable
-    # Makes the script whose time is taken off
+    # Makes the script whose time is subtracted
     without: typing.Callable = None
-    # How many parts what is left has; microseconds are told for each of them
+    # How many parts what is left has; microseconds are given for each of them
     parts: typing.Callable = None
-    # The words of a program that does the same so many times, and of one whose time is taken off from its; the last line that is due
+    # The arguments of a program that does the same as often, and of one whose time is subtracted from its; the expected last line
     # stands in the file {count}/due
     beside: typing.Callable = None
     beside_times: int = 1
-    # The statuses that are due, of the script and of that whose time is taken off
+    # The expected statuses, of the script and of that whose time is subtracted
     status: int = 0
     without_status: int = 0
 

@@ -1,8 +1,8 @@
 """watch.py RECORDS ci: runs `rt ci` as it is, and writes a line into RECORDS for each prover
 that it started.
 
-A line: crate, phase (proof, tests, seed, edit), edit, processor seconds, peak memory in MiB; tabs
-between them. The seed is the check of the crate as it stands, which follows on its must-fail edits;
+A line: crate, phase (proof, tests, seed, mutant), mutant, processor seconds, peak memory in MiB; tabs
+between them. The seed is the check of the crate as it stands, which follows on the mutants in must-fail/;
 the first of these is checked from nothing. The numbers come from wait4(2): they hold what the process
 and all its own children used, whatever ran beside it.
 """
@@ -42,13 +42,13 @@ def waited(self, flags):
     line = [str(it) for it in self.args] if isinstance(self.args, (list, tuple)) else []
     if found and "--crate-name" in line:
         crate = line[line.index("--crate-name") + 1]
-        phase, edit = getattr(here, "label", None) or ("tests" if "--test" in line else "proof", "")
+        phase, mutant = getattr(here, "label", None) or ("tests" if "--test" in line else "proof", "")
         with lock, open(records, "a", encoding="utf-8") as file:
-            print(crate, phase, edit, f"{used:.2f}", usage.ru_maxrss // 1024, sep="\t", file=file)
+            print(crate, phase, mutant, f"{used:.2f}", usage.ru_maxrss // 1024, sep="\t", file=file)
     return found, status
 
 
-rt.must_fail = labelled(rt.must_fail, lambda crate, edit, *more: ("edit", os.path.basename(edit)[: -len(".edit")]))
+rt.must_fail = labelled(rt.must_fail, lambda crate, mutant, *more: ("mutant", os.path.basename(mutant)[: -len(".edit")]))
 rt.checked = labelled(rt.checked, lambda crate, *more: ("seed", ""))
 subprocess.Popen._try_wait = waited
 sys.argv[0] = PLACE

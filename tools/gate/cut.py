@@ -1,4 +1,4 @@
-"""cut.py CRATE..: leaves these crates of the repository in this folder, and those that they stand on without their must-fail edits."""
+"""cut.py CRATE..: leaves these crates of the repository in this folder, and those that they stand on without the mutants in their must-fail/."""
 
 import os
 import shutil

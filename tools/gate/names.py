@@ -14,7 +14,7 @@ import sys
 
 # Those from which a name is taken where they are listed, the first that stands on its crate
 FLOORS = ("plan_ir", "relay_machine", "plan_project")
-FOLDERS = ("src", "specs", "proofs", "must-fail", "edits")
+FOLDERS = ("src", "specs", "proofs", "must-fail", "mutants")
 
 def crates():
     """The crates that each crate lists."""

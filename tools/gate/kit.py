@@ -2,7 +2,7 @@
 
 A kit that keeps results takes the name of a crate, `rt ci NAME`, and proves later only what changed. One that keeps none has `rt ci`
 alone, which proves all from nothing each time; there `rt check` in a crate's folder, or `rt all check --jobs N` at the top, keep what
-they proved in the crates' out/, and only `rt ci` is the verdict. Run as a script this prints the words of a run from nothing.
+they proved in the crates' out/, and only `rt ci` is the verdict. Run as a script this prints the arguments of a run from nothing.
 """
 
 import importlib.machinery

@@ -1,10 +1,11 @@
 #!/usr/bin/env python3
-"""try.py CRATE|EDIT..: tries edits of the copy of the repository in this folder, all of a crate or the file crates/NAME/edits/WHICH.edit, each on
-the functions that it changes alone.
+"""try.py CRATE|MUTANT..: tries mutants of the copy of the repository in this folder, all of a crate or the file crates/NAME/mutants/WHICH.edit,
+each on the functions that it changes alone.
 
-`run.sh` has the whole crate checked for each edit. This takes a tenth of that time, over libraries where bench/gate/give.py gave the copy some,
-and over sources else. An edit that changes definitions alone is tried on the whole crate. It writes a line an edit, whether the prover refused
-it and what it said first. The status is 0 if each was refused. It calls parts of `rt` itself, so it goes with the kit that it was written for.
+`run.sh` has the whole crate checked for each mutant. This takes a tenth of that time, over libraries where tools/gate/give.py gave the copy some,
+and over sources else. A mutant that changes definitions alone is tried on the whole crate. It writes a line for each mutant: whether the prover
+rejected it, and what it said first. The status is 0 if each was rejected. It calls parts of `rt` itself, so it goes with the kit that it was
+written for.
 """
 import glob
 import os
@@ -54,13 +55,13 @@ def only(crate, whole, others):
             return status, lines
     return status, lines
 
-def attempt(crate, edit):
-    """Whether the prover refuses the edit, and what is to be said."""
+def attempt(crate, mutant):
+    """Whether the prover rejects the mutant, and what is to be said."""
     folder = f"crates/{crate}"
-    with open(edit, encoding="utf-8") as file:
+    with open(mutant, encoding="utf-8") as file:
         texts, why = rt.edited(file.read(), folder)
     if why:
-        return False, f"BAD EDIT: {why}"
+        return False, f"BAD MUTANT: {why}"
     was, found = {}, {}
     for path, text in texts.items():
         with open(f"{folder}/{path}", encoding="utf-8") as file:
@@ -79,25 +80,25 @@ def attempt(crate, edit):
     lines = [line for _, said in ran for line in said]
     bad = next((it for it in lines if rt.unread(it, texts)), "")
     if bad:
-        return False, f"BAD EDIT: {bad[:160]}"
-    told = next((it for it in lines if ": error" in it), lines[-1])
+        return False, f"BAD MUTANT: {bad[:160]}"
+    first = next((it for it in lines if ": error" in it), lines[-1])
     if any(status == 1 for status, _ in ran):
-        return True, f"refused ({' '.join(found)}): {told[:160]}"
-    return False, f"NOT REFUSED ({' '.join(found)}, status {[status for status, _ in ran]}): {told[:160]}"
+        return True, f"rejected ({' '.join(found)}): {first[:160]}"
+    return False, f"NOT REJECTED ({' '.join(found)}, status {[status for status, _ in ran]}): {first[:160]}"
 
-def edits_of(word):
-    """The files of the edits that a word names."""
+def mutants_of(word):
+    """The files of the mutants that an argument names."""
     if word.endswith(".edit"):
         return [word]
-    return sorted(glob.glob(f"crates/{word}/edits/*.edit") + glob.glob(f"crates/{word}/must-fail/*.edit"))
+    return sorted(glob.glob(f"crates/{word}/mutants/*.edit") + glob.glob(f"crates/{word}/must-fail/*.edit"))
 
 def main():
-    all_refused = True
-    for edit in [it for word in sys.argv[1:] for it in edits_of(word)]:
-        crate = edit.split("/")[1]
-        is_refused, said = attempt(crate, edit)
-        all_refused = all_refused and is_refused
-        print(f"{crate}/{os.path.basename(edit)}: {said}", flush=True)
-    sys.exit(0 if all_refused else 1)
+    all_rejected = True
+    for mutant in [it for word in sys.argv[1:] for it in mutants_of(word)]:
+        crate = mutant.split("/")[1]
+        is_rejected, said = attempt(crate, mutant)
+        all_rejected = all_rejected and is_rejected
+        print(f"{crate}/{os.path.basename(mutant)}: {said}", flush=True)
+    sys.exit(0 if all_rejected else 1)
 
 main()

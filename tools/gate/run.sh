@@ -1,7 +1,7 @@
 #!/bin/bash
-# Tells for each crate how many processor minutes its proof, its tests and its must-fail edits take,
-# each from nothing: bench/gate/run.sh [CRATE..]; without names every crate of crates.txt, with names
-# these and those that they stand on, whose edits are left out.
+# Prints for each crate how many processor minutes its proof, its tests and the mutants in must-fail/ take,
+# each from nothing: tools/gate/run.sh [CRATE..]; without names every crate of crates.txt, with names
+# these and those that they stand on, whose mutants are left out.
 #
 # What is committed is cloned into a folder outside the repository. `rt ci` runs there once, which takes
 # nothing of what earlier runs kept, and watch.py notes what each of its provers used.

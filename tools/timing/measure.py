@@ -1,8 +1,8 @@
-"""Times the program named first on the rows of a bench: measure.py PROGRAM [WORD..]; with words those rows alone whose names have one of them.
+"""Times the program named first on the rows of a bench: measure.py PROGRAM [WORD..]; with more arguments those rows alone whose names have one of them.
 
-The rows stand in rows.py of the bench. Times are processor times, the least of some rounds over all sizes. It tells of each script
-whether its last line is the one that is due. Columns: the whole time; what is left of it where another script's time is taken off; how
-many times what is left at the size before; microseconds for each part; the time of what it is held against, and the ratio to it.
+The rows stand in rows.py of the bench. Times are processor times, the least of some rounds over all sizes. It says of each script
+whether its last line is the expected one. Columns: the whole time; what is left of it where another script's time is subtracted; how
+many times what is left at the size before; microseconds for each part; the time of what it is compared with, and the ratio to it.
 
 With COUNT=1 it counts instructions by valgrind in place of times, once: millions where milliseconds stand, thousands for microseconds,
 and no memory."""
@@ -101,7 +101,7 @@ def told(row):
         cells = [f"{row.name:34}", f"{count:8}", f"{size:5.1f}", f"{whole*1000:6.0f}", f"{left*1000:7.1f}" if row.without else " " * 7,
                  f"{left/before:6.2f}" if before and before > 0.0005 else " " * 6, f"{left*1e6/row.parts(count):9.2f}" if row.parts else " " * 9,
                  f"{held*1000:7.2f}" if row.beside else " " * 7, f"{left/held:6.2f}" if held > 0.00002 else " " * 6, f"{peaks[count]:5.0f}"]
-        print(" ".join(cells), wrongs[count] or "as due", flush=True)
+        print(" ".join(cells), wrongs[count] or "as expected", flush=True)
         before = left
     return any(wrongs.values())
 
