@@ -1,0 +1,3 @@
+mod LineSteps
+mod Rises
+mod TokenOrder
