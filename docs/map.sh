@@ -3,10 +3,12 @@
 # lowest last, and of each crate those that it stands on, but for those that follow from the others;
 # and behind it how many ways lead down from one crate to another, which is what `rt` pays for.
 # With --check nothing is written, and the status is 1 where the picture is not that of crates.txt,
-# or where there are more ways than are allowed.
+# where there are more ways than are allowed, or where a crate depends on a tier above its own, by the
+# table of tiers at the head of MAP.md.
 set -eu
 cd "$(dirname "$0")"
 exec python3 - "$@" <<'END'
+import re
 import sys
 
 ALL_BELOW, LEVELS, WAYS = {}, {}, {}
@@ -60,6 +62,22 @@ def picture(crates):
     told = f"{all_ways(crates):,} ways lead down from one crate to another. At most {MOST_WAYS:,} are allowed.\n"
     return f"```\n{''.join(line_of(crates, number) for number in levels)}```\n\n{told}"
 
+def tiers(text):
+    """The number of each crate's tier: 0 is the highest, and that of the tests lies above it."""
+    rows = re.findall(r"^\| (\w+) \| ((?:`\w+`(?:, )?)+) \|", text, re.M)
+    return {crate: -1 if tier == "tests" else n for n, (tier, names) in enumerate(rows) for crate in re.findall(r"\w+", names)}
+
+def upward(crates, text):
+    """The first dependency on a tier above, or a crate without a tier, if there is one."""
+    ranks = tiers(text)
+    for crate, deps in crates.items():
+        if crate not in ranks:
+            return f"the table of tiers in docs/MAP.md lacks {crate}"
+        for dep in deps:
+            if dep in ranks and ranks[dep] < ranks[crate]:
+                return f"{crate} depends on {dep}, whose tier in docs/MAP.md is above its own"
+    return None
+
 if sys.argv[1:] not in ([], ["--check"]):
     sys.exit("usage: docs/map.sh [--check]")
 text = open("MAP.md", encoding="utf-8").read()
@@ -72,6 +90,8 @@ made = f"{before}{BEGIN}{picture(crates)}{END}{after}"
 if sys.argv[1:] == ["--check"]:
     if made != text:
         sys.exit("the picture in docs/MAP.md is not that of crates.txt: run docs/map.sh")
+    if upward(crates, text):
+        sys.exit(upward(crates, text))
     if all_ways(crates) > MOST_WAYS:
         sys.exit(f"crates.txt has {all_ways(crates):,} ways from one crate down to another, more than {MOST_WAYS:,}: "
                  "let crates list fewer, and take what is below from those that they list (docs/MAP.md)")
