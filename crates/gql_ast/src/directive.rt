@@ -28,9 +28,16 @@ impl Directive {
 }
 
 /// Directives in written order.
-#[derive(Debug, Drop)]
+#[derive(Debug)]
 pub struct Directives {
     pub items: Vec<Directive>,
+}
+
+impl Drop for Directives {
+    fn drop(self) {
+        let Directives { items } = self;
+        drop(items);
+    }
 }
 
 impl Model for Directives {

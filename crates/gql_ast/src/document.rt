@@ -87,9 +87,16 @@ impl Definition {
 }
 
 /// Definitions in written order.
-#[derive(Debug, Drop)]
+#[derive(Debug)]
 pub struct Definitions {
     pub items: Vec<Definition>,
+}
+
+impl Drop for Definitions {
+    fn drop(self) {
+        let Definitions { items } = self;
+        drop(items);
+    }
 }
 
 impl Model for Definitions {

@@ -31,9 +31,16 @@ pub enum Location {
 }
 
 /// Locations in written order.
-#[derive(Debug, Drop)]
+#[derive(Debug)]
 pub struct Locations {
     pub items: Vec<Location>,
+}
+
+impl Drop for Locations {
+    fn drop(self) {
+        let Locations { items } = self;
+        drop(items);
+    }
 }
 
 impl Model for Locations {

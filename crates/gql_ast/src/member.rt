@@ -34,9 +34,16 @@ impl InputTree {
 }
 
 /// Definitions of arguments or of fields of an input object, in written order.
-#[derive(Debug, Drop)]
+#[derive(Debug)]
 pub struct InputTrees {
     pub items: Vec<InputTree>,
+}
+
+impl Drop for InputTrees {
+    fn drop(self) {
+        let InputTrees { items } = self;
+        drop(items);
+    }
 }
 
 impl Model for InputTrees {
@@ -127,9 +134,16 @@ impl FieldTree {
 }
 
 /// Definitions of fields in written order.
-#[derive(Debug, Drop)]
+#[derive(Debug)]
 pub struct FieldTrees {
     pub items: Vec<FieldTree>,
+}
+
+impl Drop for FieldTrees {
+    fn drop(self) {
+        let FieldTrees { items } = self;
+        drop(items);
+    }
 }
 
 impl Model for FieldTrees {
@@ -216,9 +230,16 @@ impl EnumValue {
 }
 
 /// Definitions of the values of an enum in written order.
-#[derive(Debug, Drop)]
+#[derive(Debug)]
 pub struct EnumValues {
     pub items: Vec<EnumValue>,
+}
+
+impl Drop for EnumValues {
+    fn drop(self) {
+        let EnumValues { items } = self;
+        drop(items);
+    }
 }
 
 impl Model for EnumValues {

@@ -15,9 +15,16 @@ pub struct FilePlace {
 }
 
 /// Places in text order.
-#[derive(Debug, Drop)]
+#[derive(Debug)]
 pub struct FilePlaces {
     pub items: Vec<FilePlace>,
+}
+
+impl Drop for FilePlaces {
+    fn drop(self) {
+        let FilePlaces { items } = self;
+        drop(items);
+    }
 }
 
 impl Model for FilePlaces {

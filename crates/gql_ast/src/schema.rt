@@ -32,9 +32,16 @@ impl Root {
 }
 
 /// The roots of a schema in written order.
-#[derive(Debug, Drop)]
+#[derive(Debug)]
 pub struct Roots {
     pub items: Vec<Root>,
+}
+
+impl Drop for Roots {
+    fn drop(self) {
+        let Roots { items } = self;
+        drop(items);
+    }
 }
 
 impl Model for Roots {
@@ -234,9 +241,16 @@ impl SchemaDef {
 }
 
 /// Definitions of a type system in text order.
-#[derive(Debug, Drop)]
+#[derive(Debug)]
 pub struct SchemaDefs {
     pub items: Vec<SchemaDef>,
+}
+
+impl Drop for SchemaDefs {
+    fn drop(self) {
+        let SchemaDefs { items } = self;
+        drop(items);
+    }
 }
 
 impl Model for SchemaDefs {

@@ -38,9 +38,17 @@ pub enum Selection {
 
 /// Selections in written order.
 #[cycle(selection)]
-#[derive(Debug, Drop)]
+#[derive(Debug)]
 pub struct Selections {
     pub items: Vec<Selection>,
+}
+
+impl Drop for Selections {
+    #[cycle(selection)]
+    fn drop(self) {
+        let Selections { items } = self;
+        drop(items);
+    }
 }
 
 impl Model for Selections {

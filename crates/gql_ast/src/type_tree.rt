@@ -20,9 +20,17 @@ pub enum TypeTree {
 /// A box itself would be told from another one by its address, so that no copy of a type would be
 /// equal to it. Contracts see this struct as the type alone.
 #[cycle(type_tree)]
-#[derive(Debug, Drop)]
+#[derive(Debug)]
 pub struct TypeBox {
     pub of: Box<TypeTree>,
+}
+
+impl Drop for TypeBox {
+    #[cycle(type_tree)]
+    fn drop(self) {
+        let TypeBox { of } = self;
+        drop(of);
+    }
 }
 
 impl Model for TypeBox {

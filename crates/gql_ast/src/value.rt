@@ -25,9 +25,17 @@ pub enum ValueTree {
 
 /// Values in written order.
 #[cycle(value)]
-#[derive(Debug, Drop)]
+#[derive(Debug)]
 pub struct ValueTrees {
     pub items: Vec<ValueTree>,
+}
+
+impl Drop for ValueTrees {
+    #[cycle(value)]
+    fn drop(self) {
+        let ValueTrees { items } = self;
+        drop(items);
+    }
 }
 
 /// A name and its value: an argument, or a field of an input object.
@@ -40,9 +48,17 @@ pub struct Argument {
 
 /// Arguments, or the fields of an input object, in written order.
 #[cycle(value)]
-#[derive(Debug, Drop)]
+#[derive(Debug)]
 pub struct Arguments {
     pub items: Vec<Argument>,
+}
+
+impl Drop for Arguments {
+    #[cycle(value)]
+    fn drop(self) {
+        let Arguments { items } = self;
+        drop(items);
+    }
 }
 
 impl Model for ValueTrees {

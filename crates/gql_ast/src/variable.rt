@@ -34,9 +34,16 @@ impl VariableDef {
 }
 
 /// Definitions of variables in written order.
-#[derive(Debug, Drop)]
+#[derive(Debug)]
 pub struct VariableDefs {
     pub items: Vec<VariableDef>,
+}
+
+impl Drop for VariableDefs {
+    fn drop(self) {
+        let VariableDefs { items } = self;
+        drop(items);
+    }
 }
 
 impl Model for VariableDefs {

@@ -10,10 +10,17 @@ use std::rc::Rc;
 
 /// Texts that are distinct and in byte order, such as the ids of records, seen as a list. Several
 /// owners share one list.
-#[derive(Debug, Drop)]
+#[derive(Debug)]
 pub struct Ids {
     /// None where there is no text.
     texts: Option<Rc<Vec<Words>>>,
+}
+
+impl Drop for Ids {
+    fn drop(self) {
+        let Ids { texts } = self;
+        drop(texts);
+    }
 }
 
 impl Model for Ids {
@@ -122,9 +129,16 @@ impl Eq for Ids {
 }
 
 /// Ids or the lack of one, in an order of their own, seen as a list.
-#[derive(Debug, Drop)]
+#[derive(Debug)]
 pub struct OptIds {
     items: Vec<Option<Words>>,
+}
+
+impl Drop for OptIds {
+    fn drop(self) {
+        let OptIds { items } = self;
+        drop(items);
+    }
 }
 
 impl Model for OptIds {

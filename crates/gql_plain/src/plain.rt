@@ -24,17 +24,33 @@ pub enum Plain {
 
 /// A list of plain trees, seen as the list of the trees.
 #[cycle(plain)]
-#[derive(Debug, Drop)]
+#[derive(Debug)]
 pub struct Plains {
     pub items: Vec<Plain>,
+}
+
+impl Drop for Plains {
+    #[cycle(plain)]
+    fn drop(self) {
+        let Plains { items } = self;
+        drop(items);
+    }
 }
 
 /// The keys and values of an object, seen as the list of the pairs: the keys are distinct and in
 /// byte order.
 #[cycle(plain)]
-#[derive(Debug, Drop)]
+#[derive(Debug)]
 pub struct Pairs {
     pub entries: Vec<(Words, Plain)>,
+}
+
+impl Drop for Pairs {
+    #[cycle(plain)]
+    fn drop(self) {
+        let Pairs { entries } = self;
+        drop(entries);
+    }
 }
 
 impl Model for Plains {

@@ -9,9 +9,16 @@ use std::marker::Model;
 use std::rc::Rc;
 
 /// A text that several owners share, seen as its UTF-8 bytes.
-#[derive(Debug, Drop)]
+#[derive(Debug)]
 pub struct SharedText {
     text: Rc<Words>,
+}
+
+impl Drop for SharedText {
+    fn drop(self) {
+        let SharedText { text } = self;
+        drop(text);
+    }
 }
 
 impl Model for SharedText {
@@ -51,7 +58,8 @@ impl SharedText {
     pub fn into_words(self) -> Result<Words, NoMemory>
         ensures { IfOk result (λ words. words ≡ self) }
     {
-        match Rc::try_unwrap(self.text) {
+        let SharedText { text } = self;
+        match Rc::try_unwrap(text) {
             Ok(words) => Ok(words),
             Err(shared) => shared.copy(),
         }

@@ -9,9 +9,16 @@ use std::cmp::Ordering;
 use std::marker::Model;
 
 /// A text, seen as its UTF-8 bytes.
-#[derive(Debug, Drop)]
+#[derive(Debug)]
 pub struct Words {
     text: String,
+}
+
+impl Drop for Words {
+    fn drop(self) {
+        let Words { text } = self;
+        drop(text);
+    }
 }
 
 /// A text that has the form of a GraphQL Name: a letter or `_`, then letters, digits and `_`, all
@@ -57,7 +64,8 @@ impl Words {
     pub fn into_string(self) -> String
         ensures { string_bytes result ≡ self }
     {
-        self.text
+        let Words { text } = self;
+        text
     }
 
     /// An equal text.

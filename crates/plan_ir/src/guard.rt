@@ -29,9 +29,16 @@ impl Condition {
 }
 
 /// Conditions in written order.
-#[derive(Debug, Drop)]
+#[derive(Debug)]
 pub struct Conditions {
     pub items: Vec<Condition>,
+}
+
+impl Drop for Conditions {
+    fn drop(self) {
+        let Conditions { items } = self;
+        drop(items);
+    }
 }
 
 impl Model for Conditions {

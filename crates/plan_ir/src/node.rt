@@ -41,9 +41,17 @@ pub enum Node {
 
 /// Nodes in the order of the text.
 #[cycle(node)]
-#[derive(Debug, Drop)]
+#[derive(Debug)]
 pub struct Nodes {
     pub items: Vec<Node>,
+}
+
+impl Drop for Nodes {
+    #[cycle(node)]
+    fn drop(self) {
+        let Nodes { items } = self;
+        drop(items);
+    }
 }
 
 impl Model for Nodes {

@@ -58,11 +58,20 @@ pub enum NormalStep {
 
 /// Steps in order.
 #[cycle(normal)]
-#[derive(Debug, Drop)]
+#[derive(Debug)]
 pub struct NormalSteps {
     items: Vec<NormalStep>,
     /// The key that the field of each step is stored under, where no variable changes it.
     keys: Vec<Option<SharedText>>,
+}
+
+impl Drop for NormalSteps {
+    #[cycle(normal)]
+    fn drop(self) {
+        let NormalSteps { items, keys } = self;
+        drop(items);
+        drop(keys);
+    }
 }
 
 impl Model for NormalSteps {

@@ -66,11 +66,20 @@ pub enum ReaderStep {
 
 /// Steps in order.
 #[cycle(reader)]
-#[derive(Debug, Drop)]
+#[derive(Debug)]
 pub struct ReaderSteps {
     items: Vec<ReaderStep>,
     /// The key that the field of each step is stored under, where no variable changes it.
     keys: Vec<Option<SharedText>>,
+}
+
+impl Drop for ReaderSteps {
+    #[cycle(reader)]
+    fn drop(self) {
+        let ReaderSteps { items, keys } = self;
+        drop(items);
+        drop(keys);
+    }
 }
 
 impl Model for ReaderSteps {

@@ -161,9 +161,15 @@ fn copy_of(id: &Option<Id>) -> Result<Option<Id>, NoMemory>
 }
 
 /// Commands in their order, seen as a list.
-#[derive(Drop)]
 pub struct Commands {
     pub items: Vec<Command>,
+}
+
+impl Drop for Commands {
+    fn drop(self) {
+        let Commands { items } = self;
+        drop(items);
+    }
 }
 
 impl Model for Commands {

@@ -55,9 +55,15 @@ impl FactRow {
 
 /// Facts by rows in byte order of their ids, seen as the list of the facts: those of one id stand
 /// together, in byte order of their keys.
-#[derive(Drop)]
 pub struct FactList {
     pub rows: Vec<FactRow>,
+}
+
+impl Drop for FactList {
+    fn drop(self) {
+        let FactList { rows } = self;
+        drop(rows);
+    }
 }
 
 impl Model for FactList {
@@ -157,9 +163,15 @@ impl HandleFact {
 }
 
 /// Pages in byte order of parent, handle key and field key, seen as a list: no two are of one place.
-#[derive(Drop)]
 pub struct HandleFacts {
     pub items: Vec<HandleFact>,
+}
+
+impl Drop for HandleFacts {
+    fn drop(self) {
+        let HandleFacts { items } = self;
+        drop(items);
+    }
 }
 
 impl Model for HandleFacts {

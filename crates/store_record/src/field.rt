@@ -44,9 +44,15 @@ pub struct FieldEntry {
 }
 
 /// A key and its field, which several records may share, seen as the pair of both.
-#[derive(Drop)]
 pub struct SharedField {
     entry: Rc<FieldEntry>,
+}
+
+impl Drop for SharedField {
+    fn drop(self) {
+        let SharedField { entry } = self;
+        drop(entry);
+    }
 }
 
 impl Model for SharedField {
@@ -104,9 +110,15 @@ impl SharedField {
 /// but it raises n counts. So a change of one field of a record that others still hold costs n
 /// counts, and N changes that each bring a new key cost about N * N / 2 counts. A persistent tree of
 /// fields would need about log n allocations a change in their place.
-#[derive(Drop)]
 pub struct Fields {
     entries: Vec<SharedField>,
+}
+
+impl Drop for Fields {
+    fn drop(self) {
+        let Fields { entries } = self;
+        drop(entries);
+    }
 }
 
 impl Model for Fields {
