@@ -24,11 +24,12 @@ use Rattle.plan_ir.specs.declared.node.Node.{Node}
 use Rattle.plan_ir.specs.declared.node.Node.TheVariants as N
 use Rattle.plan_ir.proofs.schema_tables_laws.Finding.{first_at-next}
 use Rattle.plan_ir.specs.schema_tables.Places.{first_at, first_place}
-use Rattle.plan_ir.specs.schema_tables.Types.{Text, Defs, applies, has_id, is_composite, object_name, possible}
+use Rattle.plan_ir.specs.gql_ast.TypeView.{ty_of}
+use Rattle.plan_ir.specs.schema_tables.Types.{Text, Defs, applies, base_of, has_id, is_composite, object_name, possible}
 use Rattle.plan_build.specs.Classes.{Class, Target, all_lead_to, classes_of, one_target, same_target, sorted_class, target_on, with_object, with_type, with_types}
 use Rattle.plan_build.specs.ClassView.{class_view, group_view, target_view}
 use Rattle.plan_build.specs.Conditions.{conditions_of, last_if}
-use Rattle.plan_build.specs.Steps.{FieldNode, are_within, behind, class_steps, field_steps, guarded_classes, inline_steps, is_one, on_steps, steps_of, target_step}
+use Rattle.plan_build.specs.Steps.{FieldNode, are_within, behind, class_steps, field_steps, guarded_classes, inline_steps, is_one, on_steps, steps_of, target_step, types_at}
 use Rattle.plan_build.specs.declared.classes.Class as code
 use Rattle.plan_build.specs.declared.classes.Group.{Group}
 
@@ -212,7 +213,7 @@ one_target_steps defs n step (T ∷ ts) t e = on (all_lead_to defs n (target_on 
 
 pub put_field_node : (defs : Defs) (ts : List Text) (x : Node) (r n : Text) (xs : List (Text × Val)) (ds : List Directive) (c : Option Conn) (of : TypeTree) (s : Nodes) (p : FilePlace) (old new : Normal)
     → x ≡ N.Field r n xs ds c of s p
-    → new ≡ normal_append old (behind None (conditions_of ds) (field_steps defs ts (record { response = r; name = n; arguments = xs; connection = c }) (λ us. steps_of defs us s)))
+    → new ≡ normal_append old (behind None (conditions_of ds) (field_steps defs ts (record { response = r; name = n; arguments = xs; connection = c }) (steps_of defs (types_at defs (base_of (ty_of of))) s)))
     → new ≡ normal_append old (steps_of defs ts (node_of x))
 put_field_node defs ts x r n xs ds c of s p old new is put =
     put ∙ sym (ap (λ (y : Node). normal_append old (steps_of defs ts (node_of y))) is ∙ ap (normal_append old) (normal_append_done _))
@@ -222,7 +223,7 @@ pub put_inline_node : (defs : Defs) (ts : List Text) (x : Node) (o : Option Text
 put_inline_node defs ts x o ds s p old new is put =
     put ∙ sym (ap (λ (y : Node). normal_append old (steps_of defs ts (node_of y))) is ∙ ap (normal_append old) (normal_append_done _))
 
-pub put_one_target : (defs : Defs) (ts : List Text) (f : FieldNode) (below : List Text → Normal) (old new : Normal) (t : Target) → bytes_eq f.name (codes "__typename") ≡ false
+pub put_one_target : (defs : Defs) (ts : List Text) (f : FieldNode) (below : Normal) (old new : Normal) (t : Target) → bytes_eq f.name (codes "__typename") ≡ false
     → one_target defs f.name ts ≡ Some t → new ≡ normal_append old (target_step defs f below t) → new ≡ normal_append old (field_steps defs ts f below)
 put_one_target defs ts f below old new t own one put =
     put
