@@ -43,10 +43,14 @@ fn keys_have_order(alloc: Global, steps: &ReaderSteps) -> Result<bool, NoMemory>
     };
     note_steps(&mut keys, steps)?;
     let apart = do_stand_apart(&keys);
-    if !are_distinct(keys.responses)? {
+    let Keys {
+        responses,
+        fragments,
+    } = keys;
+    if !are_distinct(responses)? {
         return Ok(false);
     }
-    if !are_distinct(keys.fragments)? {
+    if !are_distinct(fragments)? {
         return Ok(false);
     }
     Ok(apart)
