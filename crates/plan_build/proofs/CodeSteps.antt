@@ -18,8 +18,10 @@ use Rattle.plan_ir.specs.gql_plain.declared.ids.Conn.{Conn}
 use Rattle.plan_ir.proofs.NormalLaws.{normal_append_assoc, normal_append_done}
 use Rattle.plan_ir.specs.Nodes.{Nodes, set_depth}
 use Rattle.plan_ir.specs.NodesView.{node_before, node_of, nodes_of}
+use Rattle.plan_ir.specs.NormalLeads.{lead_of}
 use Rattle.plan_ir.specs.Normal.{Normal, done, guarded, normal_append, typename}
 use Rattle.plan_ir.specs.declared.guard.Condition.{Condition}
+use Rattle.plan_ir.specs.declared.guard.Guard.{Guard}
 use Rattle.plan_ir.specs.declared.node.Node.{Node}
 use Rattle.plan_ir.specs.declared.node.Node.TheVariants as N
 use Rattle.plan_ir.proofs.schema_tables_laws.Finding.{first_at-next}
@@ -29,7 +31,7 @@ use Rattle.plan_ir.specs.schema_tables.Types.{Text, Defs, applies, base_of, has_
 use Rattle.plan_build.specs.Classes.{Class, Target, all_lead_to, classes_of, one_target, same_target, sorted_class, target_on, with_object, with_type, with_types}
 use Rattle.plan_build.specs.ClassView.{class_view, group_view, target_view}
 use Rattle.plan_build.specs.Conditions.{conditions_of, last_if}
-use Rattle.plan_build.specs.Steps.{FieldNode, are_within, behind, class_steps, field_steps, guarded_classes, inline_steps, is_one, on_steps, steps_of, target_step, types_at}
+use Rattle.plan_build.specs.Steps.{FieldNode, are_within, behind, class_steps, field_steps, guarded_classes, inline_steps, is_one, leaf_step, object_step, on_steps, steps_of, target_step, types_at}
 use Rattle.plan_build.specs.declared.classes.Class as code
 use Rattle.plan_build.specs.declared.classes.Group.{Group}
 
@@ -177,6 +179,12 @@ classes_next step xs i x old new whole h is put w =
 pub classes_end : (step : Target → Normal) (xs : List code.Class) (i : ℕ) (old whole : Normal) → length xs ≤ i → normal_append old (guarded_classes step (map class_view (drop i xs))) ≡ whole → old ≡ whole
 classes_end step xs i old whole h w =
     sym (normal_append_done old) ∙ sym (ap (λ (ys : List code.Class). normal_append old (guarded_classes step (map class_view ys))) (drop_all i xs h)) ∙ w
+
+-- the step of a class whose target is of objects leads to what stands below the field
+pub class_lead : (defs : Defs) (f : FieldNode) (child : Normal) (t : Target) (inside step : Normal) (g : Guard) → inside ≡ target_step defs f child t → step ≡ guarded g inside done
+    → is_composite defs t.base ≡ true → lead_of step ≡ Some child
+class_lead defs f child t inside step g put is composite =
+    ap lead_of is ∙ ap lead_of put ∙ ap (λ (b : Bool). lead_of (cond b (object_step defs f t child) (leaf_step f))) composite
 
 -- classes that are not one alone
 pub many_classes : (step : Target → Normal) (xs : List code.Class) → (length xs ≡ 1 → ⊥) → class_steps step (map class_view xs) ≡ guarded_classes step (map class_view xs)

@@ -316,11 +316,8 @@ fn put_class<'a>(
     let conditions = Conditions::new(alloc);
     let step = behind(Some(types), conditions, inside);
     let leads = schema.is_composite(class.target.base);
-    if before && leads {
-        steps.push_again(step)?;
-        return Ok(true);
-    }
-    steps.push(step)?;
+    let again = before && leads;
+    steps.push_again(step, again)?;
     Ok(leads)
 }
 

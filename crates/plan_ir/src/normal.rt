@@ -143,20 +143,12 @@ impl NormalList {
         ensures ok { OnOk result (self.new ≡ normal_append self.old (step_of step)) }
         ensures err { OnErr result (self.new ≡ self.old) }
     {
-        self.put(step, false)
+        self.push_again(step, false)
     }
 
-    /// Puts a step at the end that leads to the same steps as the one before it, and keeps that it does.
-    pub fn push_again(&mut self, step: NormalStep) -> Result<(), NoMemory>
-        requires { last_lead self.old ≡ lead_of (step_of step) }
-        ensures ok { OnOk result (self.new ≡ normal_append self.old (step_of step)) }
-        ensures err { OnErr result (self.new ≡ self.old) }
-    {
-        self.put(step, true)
-    }
-
-    /// Puts a step at the end.
-    fn put(&mut self, step: NormalStep, again: bool) -> Result<(), NoMemory>
+    /// Puts a step at the end. Where `again` is true it leads to the same steps as the one before it, and
+    /// that is kept with it.
+    pub fn push_again(&mut self, step: NormalStep, again: bool) -> Result<(), NoMemory>
         requires { again ≡ true → last_lead self.old ≡ lead_of (step_of step) }
         ensures ok { OnOk result (self.new ≡ normal_append self.old (step_of step)) }
         ensures err { OnErr result (self.new ≡ self.old) }

@@ -70,6 +70,16 @@ fn one_response_key_twice_has_no_order(rt: HostRuntime) -> Result<(), Fail> {
     Ok(())
 }
 
+/// A guard right in a guard would be copied to each step behind it.
+#[test]
+fn guards_in_guards_have_no_order(rt: HostRuntime) -> Result<(), Fail> {
+    let alloc = rt.alloc();
+    let inner = alone(alloc, of_type(alloc, "User", leaves(alloc, "a b")?)?)?;
+    let plan = alone(alloc, of_type(alloc, "User", inner)?)?;
+    assert_eq!(rt; order_of(alloc, plan)?.as_str(), "no order");
+    Ok(())
+}
+
 /// A plan below has to have an order too.
 #[test]
 fn plans_below_are_put_in_order(rt: HostRuntime) -> Result<(), Fail> {
