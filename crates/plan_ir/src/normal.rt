@@ -265,8 +265,8 @@ fn levels_with(levels: usize, step: &NormalStep) -> Option<usize>
     ensures { IfSome result (λ n. n ≡ max levels (records_below (step_of step.now) + 1)) }
 {
     match step {
-        NormalStep::Typename { .. } => Some(levels),
-        NormalStep::Leaf { .. } => Some(levels),
+        NormalStep::Typename { .. } => Some(levels.max(1)),
+        NormalStep::Leaf { .. } => Some(levels.max(1)),
         NormalStep::Object { child, .. } => Some(levels.max(child.steps.levels().checked_add(1)?)),
         NormalStep::Guarded { child, .. } => Some(levels.max(child.steps.levels())),
     }

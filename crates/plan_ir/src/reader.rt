@@ -249,11 +249,11 @@ fn levels_with(levels: usize, step: &ReaderStep) -> Option<usize>
     ensures { IfSome result (λ n. n ≡ max levels (records_below (step_of step.now) + 1)) }
 {
     match step {
-        ReaderStep::Typename { .. } => Some(levels),
-        ReaderStep::Leaf { .. } => Some(levels),
+        ReaderStep::Typename { .. } => Some(levels.max(1)),
+        ReaderStep::Leaf { .. } => Some(levels.max(1)),
         ReaderStep::Object { child, .. } => Some(levels.max(child.steps.levels().checked_add(1)?)),
         ReaderStep::Guarded { child, .. } => Some(levels.max(child.steps.levels())),
-        ReaderStep::Pointer { inline: None, .. } => Some(levels),
+        ReaderStep::Pointer { inline: None, .. } => Some(levels.max(1)),
         ReaderStep::Pointer {
             inline: Some(child),
             ..
