@@ -1,5 +1,5 @@
 //! The response keys and the fragments of the steps of an object, and whether they have an order.
-ghost use Rattle.std.specs.Prelude.{◌≡◌, ◌↔◌, ◌||◌, true, not, ◌++◌, map, IfOk, OnOk};
+ghost use Rattle.std.specs.Prelude.{◌≡◌, ◌↔◌, ◌||◌, true, ◌++◌, map, IfOk, OnOk};
 ghost use Rattle.std.specs.Cmp.Lexicographic.{slice_cmp};
 ghost use Rattle.std.specs.List.{list_all};
 ghost use Rattle.std.specs.List.Sorted.{IsPermutation, IsSortedByKey};
@@ -110,18 +110,21 @@ fn is_unguarded(steps: &ReaderSteps) -> bool
     ensures { result ≡ is_unguarded steps.now }
 {
     'steps: for step in steps.as_slice() {
-        if is_guard(step) {
+        if !is_no_guard(step) {
             return false;
         }
     }
     true
 }
 
-/// Whether a step is a guard; takes no memory.
-fn is_guard(step: &ReaderStep) -> bool
-    ensures { result ≡ not (is_unguarded (step_of step.now)) }
+/// Whether a step is no guard; takes no memory.
+fn is_no_guard(step: &ReaderStep) -> bool
+    ensures { result ≡ is_unguarded (step_of step.now) }
 {
-    matches!(step, ReaderStep::Guarded { .. })
+    match step {
+        ReaderStep::Guarded { .. } => false,
+        _ => true,
+    }
 }
 
 /// Puts what steps say behind what is noted, that of steps behind guards among it.

@@ -12,16 +12,16 @@ use Rattle.plan_order.specs.Singles.{AreSingles}
 
 -- ---- one plan
 
-pub ordered-returns-then-branch-clause-found : goal.ordered-returns-then-branch-clause-found
-ordered-returns-then-branch-clause-found t c =
-    let none : has_order c.args.plan.now.steps ≡ false = search rules in
+pub ordered-returns-then-not-branch-clause-found : goal.ordered-returns-then-not-branch-clause-found
+ordered-returns-then-not-branch-clause-found t c =
+    let none : has_order c.args.plan.now.steps ≡ false = sym c.in_ok-has_order.ensures ∙ c.if-not-branch.true in
     order_lost c.args.plan.now.steps none
 
 pub ordered-returns-clause-copy : goal.ordered-returns-clause-copy
 ordered-returns-clause-copy t c =
     let plan = c.args.plan.now.steps in
     let given = c.in-Some.singles.items in
-    let here : has_order plan ≡ true = search rules in
+    let here : has_order plan ≡ true = sym c.in_ok-has_order.ensures ∙ c.if-not-branch.false in
     let are : AreSingles plan given = subst (λ o. IfSome o (λ s. AreSingles plan s.items)) c.in-Some.is c.in_ok-singles.ensures.singles in
     singles_ordered plan c.in_ok-copy.copy.steps given c.in_ok-sorted.sorted.items are c.in_ok-sorted.ensures.same c.in_ok-copy.ensures
     (order_made plan c.in_ok-copy.copy.steps given c.in_ok-sorted.sorted.items are c.in_ok-sorted.ensures.same c.in_ok-sorted.ensures.order c.in_ok-copy.ensures here)
@@ -29,7 +29,7 @@ ordered-returns-clause-copy t c =
 pub ordered-returns-clause-found : goal.ordered-returns-clause-found
 ordered-returns-clause-found t c =
     let plan = c.args.plan.now.steps in
-    let here : has_order plan ≡ true = search rules in
+    let here : has_order plan ≡ true = sym c.in_ok-has_order.ensures ∙ c.if-not-branch.false in
     let below : has_order_below plan ≡ true = sym (subst (λ o. is_some o ≡ has_order_below plan) c.in-Some.is c.in_ok-singles.ensures.found) in
     order_kept plan below here
 
