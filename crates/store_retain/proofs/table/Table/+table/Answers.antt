@@ -156,8 +156,3 @@ put_below-returns-in-Some-clause-grows t c = begins_self (table_of c.args.self.n
 pub put_below-returns-in-Some-clause-stands : goal.put_below-returns-in-Some-clause-stands
 put_below-returns-in-Some-clause-stands t c = λ later begins n.
     subst (λ k. IsLead (table_of c.args.self.now.parts.items) c.args.env.now.values k (Some c.args.steps.now)) c.in-Some.is c.requires.known later begins n c.args.steps.now refl
-
--- ---- what a guard lets
-
-pub put_let-put_step-requires-in-len1 : goal.put_let-put_step-requires-in-len1
-put_let-put_step-requires-in-len1 t c = ?
