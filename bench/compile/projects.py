@@ -20,6 +20,13 @@ def wide(count):
     """The schema with a thousand more objects below its interface."""
     return SCHEMA + "".join(f"type T{n} implements Node {{ id: ID! }}\n" for n in range(1_000))
 
+def narrowing(count):
+    """A schema whose interface is implemented by four objects, on which a field leads to one or the other of two narrower interfaces. Each of
+    these has objects of both kinds."""
+    objects = [("A", "J & K", "J"), ("B", "J & K", "K"), ("C", "J", "J"), ("D", "K", "K")]
+    return ("interface I { n: I }\ninterface J implements I { n: I }\ninterface K implements I { n: I }\ntype Query { i: I }\n"
+            + "".join(f"type {name} implements I & {others} {{ n: {of} }}\n" for name, others, of in objects))
+
 def line(**members):
     return json.dumps(members, separators=(",", ":"), sort_keys=True) + "\n"
 
@@ -111,6 +118,19 @@ def nested(count):
     for n in range(4):
         yield f"fragment F{n} on User {{ {inside(99)} n{n}:name }}\n", fragment(f"F{n}", "User")
 
+def narrowed(count):
+    """A field that object types narrow, so many times below itself."""
+    text = "__typename"
+    for _ in range(count):
+        text = f"n{{{text}}} __typename"
+    yield "query Q { i { " + "n { " * count + "__typename" + " }" * count + " } }\n", query("Q", f"query Q{{i{{{text}}}}}")
+
+def conditions(count):
+    """So many fields behind 57 conditions in one another."""
+    fields = " ".join(f"a{n}:name" for n in range(count))
+    yield ("query Q($v: Boolean!) { me { " + "... @include(if: $v) { " * 57 + fields + " }" * 57 + " } }\n",
+           query("Q", "query Q($v:Boolean!){me{" + "...@include(if:$v){" * 57 + fields + "}" * 57 + " id}}"))
+
 def over_one(count):
     """`count` operations that spread one large fragment."""
     body = " ".join(f"a{n}:name" for n in range(200))
@@ -145,6 +165,8 @@ PROJECTS = [
     ("fields __typename", plain, typenames, [25_000, 50_000, 100_000], False, 0),
     ("one response key", plain, same_field, [12_500, 25_000, 50_000], False, 0),
     ("sixty sets, fragments", plain, nested, [6_000, 12_000, 24_000], False, 0),
+    ("narrowed at each level", narrowing, narrowed, [10, 20, 40], False, 0),
+    ("behind 57 conditions", plain, conditions, [12_375, 24_750, 49_500, 99_000], False, 0),
     ("over one large fragment", plain, over_one, [2_500, 5_000, 10_000], False, 0),
     ("below an interface", wide, abstract, [6_000, 12_000, 24_000], False, 0),
     ("fragments, side by side", plain, spreads, [10_000, 20_000, 40_000], False, 0),

@@ -1,7 +1,7 @@
 //! How often watches look at records.
 use plan_ir::{
-    Arguments, Counts, Env, Field, Id, Ids, NoMemory, Pairs, Plain, ReaderPlan, ReaderStep,
-    ReaderSteps, Record, Words,
+    Arguments, Counts, Env, Field, Id, Ids, NoMemory, Pairs, Plain, ReaderList, ReaderPlan,
+    ReaderStep, Record, Words,
 };
 use std::alloc::Global;
 use std::rc::Rc;
@@ -11,12 +11,13 @@ use store_watch::{KeptReader, Snapshot, Watched, Watches, read};
 
 /// A leaf under its own name.
 fn leaf(alloc: Global, name: &str) -> Result<ReaderPlan, NoMemory> {
-    let mut steps = ReaderSteps::new(alloc);
+    let mut steps = ReaderList::new(alloc);
     steps.push(ReaderStep::Leaf {
         response: Words::new(alloc, name)?,
         name: Words::new(alloc, name)?,
         arguments: Arguments::new(alloc),
     })?;
+    let steps = steps.share(alloc)?;
     Ok(ReaderPlan { steps })
 }
 
@@ -29,7 +30,7 @@ fn types(alloc: Global, name: &str) -> Result<Ids, NoMemory> {
 /// `me { age }`
 fn age_of_me(alloc: Global) -> Result<ReaderPlan, NoMemory> {
     let users = types(alloc, "User")?;
-    let mut steps = ReaderSteps::new(alloc);
+    let mut steps = ReaderList::new(alloc);
     steps.push(ReaderStep::Object {
         response: Words::new(alloc, "me")?,
         name: Words::new(alloc, "me")?,
@@ -41,6 +42,7 @@ fn age_of_me(alloc: Global) -> Result<ReaderPlan, NoMemory> {
         connection: None,
         child: leaf(alloc, "age")?,
     })?;
+    let steps = steps.share(alloc)?;
     Ok(ReaderPlan { steps })
 }
 

@@ -8,8 +8,8 @@
 //! its filters. A guard is `~TYPES{`, `-VALUE{` for `@skip` or `+VALUE{` for `@include`, then its steps,
 //! and `}`.
 use plan_ir::{
-    Argument, Arguments, Condition, Conditions, Conn, Guard, Ids, Name, NormalPlan, NormalStep,
-    NormalSteps, ValueTree, Words,
+    Argument, Arguments, Condition, Conditions, Conn, Guard, Ids, Name, NormalList, NormalPlan,
+    NormalStep, ValueTree, Words,
 };
 use std::alloc::Global;
 use std::test::Fail;
@@ -18,23 +18,24 @@ use std::test::Fail;
 #[derive(Drop)]
 struct Around<'t> {
     head: &'t str,
-    steps: NormalSteps,
+    steps: NormalList,
 }
 
 /// The plan of a text.
 pub(crate) fn plan(alloc: Global, text: &str) -> Result<NormalPlan, Fail> {
     let mut around = Vec::new(alloc);
-    let mut steps = NormalSteps::new(alloc);
+    let mut steps = NormalList::new(alloc);
     for word in text.split(' ') {
         if let Some(head) = word.strip_suffix('{') {
             around.push(Around { head, steps })?;
-            steps = NormalSteps::new(alloc);
+            steps = NormalList::new(alloc);
         } else if word == "}" {
             steps = closed(alloc, around.pop(), steps)?;
         } else {
             steps.push(leaf(alloc, word)?)?;
         }
     }
+    let steps = steps.share(alloc)?;
     Ok(NormalPlan { steps })
 }
 
@@ -42,16 +43,17 @@ pub(crate) fn plan(alloc: Global, text: &str) -> Result<NormalPlan, Fail> {
 fn closed(
     alloc: Global,
     around: Option<Around<'_>>,
-    steps: NormalSteps,
-) -> Result<NormalSteps, Fail> {
-    let child = NormalPlan { steps };
+    steps: NormalList,
+) -> Result<NormalList, Fail> {
     match around {
         Some(mut around) => {
+            let steps = steps.share(alloc)?;
+            let child = NormalPlan { steps };
             let step = step_around(alloc, around.head, child)?;
             around.steps.push(step)?;
             Ok(around.steps)
         }
-        None => Ok(child.steps),
+        None => Ok(steps),
     }
 }
 

@@ -18,17 +18,20 @@ use Rattle.plan_ir.specs.gql_plain.declared.ids.Conn.{Conn}
 use Rattle.plan_ir.proofs.NormalLaws.{normal_append_assoc, normal_append_done}
 use Rattle.plan_ir.specs.Nodes.{Nodes, set_depth}
 use Rattle.plan_ir.specs.NodesView.{node_before, node_of, nodes_of}
+use Rattle.plan_ir.specs.NormalLeads.{lead_of}
 use Rattle.plan_ir.specs.Normal.{Normal, done, guarded, normal_append, typename}
 use Rattle.plan_ir.specs.declared.guard.Condition.{Condition}
+use Rattle.plan_ir.specs.declared.guard.Guard.{Guard}
 use Rattle.plan_ir.specs.declared.node.Node.{Node}
 use Rattle.plan_ir.specs.declared.node.Node.TheVariants as N
 use Rattle.plan_ir.proofs.schema_tables_laws.Finding.{first_at-next}
 use Rattle.plan_ir.specs.schema_tables.Places.{first_at, first_place}
-use Rattle.plan_ir.specs.schema_tables.Types.{Text, Defs, applies, has_id, is_composite, object_name, possible}
+use Rattle.plan_ir.specs.gql_ast.TypeView.{ty_of}
+use Rattle.plan_ir.specs.schema_tables.Types.{Text, Defs, applies, base_of, has_id, is_composite, object_name, possible}
 use Rattle.plan_build.specs.Classes.{Class, Target, all_lead_to, classes_of, one_target, same_target, sorted_class, target_on, with_object, with_type, with_types}
 use Rattle.plan_build.specs.ClassView.{class_view, group_view, target_view}
 use Rattle.plan_build.specs.Conditions.{conditions_of, last_if}
-use Rattle.plan_build.specs.Steps.{FieldNode, are_within, behind, class_steps, field_steps, guarded_classes, inline_steps, is_one, on_steps, steps_of, target_step}
+use Rattle.plan_build.specs.Steps.{FieldNode, are_within, behind, class_steps, field_steps, guarded_classes, inline_steps, is_one, leaf_step, object_step, on_steps, steps_of, target_step, types_at}
 use Rattle.plan_build.specs.declared.classes.Class as code
 use Rattle.plan_build.specs.declared.classes.Group.{Group}
 
@@ -177,6 +180,12 @@ pub classes_end : (step : Target → Normal) (xs : List code.Class) (i : ℕ) (o
 classes_end step xs i old whole h w =
     sym (normal_append_done old) ∙ sym (ap (λ (ys : List code.Class). normal_append old (guarded_classes step (map class_view ys))) (drop_all i xs h)) ∙ w
 
+-- the step of a class whose target is of objects leads to what stands below the field
+pub class_lead : (defs : Defs) (f : FieldNode) (child : Normal) (t : Target) (inside step : Normal) (g : Guard) → inside ≡ target_step defs f child t → step ≡ guarded g inside done
+    → is_composite defs t.base ≡ true → lead_of step ≡ Some child
+class_lead defs f child t inside step g put is composite =
+    ap lead_of is ∙ ap lead_of put ∙ ap (λ (b : Bool). lead_of (cond b (object_step defs f t child) (leaf_step f))) composite
+
 -- classes that are not one alone
 pub many_classes : (step : Target → Normal) (xs : List code.Class) → (length xs ≡ 1 → ⊥) → class_steps step (map class_view xs) ≡ guarded_classes step (map class_view xs)
 many_classes step [] h = refl
@@ -212,7 +221,7 @@ one_target_steps defs n step (T ∷ ts) t e = on (all_lead_to defs n (target_on 
 
 pub put_field_node : (defs : Defs) (ts : List Text) (x : Node) (r n : Text) (xs : List (Text × Val)) (ds : List Directive) (c : Option Conn) (of : TypeTree) (s : Nodes) (p : FilePlace) (old new : Normal)
     → x ≡ N.Field r n xs ds c of s p
-    → new ≡ normal_append old (behind None (conditions_of ds) (field_steps defs ts (record { response = r; name = n; arguments = xs; connection = c }) (λ us. steps_of defs us s)))
+    → new ≡ normal_append old (behind None (conditions_of ds) (field_steps defs ts (record { response = r; name = n; arguments = xs; connection = c }) (steps_of defs (types_at defs (base_of (ty_of of))) s)))
     → new ≡ normal_append old (steps_of defs ts (node_of x))
 put_field_node defs ts x r n xs ds c of s p old new is put =
     put ∙ sym (ap (λ (y : Node). normal_append old (steps_of defs ts (node_of y))) is ∙ ap (normal_append old) (normal_append_done _))
@@ -222,7 +231,7 @@ pub put_inline_node : (defs : Defs) (ts : List Text) (x : Node) (o : Option Text
 put_inline_node defs ts x o ds s p old new is put =
     put ∙ sym (ap (λ (y : Node). normal_append old (steps_of defs ts (node_of y))) is ∙ ap (normal_append old) (normal_append_done _))
 
-pub put_one_target : (defs : Defs) (ts : List Text) (f : FieldNode) (below : List Text → Normal) (old new : Normal) (t : Target) → bytes_eq f.name (codes "__typename") ≡ false
+pub put_one_target : (defs : Defs) (ts : List Text) (f : FieldNode) (below : Normal) (old new : Normal) (t : Target) → bytes_eq f.name (codes "__typename") ≡ false
     → one_target defs f.name ts ≡ Some t → new ≡ normal_append old (target_step defs f below t) → new ≡ normal_append old (field_steps defs ts f below)
 put_one_target defs ts f below old new t own one put =
     put

@@ -6,11 +6,11 @@ use Rattle.plan_ir.specs.Nodes.{Nodes}
 use Rattle.plan_ir.specs.Normal.{Normal, done, typename, leaf, object, guarded, normal_append}
 use Rattle.plan_ir.specs.NormalMeaning.{are_names, is_field_name, is_formed}
 use Rattle.plan_ir.specs.declared.guard.Condition.{Condition}
-use Rattle.plan_ir.specs.schema_tables.Types.{Text, Defs, is_composite, possible}
+use Rattle.plan_ir.specs.schema_tables.Types.{Text, Defs, base_of, is_composite, possible}
 use Rattle.plan_build.specs.Classes.{Class, Target, classes_of}
 use Rattle.plan_build.specs.Conditions.{conditions_of}
 use Rattle.plan_build.specs.Plans.{HaveNames}
-use Rattle.plan_build.specs.Steps.{FieldNode, are_within, behind, class_steps, field_steps, guarded_classes, inline_steps, is_one, leaf_step, object_step, on_steps, steps_of, target_step}
+use Rattle.plan_build.specs.Steps.{FieldNode, are_within, behind, class_steps, field_steps, guarded_classes, inline_steps, is_one, leaf_step, object_step, on_steps, steps_of, target_step, types_at}
 
 both : (a b : Bool) → a ≡ true → b ≡ true → (a && b) ≡ true
 both true b e f = f
@@ -44,30 +44,30 @@ behind_formed (Some ts) cs s e = both (is_formed s) true e refl
 
 -- ---- fields
 
-module _ (defs : Defs) (names : HaveNames defs) (f : FieldNode) (own : bytes_eq f.name (codes "__typename") ≡ false) (below : List Text → Normal) (formed : (us : List Text) → is_formed (below us) ≡ true) where
-  target_formed : (t : Target) → is_formed (target_step defs f below t) ≡ true
+module _ (defs : Defs) (names : HaveNames defs) (f : FieldNode) (own : bytes_eq f.name (codes "__typename") ≡ false) (child : Normal) (formed : is_formed child ≡ true) where
+  target_formed : (t : Target) → is_formed (target_step defs f child t) ≡ true
   target_formed t = on (is_composite defs t.base) where
     field : is_field_name f.name ≡ true
     field = ap not own
 
-    on : (b : Bool) → is_formed (cond b (object_step defs f t (below (possible defs t.base))) (leaf_step f)) ≡ true
-    on true = both _ _ field (both _ _ (names t.base) (both _ _ (formed (possible defs t.base)) refl))
+    on : (b : Bool) → is_formed (cond b (object_step defs f t child) (leaf_step f)) ≡ true
+    on true = both _ _ field (both _ _ (names t.base) (both _ _ formed refl))
     on false = both _ _ field refl
 
-  guarded_formed : (cs : List Class) → is_formed (guarded_classes (target_step defs f below) cs) ≡ true
+  guarded_formed : (cs : List Class) → is_formed (guarded_classes (target_step defs f child) cs) ≡ true
   guarded_formed [] = refl
   guarded_formed (c ∷ cs) = both _ _ (target_formed c.target) (guarded_formed cs)
 
-  classes_formed : (cs : List Class) → is_formed (class_steps (target_step defs f below) cs) ≡ true
+  classes_formed : (cs : List Class) → is_formed (class_steps (target_step defs f child) cs) ≡ true
   classes_formed [] = refl
   classes_formed (c ∷ []) = target_formed c.target
   classes_formed (c ∷ d ∷ cs) = guarded_formed (c ∷ d ∷ cs)
 
-field_formed : (defs : Defs) → HaveNames defs → (ts : List Text) (f : FieldNode) (below : List Text → Normal) → ((us : List Text) → is_formed (below us) ≡ true) → is_formed (field_steps defs ts f below) ≡ true
-field_formed defs names ts f below formed = on (bytes_eq f.name (codes "__typename")) refl where
-  on : (b : Bool) → bytes_eq f.name (codes "__typename") ≡ b → is_formed (cond b (typename f.response done) (class_steps (target_step defs f below) (classes_of defs f.name ts))) ≡ true
+field_formed : (defs : Defs) → HaveNames defs → (ts : List Text) (f : FieldNode) (child : Normal) → is_formed child ≡ true → is_formed (field_steps defs ts f child) ≡ true
+field_formed defs names ts f child formed = on (bytes_eq f.name (codes "__typename")) refl where
+  on : (b : Bool) → bytes_eq f.name (codes "__typename") ≡ b → is_formed (cond b (typename f.response done) (class_steps (target_step defs f child) (classes_of defs f.name ts))) ≡ true
   on true e = refl
-  on false e = classes_formed defs names f e below formed (classes_of defs f.name ts)
+  on false e = classes_formed defs names f e child formed (classes_of defs f.name ts)
 
 -- ---- inline fragments
 
@@ -89,8 +89,9 @@ pub steps_formed : (defs : Defs) → HaveNames defs → (ts : List Text) (s : No
 steps_formed defs names ts nodes.end = refl
 steps_formed defs names ts (nodes.field r n xs ds c of s p rest) =
     let own : FieldNode = record { response = r; name = n; arguments = xs; connection = c } in
-    then_formed (behind None (conditions_of ds) (field_steps defs ts own (λ us. steps_of defs us s))) (steps_of defs ts rest)
-    (behind_formed None (conditions_of ds) (field_steps defs ts own (λ us. steps_of defs us s)) (field_formed defs names ts own (λ us. steps_of defs us s) (λ us. steps_formed defs names us s)))
+    let child : Normal = steps_of defs (types_at defs (base_of of)) s in
+    then_formed (behind None (conditions_of ds) (field_steps defs ts own child)) (steps_of defs ts rest)
+    (behind_formed None (conditions_of ds) (field_steps defs ts own child) (field_formed defs names ts own child (steps_formed defs names (types_at defs (base_of of)) s)))
     (steps_formed defs names ts rest)
 steps_formed defs names ts (nodes.inline o ds s p rest) =
     then_formed (inline_steps defs ts o (conditions_of ds) (λ us. steps_of defs us s)) (steps_of defs ts rest)

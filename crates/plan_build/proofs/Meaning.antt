@@ -2,16 +2,12 @@
 use Rattle.std.proofs.Common.{◌≡◌, Bool, true, false, true≢false, cond, ◌||◌, List, [], ◌∷◌, ◌++◌, map, bytes_eq, refl, ap, sym, ◌∙◌, subst, inl, inr}
 use Rattle.std.proofs.lemmas.List.{map-append}
 use Rattle.std.specs.List.{AllByRecursion, AllZip}
-use Rattle.std.specs.Prelude.{codes}
 use Rattle.plan_ir.proofs.gql_graph_laws.TextSteps.{same_self, same_text}
 use Rattle.plan_ir.specs.gql_plain.Order.{has_text}
-use Rattle.plan_ir.specs.Additions.{type_on}
 use Rattle.plan_ir.specs.NormalMeaning.{Plan, collect_plan, plan_says}
 use Rattle.plan_ir.specs.declared.expanded.Expanded.{Expanded}
-use Rattle.relay_model.specs.Collection.{below_type, form_on}
 use Rattle.plan_ir.specs.schema_rules.Checked.{IsSound}
 use Rattle.plan_ir.specs.schema_rules.Rules.{is_object}
-use Rattle.plan_ir.specs.schema_tables.Fits.{is_list_type}
 use Rattle.plan_ir.specs.schema_tables.Types.{Text, Defs, base_of, is_composite, possible}
 use Rattle.plan_ir.specs.schema_types.Environments.{Values}
 use Rattle.serde_json.specs.Data as J
@@ -25,11 +21,10 @@ use Rattle.doc_merge.proofs.CollectedLaws.{collected_alike}
 use Rattle.doc_merge.specs.Faults.{field_differences}
 use Rattle.doc_merge.specs.Gathering.{fields_in}
 use Rattle.doc_merge.specs.Paths.{paths}
-use Rattle.plan_build.proofs.ClassLaws.{Differ}
 use Rattle.plan_build.proofs.Covariance.{object_alone}
 use Rattle.plan_build.proofs.CovarianceRules.{sound_meets}
 use Rattle.plan_build.proofs.Grouped.{Below, alike_groups, each_map, each_so, groups_seen, no_pointers, seen, seen_group}
-use Rattle.plan_build.proofs.OrderLaws.{differ_one, differ_possible}
+use Rattle.plan_build.proofs.OrderLaws.{differ_one}
 use Rattle.plan_build.proofs.PartLaws.{GatheredFrom, Holds, Merge, all_from, fields, names_below, one_form, one_name_each}
 use Rattle.plan_build.proofs.Parts.{Part, as_plan, as_set, gather, gather_all, node_item, node_items, plan_below, planned, set_of, step_item}
 use Rattle.plan_build.proofs.SoundTypes.{are_sound}
@@ -41,37 +36,16 @@ use Rattle.plan_build.specs.Suited.{IsSuited}
 -- ---- sets and their plans
 
 -- on an object type these are the plans of these sets
-pub record RelatedAt (defs : Defs) (T : Text) (types : List Text) (fs : List Set) (gs : List Plan) : Type 0 where
+pub record RelatedAt (defs : Defs) (T : Text) (fs : List Set) (gs : List Plan) : Type 0 where
   pub parts : List Part
   pub sets : fs ≡ map set_of parts
-  pub plans : gs ≡ map (planned defs types) parts
-  pub differ : Differ types
+  pub plans : gs ≡ map (planned defs) parts
   pub holds : AllByRecursion (Holds defs T) parts
   pub merge : Merge defs parts
 
+-- each part is planned on its own static type, whatever the types that are possible here
 abbrev pub ArePlans : Defs → Related Set Plan
-ArePlans defs types fs gs = (T : Text) → has_text types T ≡ true → RelatedAt defs T types fs gs
-
--- ---- the types of a form
-
-module _ (defs : Defs) (T : Text) where
-  pub differ_form : (n : Text) → Differ (types_of (form_on defs T n))
-  differ_form n = on (bytes_eq n (codes "__typename")) (is_composite defs (base_of (type_on defs T n))) (is_list_type (type_on defs T n)) where
-    on : (b c l : Bool) → Differ (types_of (cond b typename (cond c (cond l (many (below_type defs (base_of (type_on defs T n)))) (one (below_type defs (base_of (type_on defs T n))))) leaf)))
-    on true c l = tt
-    on false true true = differ_possible defs (base_of (type_on defs T n))
-    on false true false = differ_possible defs (base_of (type_on defs T n))
-    on false false l = tt
-
-  types_below : (n U : Text) → has_text (types_of (form_on defs T n)) U ≡ true → has_text (possible defs (base_of (type_on defs T n))) U ≡ true
-  types_below n U h = on (bytes_eq n (codes "__typename")) (is_composite defs (base_of (type_on defs T n))) (is_list_type (type_on defs T n)) h where
-    on : (b c l : Bool)
-        → has_text (types_of (cond b typename (cond c (cond l (many (below_type defs (base_of (type_on defs T n)))) (one (below_type defs (base_of (type_on defs T n))))) leaf))) U ≡ true
-        → has_text (possible defs (base_of (type_on defs T n))) U ≡ true
-    on true c l k = absurd (true≢false (sym k))
-    on false true true k = k
-    on false true false k = k
-    on false false l k = absurd (true≢false (sym k))
+ArePlans defs types fs gs = (T : Text) → has_text types T ≡ true → RelatedAt defs T fs gs
 
 pub only_one : (T U : Text) → has_text (T ∷ []) U ≡ true → U ≡ T
 only_one T U h = on (bytes_eq T U) refl h where
@@ -85,14 +59,14 @@ parts_sets : (ms : List (Asked Part)) → map (λ (a : Asked Set). a.part) (map 
 parts_sets [] = refl
 parts_sets (m ∷ ms) = ap (λ (fs : List Set). m.part.set ∷ fs) (parts_sets ms)
 
-plan_is : (defs : Defs) (form : Form) (U : Text) (p : Part) → has_text (types_of form) U ≡ true → plan_below defs form p ≡ planned defs (types_of form) p
+plan_is : (defs : Defs) (form : Form) (U : Text) (p : Part) → has_text (types_of form) U ≡ true → plan_below defs form p ≡ planned defs p
 plan_is defs typename U p h = absurd (true≢false (sym h))
 plan_is defs leaf U p h = absurd (true≢false (sym h))
 plan_is defs (one b) U p h = refl
 plan_is defs (many b) U p h = refl
 
 parts_plans : (defs : Defs) (form : Form) (U : Text) → has_text (types_of form) U ≡ true → (ms : List (Asked Part)) → AllByRecursion (λ m. m.ask.form ≡ form) ms
-    → map (λ (a : Asked Plan). a.part) (map (seen (as_plan defs)) ms) ≡ map (planned defs (types_of form)) (map (λ (m : Asked Part). m.part) ms)
+    → map (λ (a : Asked Plan). a.part) (map (seen (as_plan defs)) ms) ≡ map (planned defs) (map (λ (m : Asked Part). m.part) ms)
 parts_plans defs form U h [] same = refl
 parts_plans defs form U h (m ∷ ms) same =
     λ i. (ap (λ (f : Form). plan_below defs f m.part) same.0 ∙ plan_is defs form U m.part h) i ∷ parts_plans defs form U h ms same.1 i
@@ -120,15 +94,9 @@ module _ (defs : Defs) (T : Text) (ps : List Part) (merge : Merge defs ps) where
 
   pub holds_below : (x m : Asked Part) (U : Text) → Fit x.ask.response m → GatheredFrom defs T ps x → has_text (types_of x.ask.form) U ≡ true → Holds defs U m.part
   holds_below x m U fit gx h =
-      let g = fit.0.gathered in
-      let form : x.ask.form ≡ form_on defs T m.ask.name = sym (one_form defs T ps merge m x fit.0 gx fit.1) ∙ g.form in
-      let own : has_text (possible defs m.part.type) U ≡ true =
-      ap (λ (t : Text). has_text (possible defs t) U) g.type ∙ types_below defs T m.ask.name U (ap (λ (f : Form). has_text (types_of f) U) (sym form) ∙ h) in
-      record {
-        suited = g.suited;
-        there = own;
-        alone = λ e. only_one m.part.around U (ap (λ (ts : List Text). has_text ts U) (sym (g.narrow e)) ∙ own);
-      }
+      let own : has_text (types_of m.ask.form) U ≡ true = ap (λ (f : Form). has_text (types_of f) U) (one_form defs T ps merge m x fit.0 gx fit.1) ∙ h in
+      let there : has_text (possible defs m.part.type) U ≡ true = fit.0.gathered.below U own in
+      record { suited = fit.0.gathered.suited; differ = fit.0.gathered.differ; here = fit.0.gathered.here U own; there = there; alone = fit.0.gathered.alone U there }
 
   -- its joined parts are plans of its joined sets, at the types of each of its fields
   one_below : (x : Asked Part) (ms : List (Asked Part)) → AllByRecursion (Fit x.ask.response) ms → GatheredFrom defs T ps x
@@ -137,7 +105,6 @@ module _ (defs : Defs) (T : Text) (ps : List Part) (merge : Merge defs ps) where
     parts = map (λ (m : Asked Part). m.part) ms;
     sets = parts_sets ms;
     plans = parts_plans defs x.ask.form U h ms (each_so (Fit x.ask.response) (λ m. m.ask.form ≡ x.ask.form) ms (λ m fit. one_form defs T ps merge m x fit.0 gx fit.1) all);
-    differ = subst (λ (f : Form). Differ (types_of f)) (sym gx.gathered.form) (differ_form defs T x.ask.name);
     holds = each_map (λ (m : Asked Part). m.part) (Holds defs U) ms (each_so (Fit x.ask.response) (λ m. Holds defs U m.part) ms (λ m fit. holds_below x m U fit gx h) all);
     merge = merge_below x.ask.response ms all;
   }
@@ -152,19 +119,19 @@ module _ (defs : Defs) (T : Text) (ps : List Part) (merge : Merge defs ps) where
 
 -- ---- the relation is kept
 
-plan_items : (defs : Defs) → AreSound defs → (T : Text) (types : List Text) → Differ types → has_text types T ≡ true → (ps : List Part) → AllByRecursion (Holds defs T) ps
-    → collect_all collect_plan T (map (planned defs types) ps) ≡ map (step_item defs) (gather_all defs T ps)
-plan_items defs sound T types differ own [] h = refl
-plan_items defs sound T types differ own (p ∷ ps) h =
-    (λ i. step_items defs sound T p.set.environment types p.around p.type p.set.nodes differ own h.0.there h.0.suited i ++ plan_items defs sound T types differ own ps h.1 i)
+plan_items : (defs : Defs) → AreSound defs → (T : Text) (ps : List Part) → AllByRecursion (Holds defs T) ps
+    → collect_all collect_plan T (map (planned defs) ps) ≡ map (step_item defs) (gather_all defs T ps)
+plan_items defs sound T [] h = refl
+plan_items defs sound T (p ∷ ps) h =
+    (λ i. step_items defs sound T p.set.environment p.types p.around p.type p.set.nodes h.0.differ h.0.here h.0.there h.0.suited i ++ plan_items defs sound T ps h.1 i)
     ∙ sym (map-append (step_item defs) (gather defs T p) (gather_all defs T ps))
 
 pub plans_keep : (defs : Defs) → AreSound defs → Keeps (ArePlans defs) (ArePlans defs) (collect_nodes defs) collect_plan
 plans_keep defs sound T types fs gs own h =
-    let k : RelatedAt defs T types fs gs = h T own in
+    let k : RelatedAt defs T fs gs = h T own in
     let us : List (Asked Part) = gather_all defs T k.parts in
     let nodes : collect_all (collect_nodes defs) T fs ≡ map node_item us = ap (collect_all (collect_nodes defs) T) k.sets ∙ node_items defs T k.parts in
-    let steps : collect_all collect_plan T gs ≡ map (step_item defs) us = ap (collect_all collect_plan T) k.plans ∙ plan_items defs sound T types k.differ own k.parts k.holds in
+    let steps : collect_all collect_plan T gs ≡ map (step_item defs) us = ap (collect_all collect_plan T) k.plans ∙ plan_items defs sound T k.parts k.holds in
     let groups : List (Group Part) = grouped_onto [] us in
     let fits : AllByRecursion (Fits (GatheredFrom defs T k.parts)) groups = onto_fits (GatheredFrom defs T k.parts) us [] tt (all_from defs sound T k.parts k.holds) in
     let alike : AllZip (AlikeGroup (ArePlans defs)) (map (seen_group as_set) groups) (map (seen_group (as_plan defs)) groups) =
@@ -179,15 +146,15 @@ plans_keep defs sound T types fs gs own h =
 
 -- ---- operations
 
-abbrev root_part : Values → Expanded → Part
-root_part own e = record { set = record { environment = own; nodes = e.selections }; around = e.root; type = e.root }
+abbrev root_part : Values → Expanded → (types : List Text) → Part
+root_part own e ts = record { set = record { environment = own; nodes = e.selections }; types = ts; around = e.root; type = e.root }
 
-pub merge_root : (defs : Defs) (own : Values) (e : Expanded) → field_differences defs e ≡ [] → Merge defs (root_part own e ∷ [])
-merge_root defs own e none p q (inl f) (inl g) s u h k =
+pub merge_root : (defs : Defs) (own : Values) (e : Expanded) (ts : List Text) → field_differences defs e ≡ [] → Merge defs (root_part own e ts ∷ [])
+merge_root defs own e ts none p q (inl f) (inl g) s u h k =
     one_name_each (fields_in defs e) (collected_alike (fields_in defs e) none) s u
     (subst (λ (w : Part). Among s (paths (fields defs w))) (sym f) h) (subst (λ (w : Part). Among u (paths (fields defs w))) (sym g) k)
-merge_root defs own e none p q (inl f) (inr g) s u h k = absurd g
-merge_root defs own e none p q (inr f) g s u h k = absurd f
+merge_root defs own e ts none p q (inl f) (inr g) s u h k = absurd g
+merge_root defs own e ts none p q (inr f) g s u h k = absurd f
 
 pub root_has : (defs : Defs) → IsSound defs → (t : Text) → is_object defs t ≡ true → has_text (possible defs t) t ≡ true
 root_has defs sound t e = ap (λ (ts : List Text). has_text ts t) (object_alone defs (sound_meets defs sound) t e) ∙ ap (λ (b : Bool). b || false) (same_self t)
@@ -197,19 +164,20 @@ pub root_plans : (defs : Defs) (own : Values) (e : Expanded) → IsSound defs �
 root_plans defs own e sound suited none T h =
     let is : T ≡ e.root = only_one e.root T h in
     record {
-      parts = root_part own e ∷ [];
+      parts = root_part own e (e.root ∷ []) ∷ [];
       sets = refl;
       plans = refl;
-      differ = differ_one e.root;
       holds = (
         record {
           suited = suited.selections;
+          differ = differ_one e.root;
+          here = h;
           there = ap (has_text (possible defs e.root)) is ∙ root_has defs sound e.root suited.root;
           alone = λ b. is;
         },
         tt,
       );
-      merge = merge_root defs own e none;
+      merge = merge_root defs own e (e.root ∷ []) none;
     }
 
 pub plan_means : (defs : Defs) (e : Expanded) → IsSound defs → IsSuited defs e → field_differences defs e ≡ [] → (own : Values) (response : J.Data)

@@ -1,18 +1,24 @@
 -- Where fields merge, the fields of one response key on an object type are one field, and what stands below them merges too.
 use Rattle.std.proofs.Common.{◌≡◌, zero, suc, Bool, true, false, true≢false, cond, ◌&&◌, List, [], ◌∷◌, ◌++◌, map, Option, Some, None, bytes_eq, refl, ap, sym, ◌∙◌, subst, ◌⊎◌, inl, inr, arith}
 use Rattle.std.specs.List.{All, AllByRecursion}
+use Rattle.std.specs.Prelude.{codes}
+use Rattle.plan_ir.specs.gql_ast.Ty.{Ty}
+use Rattle.plan_ir.specs.gql_ast.Value.{Val}
 use Rattle.plan_ir.proofs.gql_graph_laws.TextSteps.{same_self, same_text}
 use Rattle.plan_ir.specs.gql_plain.Order.{has_text}
+use Rattle.plan_ir.specs.gql_plain.declared.ids.Conn.{Conn}
 use Rattle.plan_ir.specs.Additions.{type_on}
 use Rattle.plan_ir.specs.Nodes as nodes
 use Rattle.plan_ir.specs.Nodes.{Nodes}
 use Rattle.relay_model.specs.plan_text.Collecting.{applies, is_left_out}
-use Rattle.relay_model.specs.Collection.{form_on}
+use Rattle.relay_model.specs.Collection.{below_type, form_on}
 use Rattle.plan_ir.specs.schema_rules.Rules.{is_object}
-use Rattle.plan_ir.specs.schema_tables.Types.{Text, Defs, base_of, possible}
+use Rattle.plan_ir.specs.schema_tables.Fits.{is_list_type}
+use Rattle.plan_ir.specs.schema_tables.Types.{Text, Defs, base_of, is_composite, possible}
 use Rattle.plan_ir.specs.schema_types.Environments.{Values}
 use Rattle.plan_ir.specs.store_model.Alike.{Among}
-use Rattle.plan_ir.specs.store_model.Items.{Asked}
+use Rattle.plan_ir.specs.store_model.Items.{Asked, Below, typename, leaf, one, many}
+use Rattle.plan_ir.specs.store_model.Reaches.{types_of}
 use Rattle.doc_merge.proofs.GatherSteps.{rows_before}
 use Rattle.doc_merge.specs.Collected.{AreAlike, Pairwise, is_collected, keys_of, last_field, may_be_on}
 use Rattle.doc_merge.specs.Gathering.{fields_of, object_or_none, on_or}
@@ -20,11 +26,14 @@ use Rattle.doc_merge.specs.Merging as merging
 use Rattle.doc_merge.specs.Merging.{Field, Fields, no_fields}
 use Rattle.doc_merge.specs.Paths.{Path, Row, here, under, paths, rows_of}
 use Rattle.doc_merge.specs.Shapes.{shape_of}
+use Rattle.plan_build.proofs.ClassLaws.{Differ}
 use Rattle.plan_build.proofs.Grouped.{each_so}
+use Rattle.plan_build.proofs.OrderLaws.{differ_possible}
 use Rattle.plan_build.proofs.Parts.{Part, child, gather, gather_all, gather_in}
 use Rattle.plan_build.proofs.StepLaws.{AreSound, inside_type}
 use Rattle.plan_build.specs.NodesMeaning.{ask_of_node}
-use Rattle.plan_build.specs.Suited.{Suited, type_inside}
+use Rattle.plan_build.specs.Steps.{types_at}
+use Rattle.plan_build.specs.Suited.{FieldSuits, Suited, type_inside}
 
 -- ---- lists
 
@@ -58,17 +67,49 @@ each_if P false xs h = tt
 
 pub record Holds (defs : Defs) (T : Text) (p : Part) : Type 0 where
   pub suited : Suited defs p.around p.type p.set.nodes
+  pub differ : Differ p.types
+  pub here : has_text p.types T ≡ true
   pub there : has_text (possible defs p.type) T ≡ true
   pub alone : is_object defs p.around ≡ true → T ≡ p.around
+
+-- the types that a set is planned for differ, and are all that its static type may be
+pub differ_at : (defs : Defs) (t : Text) → Differ (types_at defs t)
+differ_at defs t = on (is_composite defs t) where
+  on : (b : Bool) → Differ (cond b (possible defs t) [])
+  on true = differ_possible defs t
+  on false = tt
+
+pub types_there : (defs : Defs) → AreSound defs → (t U : Text) → has_text (possible defs t) U ≡ true → has_text (types_at defs t) U ≡ true
+types_there defs sound t U h = on (is_composite defs t) refl where
+  on : (b : Bool) → is_composite defs t ≡ b → has_text (cond b (possible defs t) []) U ≡ true
+  on true e = h
+  on false e = absurd (true≢false (sym h ∙ sound.nothing t U e))
+
+-- each object type that a field of this form may lead to is one of its static type
+pub below_within : (defs : Defs) (T n : Text) (xs : List (Text × Val)) (c : Option Conn) (of : Ty) → FieldSuits defs T n xs c of
+    → (U : Text) → has_text (types_of (form_on defs T n)) U ≡ true → has_text (possible defs (base_of of)) U ≡ true
+below_within defs T n xs c of suits U h =
+    on (bytes_eq n (codes "__typename")) (is_composite defs (base_of (type_on defs T n))) (is_list_type (type_on defs T n)) refl h where
+      below : Below
+      below = below_type defs (base_of (type_on defs T n))
+
+      on : (b k l : Bool) → bytes_eq n (codes "__typename") ≡ b
+          → has_text (types_of (cond b typename (cond k (cond l (many below) (one below)) leaf))) U ≡ true → has_text (possible defs (base_of of)) U ≡ true
+      on true k l e f = absurd (true≢false (sym f))
+      on false true true e f = suits.within e U f
+      on false true false e f = suits.within e U f
+      on false false l e f = absurd (true≢false (sym f))
 
 abbrev pub fields : Defs → Part → Fields
 fields defs p = fields_of defs p.around p.set.nodes
 
 pub record Gathered (defs : Defs) (T : Text) (rows : List Row) (a : Asked Part) : Type 0 where
   pub form : a.ask.form ≡ form_on defs T a.ask.name
-  pub type : a.part.type ≡ base_of (type_on defs T a.ask.name)
-  pub narrow : is_object defs a.part.around ≡ true → possible defs a.part.type ≡ a.part.around ∷ []
+  pub differ : Differ a.part.types
+  pub below : (U : Text) → has_text (types_of a.ask.form) U ≡ true → has_text (possible defs a.part.type) U ≡ true
+  pub here : (U : Text) → has_text (types_of a.ask.form) U ≡ true → has_text a.part.types U ≡ true
   pub suited : Suited defs a.part.around a.part.type a.part.set.nodes
+  pub alone : (U : Text) → has_text (possible defs a.part.type) U ≡ true → is_object defs a.part.around ≡ true → U ≡ a.part.around
   pub field : Field
   pub key : field.key ≡ a.ask.response
   pub name : field.signature.name ≡ a.ask.name
@@ -78,9 +119,11 @@ pub record Gathered (defs : Defs) (T : Text) (rows : List Row) (a : Asked Part) 
 widened : (defs : Defs) (T : Text) (rows more : List Row) → ((w : Row) → Among w rows → Among w more) → (a : Asked Part) → Gathered defs T rows a → Gathered defs T more a
 widened defs T rows more wide a g = record {
   form = g.form;
-  type = g.type;
-  narrow = g.narrow;
+  differ = g.differ;
+  below = g.below;
+  here = g.here;
   suited = g.suited;
+  alone = g.alone;
   field = g.field;
   key = g.key;
   name = g.name;
@@ -109,13 +152,15 @@ all_gathered defs sound T env around t (nodes.field r n xs ds c of s p rest) the
     let own : Field = record { key = r; parent = object_or_none defs around; shape = shape_of defs of; signature = record { name = n; arguments = xs }; place = p } in
     let rows : List Row = rows_in defs around (nodes.field r n xs ds c of s p rest) in
     let suits = suited.0 T there in
-    each_append (Gathered defs T rows) (cond (is_left_out env ds) [] (record { ask = ask_of_node defs T env r n xs c; part = child defs T env n of s } ∷ [])) (gather_in defs T env rest)
-    (each_left (Gathered defs T rows) (is_left_out env ds) (record { ask = ask_of_node defs T env r n xs c; part = child defs T env n of s } ∷ []) (
+    each_append (Gathered defs T rows) (cond (is_left_out env ds) [] (record { ask = ask_of_node defs T env r n xs c; part = child defs env of s } ∷ [])) (gather_in defs T env rest)
+    (each_left (Gathered defs T rows) (is_left_out env ds) (record { ask = ask_of_node defs T env r n xs c; part = child defs env of s } ∷ []) (
       record {
         form = refl;
-        type = refl;
-        narrow = suits.0.narrow;
-        suited = suits.1;
+        differ = differ_at defs (base_of of);
+        below = below_within defs T n xs c of suits;
+        here = λ U h. types_there defs sound (base_of of) U (below_within defs T n xs c of suits U h);
+        suited = suited.1;
+        alone = λ U k o. sound.alone (base_of of) U o k;
         field = own;
         key = refl;
         name = refl;
@@ -125,7 +170,7 @@ all_gathered defs sound T env around t (nodes.field r n xs ds c of s p rest) the
       tt,
     ))
     (each_so (Gathered defs T (rows_in defs around rest)) (Gathered defs T rows) (gather_in defs T env rest) (widened defs T (rows_in defs around rest) rows (λ w h. inr h))
-    (all_gathered defs sound T env around t rest there alone suited.1))
+    (all_gathered defs sound T env around t rest there alone suited.2))
 all_gathered defs sound T env around t (nodes.inline o ds s p rest) there alone suited =
     let rows : List Row = rows_in defs around (nodes.inline o ds s p rest) in
     let parts : rows ≡ rows_in defs (on_or around o) s ++ rows_in defs around rest = rows_before defs [] (on_or around o) s (fields_of defs around rest) in

@@ -2,7 +2,6 @@
 use Rattle.std.proofs.Common.{◌≡◌, Bool, true, false, cond, List, [], ◌∷◌, ◌++◌, map, refl, sym, ◌∙◌}
 use Rattle.std.proofs.lemmas.List.{map-append}
 use Rattle.plan_ir.specs.gql_ast.Ty.{Ty}
-use Rattle.plan_ir.specs.Additions.{type_on}
 use Rattle.plan_ir.specs.Nodes as nodes
 use Rattle.plan_ir.specs.Nodes.{Nodes}
 use Rattle.plan_ir.specs.Normal.{done}
@@ -13,21 +12,22 @@ use Rattle.plan_ir.specs.schema_types.Environments.{Values}
 use Rattle.plan_ir.specs.store_model.Items.{Asked, Form, Item, asked, typename, leaf, one, many, collect_all}
 use Rattle.plan_build.proofs.Grouped.{seen}
 use Rattle.plan_build.specs.NodesMeaning.{Set, ask_of_node, collect_nodes, collect_nodes_in}
-use Rattle.plan_build.specs.Steps.{steps_of}
+use Rattle.plan_build.specs.Steps.{steps_of, types_at}
 
--- a set, the static type around it, and the type that its plan counts on
+-- a set, the types that it is planned for, the static type around it, and the type that is counted on
 pub record Part : Type 0 where
   pub set : Set
+  pub types : List Text
   pub around : Text
   pub type : Text
 
-abbrev pub child : Defs → (object : Text) → Values → (name : Text) → Ty → Nodes → Part
-child defs T env n of s = record { set = record { environment = env; nodes = s }; around = base_of of; type = base_of (type_on defs T n) }
+abbrev pub child : Defs → Values → Ty → Nodes → Part
+child defs env of s = record { set = record { environment = env; nodes = s }; types = types_at defs (base_of of); around = base_of of; type = base_of of }
 
 abbrev pub gather_in : Defs → (object : Text) → Values → Nodes → List (Asked Part)
 gather_in defs T env nodes.end = []
 gather_in defs T env (nodes.field r n xs ds c of s p rest) =
-    cond (is_left_out env ds) [] (record { ask = ask_of_node defs T env r n xs c; part = child defs T env n of s } ∷ []) ++ gather_in defs T env rest
+    cond (is_left_out env ds) [] (record { ask = ask_of_node defs T env r n xs c; part = child defs env of s } ∷ []) ++ gather_in defs T env rest
 gather_in defs T env (nodes.inline o ds s p rest) =
     cond (is_left_out env ds) [] (cond (applies defs o T) (gather_in defs T env s) []) ++ gather_in defs T env rest
 
@@ -51,15 +51,15 @@ node_item a = asked (seen as_set a)
 
 -- ---- seen as steps
 
-abbrev pub planned : Defs → List Text → Part → Plan
-planned defs ts p = record { environment = p.set.environment; steps = steps_of defs ts p.set.nodes }
+abbrev pub planned : Defs → Part → Plan
+planned defs p = record { environment = p.set.environment; steps = steps_of defs p.types p.set.nodes }
 
 -- the plan below a field of this form
 abbrev pub plan_below : Defs → Form → Part → Plan
 plan_below defs typename p = record { environment = p.set.environment; steps = done }
 plan_below defs leaf p = record { environment = p.set.environment; steps = done }
-plan_below defs (one b) p = planned defs b.types p
-plan_below defs (many b) p = planned defs b.types p
+plan_below defs (one b) p = planned defs p
+plan_below defs (many b) p = planned defs p
 
 abbrev pub as_plan : Defs → Asked Part → Plan
 as_plan defs a = plan_below defs a.ask.form a.part
@@ -81,7 +81,7 @@ module _ {X Y : Type 0} (f : X → Y) where
 node_items_in : (defs : Defs) (T : Text) (env : Values) (s : Nodes) → collect_nodes_in defs T env s ≡ map node_item (gather_in defs T env s)
 node_items_in defs T env nodes.end = refl
 node_items_in defs T env (nodes.field r n xs ds c of s p rest) =
-    mapped node_item (is_left_out env ds) (record { ask = ask_of_node defs T env r n xs c; part = child defs T env n of s } ∷ []) (gather_in defs T env rest) _ _ refl (node_items_in defs T env rest)
+    mapped node_item (is_left_out env ds) (record { ask = ask_of_node defs T env r n xs c; part = child defs env of s } ∷ []) (gather_in defs T env rest) _ _ refl (node_items_in defs T env rest)
 node_items_in defs T env (nodes.inline o ds s p rest) =
     mapped node_item (is_left_out env ds) (cond (applies defs o T) (gather_in defs T env s) []) (gather_in defs T env rest) _ _
     (mapped_if node_item (applies defs o T) (gather_in defs T env s) (collect_nodes_in defs T env s) (node_items_in defs T env s)) (node_items_in defs T env rest)

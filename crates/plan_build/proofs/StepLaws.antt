@@ -18,7 +18,7 @@ use Rattle.plan_ir.specs.declared.guard.Condition.{Condition}
 use Rattle.relay_model.specs.plan_text.Collecting.{applies, is_left_out}
 use Rattle.relay_model.specs.Collection.{below_type, connection_asked, form_on}
 use Rattle.plan_ir.specs.schema_rules.Rules.{is_object}
-use Rattle.plan_ir.specs.schema_tables.Types.{Text, Defs, is_composite, possible}
+use Rattle.plan_ir.specs.schema_tables.Types.{Text, Defs, base_of, is_composite, possible}
 use Rattle.plan_ir.specs.schema_types.Environments.{Values, arguments_in_environment}
 use Rattle.plan_ir.specs.store_model.Items as items
 use Rattle.plan_ir.specs.store_model.Items.{Asked, Below, Form, Item, asked}
@@ -29,7 +29,7 @@ use Rattle.plan_build.proofs.Parts.{child, gather_in, mapped, mapped_if, plan_be
 use Rattle.plan_build.specs.Classes.{Class, Target, classes_of, target_on}
 use Rattle.plan_build.specs.Conditions.{conditions_of}
 use Rattle.plan_build.specs.NodesMeaning.{ask_of_node}
-use Rattle.plan_build.specs.Steps.{FieldNode, are_within, behind, class_steps, field_steps, guarded_classes, inline_steps, is_one, on_steps, steps_of, target_step}
+use Rattle.plan_build.specs.Steps.{FieldNode, are_within, behind, class_steps, field_steps, guarded_classes, inline_steps, is_one, on_steps, steps_of, target_step, types_at}
 use Rattle.plan_build.specs.Suited.{FieldSuits, Suited, type_inside}
 
 -- what holds of the types of a sound schema: an object type is alone, and a type that is no composite one may be no object type
@@ -90,15 +90,15 @@ module _ (env : Values) (T : Text) (step : Target → Normal) where
 abbrev field_item : Defs → Text → Values → (r n : Text) → List (Text × Val) → Option Conn → Ty → Nodes → Form → Item Plan
 field_item defs T env r n xs c of s form = asked (record {
   ask = record { response = r; name = n; arguments = arguments_in_environment env xs; connection = option_map connection_asked c; form = form };
-  part = plan_below defs form (child defs T env n of s);
+  part = plan_below defs form (child defs env of s);
 })
 
 target_items : (defs : Defs) (T : Text) (env : Values) (r n : Text) (xs : List (Text × Val)) (c : Option Conn) (of : Ty) (s : Nodes) (t : Target) → (form_of defs t ≡ items.leaf → c ≡ None)
-    → collect_steps env T (target_step defs (record { response = r; name = n; arguments = xs; connection = c }) (λ us. steps_of defs us s) t)
+    → collect_steps env T (target_step defs (record { response = r; name = n; arguments = xs; connection = c }) (steps_of defs (types_at defs (base_of of)) s) t)
     ≡ field_item defs T env r n xs c of s (form_of defs t) ∷ []
 target_items defs T env r n xs c of s t plain = on (is_composite defs t.base) t.many plain where
   on : (b m : Bool) → (cond b (objects m (below_type defs t.base)) items.leaf ≡ items.leaf → c ≡ None)
-      → collect_steps env T (cond b (object r n xs m (possible defs t.base) (below_type defs t.base).identified (below_type defs t.base).open_type c (steps_of defs (possible defs t.base) s) done) (leaf r n xs done))
+      → collect_steps env T (cond b (object r n xs m (possible defs t.base) (below_type defs t.base).identified (below_type defs t.base).open_type c (steps_of defs (types_at defs (base_of of)) s) done) (leaf r n xs done))
       ≡ field_item defs T env r n xs c of s (cond b (objects m (below_type defs t.base)) items.leaf) ∷ []
   on true true h = refl
   on true false h = refl
@@ -109,14 +109,14 @@ target_items defs T env r n xs c of s t plain = on (is_composite defs t.base) t.
 
 field_items : (defs : Defs) (T : Text) (env : Values) (ts : List Text) (r n : Text) (xs : List (Text × Val)) (c : Option Conn) (of : Ty) (s : Nodes)
     → Differ ts → has_text ts T ≡ true → FieldSuits defs T n xs c of
-    → collect_steps env T (field_steps defs ts (record { response = r; name = n; arguments = xs; connection = c }) (λ us. steps_of defs us s))
+    → collect_steps env T (field_steps defs ts (record { response = r; name = n; arguments = xs; connection = c }) (steps_of defs (types_at defs (base_of of)) s))
     ≡ field_item defs T env r n xs c of s (form_on defs T n) ∷ []
 field_items defs T env ts r n xs c of s differ here suits = on (bytes_eq n (codes "__typename")) refl where
   f : FieldNode
   f = record { response = r; name = n; arguments = xs; connection = c }
 
-  below : List Text → Normal
-  below us = steps_of defs us s
+  below : Normal
+  below = steps_of defs (types_at defs (base_of of)) s
 
   on : (b : Bool) → bytes_eq n (codes "__typename") ≡ b
       → collect_steps env T (cond b (typename r done) (class_steps (target_step defs f below) (classes_of defs n ts))) ≡ field_item defs T env r n xs c of s (form_on defs T n) ∷ []
@@ -131,7 +131,7 @@ field_items defs T env ts r n xs c of s differ here suits = on (bytes_eq n (code
           connection = option_map connection_asked (sym (suits.plain name) i);
           form = form i;
         };
-        part = plan_below defs (form i) (child defs T env n of s);
+        part = plan_below defs (form i) (child defs env of s);
       }) ∷ []
   on false e =
       let one : OneLike defs (target_on defs T n) (found T (classes_of defs n ts)) = one_class defs n T ts differ here in
@@ -218,12 +218,12 @@ pub step_items : (defs : Defs) → AreSound defs → (T : Text) (env : Values) (
     → Suited defs around t s → collect_steps env T (steps_of defs ts s) ≡ map (step_item defs) (gather_in defs T env s)
 step_items defs sound T env ts around t nodes.end differ here there suited = refl
 step_items defs sound T env ts around t (nodes.field r n xs ds c of s p rest) differ here there suited =
-    let own : Normal = field_steps defs ts (record { response = r; name = n; arguments = xs; connection = c }) (λ us. steps_of defs us s) in
+    let own : Normal = field_steps defs ts (record { response = r; name = n; arguments = xs; connection = c }) (steps_of defs (types_at defs (base_of of)) s) in
     items_append env T (behind None (conditions_of ds) own) (steps_of defs ts rest)
     ∙ ap (λ (ys : List (Item Plan)). ys ++ collect_steps env T (steps_of defs ts rest)) (conditional_items env T ds own)
-    ∙ mapped (step_item defs) (is_left_out env ds) (record { ask = ask_of_node defs T env r n xs c; part = child defs T env n of s } ∷ []) (gather_in defs T env rest) _ _
-    (field_items defs T env ts r n xs c of s differ here (suited.0 T there).0)
-    (step_items defs sound T env ts around t rest differ here there suited.1)
+    ∙ mapped (step_item defs) (is_left_out env ds) (record { ask = ask_of_node defs T env r n xs c; part = child defs env of s } ∷ []) (gather_in defs T env rest) _ _
+    (field_items defs T env ts r n xs c of s differ here (suited.0 T there))
+    (step_items defs sound T env ts around t rest differ here there suited.2)
 step_items defs sound T env ts around t (nodes.inline o ds s p rest) differ here there suited =
     items_append env T (inline_steps defs ts o (conditions_of ds) (λ us. steps_of defs us s)) (steps_of defs ts rest)
     ∙ ap (λ (ys : List (Item Plan)). ys ++ collect_steps env T (steps_of defs ts rest))

@@ -77,3 +77,14 @@ pub nothing_to_test :
     (on_type (codes "B") [] (field (codes "name") (ty.named (codes "String")) nodes.end nodes.end) nodes.end))
     ≡ n.object (codes "of") (codes "of") [] false (codes "A" ∷ []) (codes "A" ∷ []) false None (n.typename (codes "__typename") n.done) n.done
 nothing_to_test = refl
+
+-- `of{of{__typename}}` on an Item: the classes of the outer field have one child, the plan of `of{__typename}` on an Item
+pub classes_share_their_child :
+    steps_of defs items (field (codes "of") (ty.named (codes "Item")) (field (codes "of") (ty.named (codes "Item")) (typename nodes.end) nodes.end) nodes.end)
+    ≡ n.guarded (record { types = Some (codes "A" ∷ []); conditions = [] })
+    (n.object (codes "of") (codes "of") [] false (codes "A" ∷ []) (codes "A" ∷ []) false None
+    (steps_of defs items (field (codes "of") (ty.named (codes "Item")) (typename nodes.end) nodes.end)) n.done)
+    (n.guarded (record { types = Some (codes "B" ∷ []); conditions = [] })
+    (n.object (codes "of") (codes "of") [] false items (codes "A" ∷ []) true None
+    (steps_of defs items (field (codes "of") (ty.named (codes "Item")) (typename nodes.end) nodes.end)) n.done) n.done)
+classes_share_their_child = refl

@@ -60,7 +60,7 @@ no_object defs false e o = true≢false (sym e)
 module _ (defs : Defs) (meets : SchemaMeets defs) where
   -- a field on the type around suits this object type, and so does its set
   abbrev On : (around n : Text) → List (Text × Val) → Option Conn → Nodes → (T : Text) → Type 0
-  On around n xs c s T = FieldSuits defs T n xs c (type_on defs around n) × Suited defs (base_on defs around n) (base_on defs T n) s
+  On around n xs c s T = FieldSuits defs T n xs c (type_on defs around n) × Suited defs (base_on defs around n) (base_on defs around n) s
 
   -- the type name, which has no set
   typename_on_object : (around T n : Text) (xs : List (Text × Val)) (c : Option Conn) (s : Nodes) → FieldRight defs around n xs c → n ≡ codes "__typename" → s ≡ end → On around n xs c s T
@@ -69,24 +69,22 @@ module _ (defs : Defs) (meets : SchemaMeets defs) where
       bare = r.bare;
       plain = r.plain;
       leaf_is_plain = λ e. r.plain same;
-      narrow = λ o. absurd
-          (no_object defs (is_composite defs around) (subst (λ (m : Text). is_some (field_type defs (Some around) m) ≡ true) same r.there)
-          (subst (λ (m : Text). is_object defs (base_on defs around m) ≡ true) same o));
+      within = λ off. absurd (true≢false (sym (ap (λ (m : Text). bytes_eq m (codes "__typename")) same) ∙ off));
     },
-    subst (Suited defs (base_on defs around n) (base_on defs T n)) (sym ends) tt,
+    subst (Suited defs (base_on defs around n) (base_on defs around n)) (sym ends) tt,
   )
 
   -- any other field
   other_on_object : (around T n : Text) (xs : List (Text × Val)) (c : Option Conn) (s : Nodes) → has_text (possible defs around) T ≡ true → FieldRight defs around n xs c
-      → bytes_eq n (codes "__typename") ≡ false → ((u : Text) → Within defs u (base_on defs around n) → Suited defs (base_on defs around n) u s) → On around n xs c s T
+      → bytes_eq n (codes "__typename") ≡ false → Suited defs (base_on defs around n) (base_on defs around n) s → On around n xs c s T
   other_on_object around T n xs c s h r off inside = (
     record {
       bare = λ same. absurd (differs same);
       plain = λ same. absurd (differs same);
       leaf_is_plain = λ e. plain_leaf c r.connection e;
-      narrow = λ o. ap (possible defs) (narrow_object defs meets (base_on defs T n) (base_on defs around n) narrow o) ∙ object_alone defs meets (base_on defs around n) o;
+      within = λ e. narrow_within defs meets (base_on defs T n) (base_on defs around n) narrow;
     },
-    inside (base_on defs T n) (narrow_within defs meets (base_on defs T n) (base_on defs around n) narrow),
+    inside,
   )
     where
       narrow : is_narrower_name defs (base_on defs T n) (base_on defs around n) ≡ true
@@ -104,7 +102,7 @@ module _ (defs : Defs) (meets : SchemaMeets defs) where
 
   -- a field on a type that may be no more than the type around it; `inside` is its set on each type within its own
   pub field_suits : (around t n : Text) (xs : List (Text × Val)) (c : Option Conn) (s : Nodes) → Within defs t around → FieldRight defs around n xs c → (n ≡ codes "__typename" → s ≡ end)
-      → ((u : Text) → Within defs u (base_on defs around n) → Suited defs (base_on defs around n) u s)
+      → Suited defs (base_on defs around n) (base_on defs around n) s
       → (T : Text) → has_text (possible defs t) T ≡ true → On around n xs c s T
   field_suits around t n xs c s within r ends inside T h = on (bytes_eq n (codes "__typename")) refl
     where

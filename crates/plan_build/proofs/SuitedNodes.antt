@@ -6,9 +6,8 @@ use Rattle.plan_ir.specs.gql_ast.Sels.{Sels}
 use Rattle.plan_ir.specs.gql_ast.declared.directive.Directive.{Directive}
 use Rattle.plan_ir.specs.gql_plain.Order.{has_text}
 use Rattle.plan_build.proofs.Covariance.{Within, base_on}
-use Rattle.plan_build.proofs.CovarianceLists.{passes_each}
 use Rattle.plan_build.proofs.CovarianceRules.{SchemaMeets}
-use Rattle.plan_build.proofs.SuitedAdditions.{additions_suit, nodes_appended}
+use Rattle.plan_build.proofs.SuitedAdditions.{additions_suit, inside_on, nodes_appended}
 use Rattle.plan_build.proofs.SuitedFields.{field_suits}
 use Rattle.plan_build.proofs.SuitedRules.{Meets, below_is}
 use Rattle.plan_build.specs.Suited.{Suited, type_inside}
@@ -21,14 +20,6 @@ use Rattle.plan_ir.specs.schema_tables.Types.{Text, Defs, possible}
 use Rattle.plan_ir.specs.schema_trees.Located.{directives_nodes}
 use Rattle.plan_ir.specs.schema_types.NameRules.{fragment_named}
 use Rattle.plan_ir.specs.schema_types.Sites.{FragmentAt, arguments_nodes, below, head_nodes, optional_name_nodes, selections_nodes}
-
--- the type inside an inline fragment lies within the fragment's
-inside_on : (defs : Defs) (t o : Text) → Within defs (type_inside defs t (Some o)) o
-inside_on defs t o = on (list_all (λ T. has_text (possible defs o) T) (possible defs t)) refl
-  where
-    on : (b : Bool) → list_all (λ T. has_text (possible defs o) T) (possible defs t) ≡ b → Within defs (cond b t o) o
-    on true e T h = passes_each (λ T. has_text (possible defs o) T) (possible defs t) T e h
-    on false e T h = h
 
 -- what holds of each fragment holds of the one that is found
 pub fragment_holds : (P : FragmentAt → Type 0) (fs : List FragmentAt) (n : Text) (f : FragmentAt) → AllByRecursion P fs → fragment_named fs n ≡ Some f → P f
@@ -62,15 +53,15 @@ module _ (p : Project) (meets : SchemaMeets p.defs) where
         let of : Text = base_on p.defs around n in
         let c : Bool = is_some (connection_among ds) in
         let set : Nodes = expansion_with enter p scope inside (below p.defs (Some around) n) s in
-        let more : Nodes = additions p.defs c of s (p.place from) in (
-          field_suits p.defs meets around t n (substitute_in scope xs) (connection_among ds) (nodes_append set more) within
+        let more : Nodes = additions p.defs c of s (p.place from) in
+        let set_suits : Suited p.defs of of (nodes_append set more) =
+        nodes_appended p.defs of of set more
+        (subst (λ (o : Option Text). Suited p.defs of of (expansion_with enter p scope inside o s)) (sym (below_is p.defs around n h.0.there)) (walked inside of of s (λ T k. k) h.1))
+        (additions_suit p.defs (p.place from) meets c of of s h.0.connection (λ T k. k)) in (
+          λ T k. (field_suits p.defs meets around t n (substitute_in scope xs) (connection_among ds) (nodes_append set more) within
               (record { there = h.0.there; bare = λ same. ap (substitute_in scope) (h.0.bare same); plain = h.0.plain; connection = h.0.connection })
-              (λ same. no_nodes from inside around n c s (h.0.alone same))
-              (λ u narrow.
-              let i = walked inside of u s narrow h.1 in
-              nodes_appended p.defs of u set more
-              (subst (λ (o : Option Text). Suited p.defs of u (expansion_with enter p scope inside o s)) (sym (below_is p.defs around n h.0.there)) i)
-              (additions_suit p.defs (p.place from) meets c of u s h.0.connection narrow)),
+              (λ same. no_nodes from inside around n c s (h.0.alone same)) set_suits T k).0,
+          set_suits,
           walked (inside + selections_nodes s) around t rest within h.2,
         )
     walked from around t (sels.spread n ds rest) within h =

@@ -10,7 +10,7 @@ use Rattle.plan_ir.specs.Nodes.{Nodes}
 use Rattle.plan_ir.specs.Normal.{Normal, done, typename, leaf, object, guarded, normal_append}
 use Rattle.plan_ir.specs.declared.expanded.Expanded.{Expanded}
 use Rattle.plan_ir.specs.declared.guard.Condition.{Condition}
-use Rattle.plan_ir.specs.schema_tables.Types.{Text, Defs, has_id, is_composite, possible}
+use Rattle.plan_ir.specs.schema_tables.Types.{Text, Defs, base_of, has_id, is_composite, possible}
 use Rattle.plan_build.specs.Classes.{Class, Target, classes_of}
 use Rattle.plan_build.specs.Conditions.{conditions_of}
 
@@ -40,8 +40,9 @@ abbrev pub object_step : Defs → FieldNode → Target → (child : Normal) → 
 object_step defs f t child =
     object f.response f.name f.arguments t.many (possible defs t.base) (identified defs t.base) (is_abstract defs t.base) f.connection child done
 
-abbrev pub target_step : Defs → FieldNode → (below : List Text → Normal) → Target → Normal
-target_step defs f below t = cond (is_composite defs t.base) (object_step defs f t (below (possible defs t.base))) (leaf_step f)
+-- whichever type the field leads to here, the same stands below
+abbrev pub target_step : Defs → FieldNode → (child : Normal) → Target → Normal
+target_step defs f child t = cond (is_composite defs t.base) (object_step defs f t child) (leaf_step f)
 
 -- a step for each class
 abbrev pub guarded_classes : (step : Target → Normal) → List Class → Normal
@@ -53,9 +54,9 @@ abbrev pub class_steps : (step : Target → Normal) → List Class → Normal
 class_steps step (c ∷ []) = step c.target
 class_steps step cs = guarded_classes step cs
 
-abbrev pub field_steps : Defs → List Text → FieldNode → (below : List Text → Normal) → Normal
-field_steps defs ts f below =
-    cond (bytes_eq f.name (codes "__typename")) (typename f.response done) (class_steps (target_step defs f below) (classes_of defs f.name ts))
+abbrev pub field_steps : Defs → List Text → FieldNode → (child : Normal) → Normal
+field_steps defs ts f child =
+    cond (bytes_eq f.name (codes "__typename")) (typename f.response done) (class_steps (target_step defs f child) (classes_of defs f.name ts))
 
 -- ---- inline fragments
 
@@ -77,10 +78,15 @@ inline_steps defs ts (Some o) cs below = cond (is_composite defs o) (on_steps de
 
 -- ---- nodes
 
+-- the object types that a field of this static type may lead to: none where it is no composite type
+abbrev pub types_at : Defs → (type : Text) → List Text
+types_at defs t = cond (is_composite defs t) (possible defs t) []
+
+-- what stands below a field is planned once, for the types that its static type may be
 abbrev pub steps_of : Defs → List Text → Nodes → Normal
 steps_of defs ts nodes.end = done
 steps_of defs ts (nodes.field r n xs ds c of s p rest) =
-    normal_append (behind None (conditions_of ds) (field_steps defs ts (record { response = r; name = n; arguments = xs; connection = c }) (λ us. steps_of defs us s)))
+    normal_append (behind None (conditions_of ds) (field_steps defs ts (record { response = r; name = n; arguments = xs; connection = c }) (steps_of defs (types_at defs (base_of of)) s)))
     (steps_of defs ts rest)
 steps_of defs ts (nodes.inline o ds s p rest) = normal_append (inline_steps defs ts o (conditions_of ds) (λ us. steps_of defs us s)) (steps_of defs ts rest)
 

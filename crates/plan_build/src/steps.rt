@@ -1,7 +1,9 @@
 //! The steps that come of nodes, where the objects are of known types.
 ghost use Rattle.std.specs.Prelude.{◌≡◌, ◌++◌, [], ◌∷◌, None, Some, false, true, map, codes, bytes_eq, IfOk, OnOk};
+ghost use Rattle.plan_ir.specs.gql_ast.TypeView.{ty_of};
 ghost use Rattle.plan_ir.specs.NodesView.{node_of};
 ghost use Rattle.plan_ir.specs.Normal.{normal_append, done, guarded};
+ghost use Rattle.plan_ir.specs.NormalLeads.{last_lead};
 ghost use Rattle.plan_ir.specs.NormalView.{step_of};
 ghost use Rattle.plan_ir.specs.schema_tables.Types as types;
 ghost use Rattle.plan_build.specs.AroundView.{IsOfComposite, types_of};
@@ -14,9 +16,10 @@ use crate::around::Around;
 use crate::classes::{Class, Target, is_abstract};
 use crate::conditions::conditions_of;
 use crate::kept::Kept;
+use plan_ir::type_forms::base_of;
 use plan_ir::{
-    Arguments, Conditions, Conn, Directives, Guard, Ids, Name, NoMemory, Node, Nodes, NormalPlan,
-    NormalStep, NormalSteps, Schema, copy_of_conn,
+    Arguments, Conditions, Conn, Directives, Guard, Ids, Name, NoMemory, Node, Nodes, NormalList,
+    NormalPlan, NormalStep, NormalSteps, Schema, TypeTree, copy_of_conn,
 };
 use std::alloc::Global;
 
@@ -27,6 +30,8 @@ pub(crate) struct Field<'a> {
     pub(crate) name: &'a Name,
     pub(crate) arguments: &'a Arguments,
     pub(crate) connection: &'a Option<Conn>,
+    /// Its static type.
+    pub(crate) of: &'a TypeTree,
     pub(crate) selections: &'a Nodes,
 }
 
@@ -41,7 +46,7 @@ fn behind(types: Option<Ids>, conditions: Conditions, steps: NormalSteps) -> Nor
 }
 
 /// Puts a leaf.
-fn put_leaf(field: &Field<'_>, steps: &mut NormalSteps) -> Result<(), NoMemory>
+fn put_leaf(field: &Field<'_>, steps: &mut NormalList) -> Result<(), NoMemory>
     ensures { OnOk result (steps.new ≡ normal_append steps.old (spec.leaf_step (field_view field.now))) }
 {
     let response = field.response.copy()?;
@@ -62,7 +67,7 @@ fn put_object_step<'a>(
     field: &Field<'_>,
     target: &Target<'a>,
     child: NormalSteps,
-    steps: &mut NormalSteps,
+    steps: &mut NormalList,
 ) -> Result<(), NoMemory>
     requires right { IsRight schema.now kept.old }
     requires composite { types.is_composite schema.now target.now.base.now ≡ true }
@@ -102,9 +107,9 @@ pub(crate) fn make_steps<'a>(
     ensures right { OnOk result (IsRight schema.now kept.new) }
     ensures put { IfOk result (λ steps. steps ≡ spec.steps_of schema.now (types_of schema.now around.entry) nodes.now) }
 {
-    let mut steps = NormalSteps::new(alloc);
+    let mut steps = NormalList::new(alloc);
     put_nodes(alloc, schema, kept, around, nodes, &mut steps)?;
-    Ok(steps)
+    steps.share(alloc)
 }
 
 /// Puts the steps of nodes.
@@ -115,7 +120,7 @@ fn put_nodes<'a>(
     kept: &mut Kept<'a>,
     around: Around<'_, 'a>,
     nodes: &'a Nodes,
-    steps: &mut NormalSteps,
+    steps: &mut NormalList,
 ) -> Result<(), NoMemory>
     requires right { IsRight schema.now kept.old }
     requires composite { IsOfComposite schema.now around }
@@ -136,7 +141,7 @@ fn put_node<'a>(
     kept: &mut Kept<'a>,
     around: Around<'_, 'a>,
     node: &'a Node,
-    steps: &mut NormalSteps,
+    steps: &mut NormalList,
 ) -> Result<(), NoMemory>
     requires right { IsRight schema.now kept.old }
     requires composite { IsOfComposite schema.now around }
@@ -150,6 +155,7 @@ fn put_node<'a>(
             arguments,
             directives,
             connection,
+            of,
             selections,
             ..
         } => {
@@ -158,6 +164,7 @@ fn put_node<'a>(
                 name,
                 arguments,
                 connection,
+                of,
                 selections,
             };
             put_field(alloc, schema, kept, around, directives, &field, steps)
@@ -182,20 +189,21 @@ fn put_field<'a>(
     around: Around<'_, 'a>,
     directives: &Directives,
     field: &Field<'a>,
-    steps: &mut NormalSteps,
+    steps: &mut NormalList,
 ) -> Result<(), NoMemory>
     requires right { IsRight schema.now kept.old }
     requires composite { IsOfComposite schema.now around }
     ensures right { OnOk result (IsRight schema.now kept.new) }
     ensures put { OnOk result (steps.new ≡ normal_append steps.old (spec.behind None (tests.conditions_of directives.now)
-        (spec.field_steps schema.now (types_of schema.now around.entry) (field_view field.now) (λ us. spec.steps_of schema.now us field.now.selections.now)))) }
+        (spec.field_steps schema.now (types_of schema.now around.entry) (field_view field.now) (spec.steps_of schema.now (spec.types_at schema.now (types.base_of (ty_of field.now.of.now))) field.now.selections.now)))) }
 {
     let conditions = conditions_of(alloc, directives)?;
     if conditions.is_empty() {
         return put_field_steps(alloc, schema, kept, around, field, steps);
     }
-    let mut inside = NormalSteps::new(alloc);
+    let mut inside = NormalList::new(alloc);
     put_field_steps(alloc, schema, kept, around, field, &mut inside)?;
+    let inside = inside.share(alloc)?;
     steps.push(behind(None, conditions, inside))
 }
 
@@ -207,97 +215,131 @@ fn put_field_steps<'a>(
     kept: &mut Kept<'a>,
     around: Around<'_, 'a>,
     field: &Field<'a>,
-    steps: &mut NormalSteps,
+    steps: &mut NormalList,
 ) -> Result<(), NoMemory>
     requires right { IsRight schema.now kept.old }
     requires composite { IsOfComposite schema.now around }
     ensures right { OnOk result (IsRight schema.now kept.new) }
     ensures put { OnOk result (steps.new ≡ normal_append steps.old
-        (spec.field_steps schema.now (types_of schema.now around.entry) (field_view field.now) (λ us. spec.steps_of schema.now us field.now.selections.now))) }
+        (spec.field_steps schema.now (types_of schema.now around.entry) (field_view field.now) (spec.steps_of schema.now (spec.types_at schema.now (types.base_of (ty_of field.now.of.now))) field.now.selections.now))) }
 {
     if field.name.as_str() == "__typename" {
         let response = field.response.copy()?;
         return steps.push(NormalStep::Typename { response });
     }
+    let child = make_child(alloc, schema, kept, field)?;
     let one = kept.one_target(alloc, schema, around, field.name.as_str())?;
     if let Some(target) = one {
-        return put_target(alloc, schema, kept, &target, field, steps);
+        return put_target(alloc, schema, kept, &target, field, &child, steps);
     }
     let classes = around.classes_of(alloc, schema, field.name.as_str())?;
-    put_classes(alloc, schema, kept, &classes, field, steps)
+    put_classes(alloc, schema, kept, &classes, field, &child, steps)
+}
+
+/// The steps of what stands below a field, for all object types that its static type may be: whichever
+/// of its classes they stand in, they are the same.
+#[cycle(steps)]
+fn make_child<'a>(
+    alloc: Global,
+    schema: &'a Schema,
+    kept: &mut Kept<'a>,
+    field: &Field<'a>,
+) -> Result<NormalSteps, NoMemory>
+    requires { IsRight schema.now kept.old }
+    ensures right { OnOk result (IsRight schema.now kept.new) }
+    ensures put { IfOk result (λ child. child ≡ spec.steps_of schema.now (spec.types_at schema.now (types.base_of (ty_of field.now.of.now))) field.now.selections.now) }
+{
+    let of = base_of(field.of);
+    if schema.is_composite(of) {
+        return make_steps(alloc, schema, kept, Around::Of(of), field.selections);
+    }
+    let none = Ids::new(alloc);
+    make_steps(alloc, schema, kept, Around::Listed(&none), field.selections)
 }
 
 /// Puts a step for each class; one class alone wants no guard.
-#[cycle(steps)]
 fn put_classes<'a>(
     alloc: Global,
     schema: &'a Schema,
     kept: &mut Kept<'a>,
     classes: &[Class<'a>],
     field: &Field<'a>,
-    steps: &mut NormalSteps,
+    child: &NormalSteps,
+    steps: &mut NormalList,
 ) -> Result<(), NoMemory>
     requires { IsRight schema.now kept.old }
     ensures right { OnOk result (IsRight schema.now kept.new) }
     ensures put { OnOk result (steps.new ≡ normal_append steps.old (spec.class_steps
-        (spec.target_step schema.now (field_view field.now) (λ us. spec.steps_of schema.now us field.now.selections.now)) (map class_view classes.now))) }
+        (spec.target_step schema.now (field_view field.now) child.now) (map class_view classes.now))) }
 {
     if classes.len() == 1 {
-        return put_target(alloc, schema, kept, &classes[0].target, field, steps);
+        return put_target(alloc, schema, kept, &classes[0].target, field, child, steps);
     }
+    let mut leads = false;
     'classes: for class in classes {
-        put_class(alloc, schema, kept, class, field, steps)?;
+        leads = put_class(alloc, schema, kept, class, field, child, leads, steps)?;
     }
     Ok(())
 }
 
-/// Puts the step of a class behind the guard of its types.
-#[cycle(steps)]
+/// Puts the step of a class behind the guard of its types. It says whether the step leads to what stands
+/// below the field, as is told of the step before it.
 fn put_class<'a>(
     alloc: Global,
     schema: &'a Schema,
     kept: &mut Kept<'a>,
     class: &Class<'a>,
     field: &Field<'a>,
-    steps: &mut NormalSteps,
-) -> Result<(), NoMemory>
-    requires { IsRight schema.now kept.old }
+    child: &NormalSteps,
+    before: bool,
+    steps: &mut NormalList,
+) -> Result<bool, NoMemory>
+    requires right { IsRight schema.now kept.old }
+    requires before { before ≡ true → last_lead steps.old ≡ Some child.now }
     ensures right { OnOk result (IsRight schema.now kept.new) }
     ensures put { OnOk result (steps.new ≡ normal_append steps.old (spec.guarded_classes
-        (spec.target_step schema.now (field_view field.now) (λ us. spec.steps_of schema.now us field.now.selections.now)) (class_view class.now ∷ []))) }
+        (spec.target_step schema.now (field_view field.now) child.now) (class_view class.now ∷ []))) }
+    ensures leads { IfOk result (λ leads. leads ≡ true → last_lead steps.new ≡ Some child.now) }
 {
-    let mut inside = NormalSteps::new(alloc);
-    put_target(alloc, schema, kept, &class.target, field, &mut inside)?;
+    let mut inside = NormalList::new(alloc);
+    put_target(
+        alloc,
+        schema,
+        kept,
+        &class.target,
+        field,
+        child,
+        &mut inside,
+    )?;
+    let inside = inside.share(alloc)?;
     let types = class.types.copy()?;
     let conditions = Conditions::new(alloc);
-    steps.push(behind(Some(types), conditions, inside))
+    let step = behind(Some(types), conditions, inside);
+    let leads = schema.is_composite(class.target.base);
+    let again = before && leads;
+    steps.push_again(step, again)?;
+    Ok(leads)
 }
 
 /// Puts the step of a field that leads to this target.
-#[cycle(steps)]
 fn put_target<'a>(
     alloc: Global,
     schema: &'a Schema,
     kept: &mut Kept<'a>,
     target: &Target<'a>,
     field: &Field<'a>,
-    steps: &mut NormalSteps,
+    child: &NormalSteps,
+    steps: &mut NormalList,
 ) -> Result<(), NoMemory>
     requires { IsRight schema.now kept.old }
     ensures right { OnOk result (IsRight schema.now kept.new) }
     ensures put { OnOk result (steps.new ≡ normal_append steps.old
-        (spec.target_step schema.now (field_view field.now) (λ us. spec.steps_of schema.now us field.now.selections.now) (target_view target.now))) }
+        (spec.target_step schema.now (field_view field.now) child.now (target_view target.now))) }
 {
     if !schema.is_composite(target.base) {
         return put_leaf(field, steps);
     }
-    let child = make_steps(
-        alloc,
-        schema,
-        kept,
-        Around::Of(target.base),
-        field.selections,
-    )?;
+    let child = child.copy()?;
     put_object_step(alloc, schema, kept, field, target, child, steps)
 }
 
@@ -311,7 +353,7 @@ fn put_inline<'a>(
     on: &'a Option<Name>,
     directives: &Directives,
     selections: &'a Nodes,
-    steps: &mut NormalSteps,
+    steps: &mut NormalList,
 ) -> Result<(), NoMemory>
     requires right { IsRight schema.now kept.old }
     requires composite { IsOfComposite schema.now around }
@@ -338,7 +380,7 @@ fn put_on<'a>(
     on: &'a Name,
     conditions: Conditions,
     selections: &'a Nodes,
-    steps: &mut NormalSteps,
+    steps: &mut NormalList,
 ) -> Result<(), NoMemory>
     requires right { IsRight schema.now kept.old }
     requires composite { IsOfComposite schema.now around }
@@ -370,7 +412,7 @@ fn put_inside<'a>(
     around: Around<'_, 'a>,
     conditions: Conditions,
     selections: &'a Nodes,
-    steps: &mut NormalSteps,
+    steps: &mut NormalList,
 ) -> Result<(), NoMemory>
     requires right { IsRight schema.now kept.old }
     requires composite { IsOfComposite schema.now around }

@@ -4,6 +4,7 @@ mod AdditionSteps
 mod DirectiveSteps
 mod LocalSizes
 mod Substituting
+pub mod Depths
 pub mod MakingSteps
 pub mod Expanding
 pub mod Listed

@@ -13,7 +13,6 @@ ghost use Rattle.plan_expand.specs.Verdicts.{IsOutcome};
 
 use crate::additions::{Adding, base_on};
 use crate::check::check_extent;
-use crate::extent::MOST_LEVELS;
 use crate::fault::ExpandFault;
 use crate::fragments::{Fragments, ReadyFragment};
 use crate::making::{Walk, make_set};
@@ -293,7 +292,7 @@ impl<'a> Expander<'a> {
             spreads: self.spreads,
         };
         let mut at = 0;
-        let nodes = make_set(alloc, walk, &mut at, around, selections, MOST_LEVELS + 1)?;
+        let nodes = make_set(alloc, walk, &mut at, around, selections)?;
         Ok(nodes)
     }
 

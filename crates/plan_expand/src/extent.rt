@@ -9,7 +9,7 @@ use plan_ir::NoMemory;
 const MOST_NODES: usize = 100_000;
 
 /// How many selection sets, and how many lists and objects, may stand in one another.
-pub(crate) const MOST_LEVELS: usize = 60;
+const MOST_LEVELS: usize = 60;
 
 /// How many nodes there are, on how many levels they stand, and how many lists and objects stand in
 /// one another.

@@ -60,8 +60,7 @@ fn copy_of_name(name: &Option<Name>) -> Result<Option<Name>, NoMemory>
     }
 }
 
-/// The nodes of a set that nests no deeper than so many sets in one another; goes past its
-/// selections. A set that nests deeper is answered as out of memory.
+/// The nodes of a set; goes past its selections. How deep it nests was measured before.
 #[cycle(make)]
 pub(crate) fn make_set<'a>(
     alloc: Global,
@@ -69,18 +68,14 @@ pub(crate) fn make_set<'a>(
     at: &mut usize,
     around: Option<&'a str>,
     selections: &'a Selections,
-    levels: usize,
 ) -> Result<Nodes, NoMemory>
     requires { IsRight walk.adding.now }
     ensures made { IfOk result (λ nodes. nodes ≡ making walk.entry.spreads walk.entry.adding.now.schema.now (find_in walk.entry.fragments.now) (scope_of walk.entry.scope.now) walk.entry.places.now at.old (option_copied around.entry) selections.now) }
     ensures passed { OnOk result (at.new ≡ at.old + selections_count selections.now) }
 {
     let mut nodes = Nodes::new(alloc);
-    if levels == 0 {
-        return Err(NoMemory);
-    }
     'selections: for selection in selections.as_slice() {
-        put_selection(alloc, walk, at, around, &mut nodes, selection, levels - 1)?;
+        put_selection(alloc, walk, at, around, &mut nodes, selection)?;
     }
     Ok(nodes)
 }
@@ -94,7 +89,6 @@ fn put_selection<'a>(
     around: Option<&'a str>,
     nodes: &mut Nodes,
     selection: &'a Selection,
-    levels: usize,
 ) -> Result<(), NoMemory>
     requires { IsRight walk.adding.now }
     ensures made { OnOk result (nodes.new ≡ nodes_append nodes.old (making walk.entry.spreads walk.entry.adding.now.schema.now (find_in walk.entry.fragments.now) (scope_of walk.entry.scope.now) walk.entry.places.now at.old (option_copied around.entry) (sel_of selection.now))) }
@@ -109,13 +103,13 @@ fn put_selection<'a>(
             selections,
         } => {
             let node = make_field(
-                alloc, walk, at, around, alias, name, arguments, directives, selections, levels,
+                alloc, walk, at, around, alias, name, arguments, directives, selections,
             )?;
             nodes.push(node)?;
             Ok(())
         }
         Selection::Spread { name, directives } => {
-            put_spread(alloc, walk, at, nodes, name, directives, levels)?;
+            put_spread(alloc, walk, at, nodes, name, directives)?;
             Ok(())
         }
         Selection::Inline {
@@ -123,7 +117,7 @@ fn put_selection<'a>(
             directives,
             selections,
         } => {
-            let node = make_inline(alloc, walk, at, around, on, directives, selections, levels)?;
+            let node = make_inline(alloc, walk, at, around, on, directives, selections)?;
             nodes.push(node)?;
             Ok(())
         }
@@ -142,7 +136,6 @@ fn make_field<'a>(
     arguments: &Arguments,
     directives: &Directives,
     selections: &'a Selections,
-    levels: usize,
 ) -> Result<Node, NoMemory>
     requires { IsRight walk.adding.now }
     ensures made { IfOk result (λ node. node_of node ≡ making walk.entry.spreads walk.entry.adding.now.schema.now (find_in walk.entry.fragments.now) (scope_of walk.entry.scope.now) walk.entry.places.now at.old (option_copied around.entry) (sels.field alias.now name.now arguments.now directives.now selections.now sels.end)) }
@@ -151,7 +144,7 @@ fn make_field<'a>(
     let place = place_at(walk.places, *at);
     pass(at, 1)?;
     let inner = below(walk.adding.schema, around, name.as_str());
-    let mut inside = make_set(alloc, walk, at, inner, selections, levels)?;
+    let mut inside = make_set(alloc, walk, at, inner, selections)?;
     let of = type_of_field(alloc, walk.adding.schema, around, name.as_str())?;
     let connection = connection_among(alloc, directives)?;
     let is_connection = connection.is_some();
@@ -190,7 +183,6 @@ fn make_inline<'a>(
     on: &'a Option<Name>,
     directives: &Directives,
     selections: &'a Selections,
-    levels: usize,
 ) -> Result<Node, NoMemory>
     requires { IsRight walk.adding.now }
     ensures made { IfOk result (λ node. node_of node ≡ making walk.entry.spreads walk.entry.adding.now.schema.now (find_in walk.entry.fragments.now) (scope_of walk.entry.scope.now) walk.entry.places.now at.old (option_copied around.entry) (sels.inline on.now directives.now selections.now sels.end)) }
@@ -199,7 +191,7 @@ fn make_inline<'a>(
     let place = place_at(walk.places, *at);
     pass(at, 1)?;
     let inner = condition_or(around, on);
-    let inside = make_set(alloc, walk, at, inner, selections, levels)?;
+    let inside = make_set(alloc, walk, at, inner, selections)?;
     let condition = copy_of_name(on)?;
     let printed = print_directives(alloc, walk.scope, directives, false)?;
     Ok(Node::Inline {
@@ -219,7 +211,6 @@ fn put_spread<'a>(
     nodes: &mut Nodes,
     name: &Name,
     directives: &'a Directives,
-    levels: usize,
 ) -> Result<(), NoMemory>
     requires { IsRight walk.adding.now }
     ensures made { OnOk result (nodes.new ≡ nodes_append nodes.old (spec.entering walk.entry.spreads walk.entry.adding.now.schema.now (find_in walk.entry.fragments.now) (scope_of walk.entry.scope.now) (get_or walk.entry.places.now at.old first_place) name.now directives.now end)) }
@@ -232,7 +223,7 @@ fn put_spread<'a>(
     }
     match walk.fragments.find(name.as_str()) {
         Some(fragment) => {
-            let node = make_spread(alloc, walk, fragment, directives, place, levels)?;
+            let node = make_spread(alloc, walk, fragment, directives, place)?;
             nodes.push(node)?;
             Ok(())
         }
@@ -248,7 +239,6 @@ fn make_spread<'a>(
     fragment: &ReadyFragment<'a>,
     directives: &'a Directives,
     place: FilePlace,
-    levels: usize,
 ) -> Result<Node, NoMemory>
     requires right { IsRight walk.adding.now }
     requires some { 0 < walk.spreads }
@@ -264,7 +254,7 @@ fn make_spread<'a>(
     };
     let mut at = 0;
     let on = Some(fragment.on);
-    let inside = make_set(alloc, inner, &mut at, on, fragment.selections, levels)?;
+    let inside = make_set(alloc, inner, &mut at, on, fragment.selections)?;
     let condition = Words::new(alloc, fragment.on)?;
     let printed = print_directives(alloc, walk.scope, directives, true)?;
     Ok(Node::Inline {

@@ -44,7 +44,7 @@ step_below xs whole i x h is e =
     omega (arith, held, ap (λ (y : NormalStep). depth (step_of y)) is, ap depth e)
 
 pub guarded_deep : (x : NormalStep) (g : Guard) (child : NormalPlan) → x ≡ N.Guarded g child → depth child.steps < depth (step_of x)
-guarded_deep x g child e = let deep : depth (step_of x) ≡ depth child.steps + 1 = ap (λ (y : NormalStep). depth (step_of y)) e ∙ omega arith in omega (arith, deep)
+guarded_deep x g child e = let deep : depth (step_of x) ≡ depth child.steps + 2 = ap (λ (y : NormalStep). depth (step_of y)) e ∙ omega arith in omega (arith, deep)
 
 -- ---- items
 

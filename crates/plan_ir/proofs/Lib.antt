@@ -11,8 +11,11 @@ pub use Rattle.relay_dirs.proofs.schema_values_laws
 pub use Rattle.store_model.proofs as store_model_laws
 pub mod NodeLaws
 pub mod NormalLaws
+pub mod NormalLeadLaws
+pub mod NormalLevels
 pub mod ReaderDepth
 pub mod ReaderLaws
+pub mod ReaderLevels
 pub mod ExpansionRows
 pub mod TextRows
 pub mod KeptKeys

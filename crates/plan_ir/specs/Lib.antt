@@ -35,4 +35,5 @@ pub mod NormalMeaning
 pub mod NormalReach
 pub mod ReaderMeaning
 pub mod NormalKeys
+pub mod NormalLeads
 pub mod ReaderKeys

@@ -21,13 +21,13 @@ normal_append (leaf r n xs rest) t = leaf r n xs (normal_append rest t)
 normal_append (object r n xs m ts is o c child rest) t = object r n xs m ts is o c child (normal_append rest t)
 normal_append (guarded g child rest) t = guarded g child (normal_append rest t)
 
--- how many plans stand in one another, this one counted: 0 where it has no step
+-- twice the number of plans that stand in one another, for each its steps and their owners; 0 where it has no step
 abbrev pub depth : Normal → ℕ
 depth done = 0
 depth (typename r rest) = max 1 (depth rest)
 depth (leaf r n xs rest) = max 1 (depth rest)
-depth (object r n xs m ts is o c child rest) = max (depth child + 1) (depth rest)
-depth (guarded g child rest) = max (depth child + 1) (depth rest)
+depth (object r n xs m ts is o c child rest) = max (depth child + 2) (depth rest)
+depth (guarded g child rest) = max (depth child + 2) (depth rest)
 
 -- how many steps the plan has, those inside them not counted
 abbrev pub number_of : Normal → ℕ

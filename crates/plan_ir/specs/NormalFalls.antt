@@ -4,7 +4,7 @@ use Rattle.std.proofs.Common.{arith}
 use denote.Param.Weighed.{most}
 use Rattle.plan_ir.specs.declared.normal.NormalStep.{NormalStep}
 use Rattle.plan_ir.specs.declared.normal.NormalStep.TheVariants as N
-use Rattle.plan_ir.specs.declared.normal.NormalSteps.TheDeep.{deep-NormalStep}
+use Rattle.plan_ir.specs.declared.normal.NormalList.TheDeep.{deep-NormalStep}
 use Rattle.plan_ir.specs.Normal.{Normal, depth}
 use Rattle.plan_ir.specs.NormalView.{step_before, steps_of}
 

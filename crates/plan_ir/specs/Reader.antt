@@ -26,15 +26,15 @@ reader_append (guarded g child rest) t = guarded g child (reader_append rest t)
 reader_append (pointer f xs rest) t = pointer f xs (reader_append rest t)
 reader_append (pointer_inline f xs child rest) t = pointer_inline f xs child (reader_append rest t)
 
--- how many plans stand in one another, this one counted: 0 where it has no step
+-- twice the number of plans that stand in one another, for each its steps and their owners; 0 where it has no step
 abbrev pub depth : Reader → ℕ
 depth done = 0
 depth (typename r rest) = max 1 (depth rest)
 depth (leaf r n xs rest) = max 1 (depth rest)
-depth (object r n xs m ts is o c child rest) = max (depth child + 1) (depth rest)
-depth (guarded g child rest) = max (depth child + 1) (depth rest)
+depth (object r n xs m ts is o c child rest) = max (depth child + 2) (depth rest)
+depth (guarded g child rest) = max (depth child + 2) (depth rest)
 depth (pointer f xs rest) = max 1 (depth rest)
-depth (pointer_inline f xs child rest) = max (depth child + 1) (depth rest)
+depth (pointer_inline f xs child rest) = max (depth child + 2) (depth rest)
 
 -- how many steps the plan has, those inside them not counted
 abbrev pub number_of : Reader → ℕ

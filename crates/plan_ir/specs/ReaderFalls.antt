@@ -4,7 +4,7 @@ use Rattle.std.proofs.Common.{arith}
 use denote.Param.Weighed.{most}
 use Rattle.plan_ir.specs.declared.reader.ReaderStep.{ReaderStep}
 use Rattle.plan_ir.specs.declared.reader.ReaderStep.TheVariants as N
-use Rattle.plan_ir.specs.declared.reader.ReaderSteps.TheDeep.{deep-ReaderStep}
+use Rattle.plan_ir.specs.declared.reader.ReaderList.TheDeep.{deep-ReaderStep}
 use Rattle.plan_ir.specs.Reader.{Reader, depth}
 use Rattle.plan_ir.specs.ReaderView.{step_before, steps_of}
 

@@ -22,26 +22,3 @@ pub(crate) fn constant_key(
     let key = field_key(alloc, name, &values)?;
     Ok(Some(SharedText::new(alloc, key)?))
 }
-
-/// One more owner of each key.
-pub(crate) fn copy_of_keys(
-    keys: &Vec<Option<SharedText>>,
-) -> Result<Vec<Option<SharedText>>, NoMemory>
-    ensures { IfOk result (λ copy. copy.items ≡ keys.now.items) }
-{
-    let mut copies = Vec::with_capacity(*keys.allocator(), keys.len())?;
-    'keys: for key in keys {
-        copies.push(copy_of_key(key)?)?;
-    }
-    Ok(copies)
-}
-
-/// One more owner of the key, or none where there is none.
-fn copy_of_key(key: &Option<SharedText>) -> Result<Option<SharedText>, NoMemory>
-    ensures { IfOk result (λ copy. copy ≡ key.now) }
-{
-    match key {
-        Some(key) => Ok(Some(key.copy()?)),
-        None => Ok(None),
-    }
-}

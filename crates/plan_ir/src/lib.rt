@@ -3,7 +3,8 @@
 //!
 //! In contracts a list is the list of what it holds, without room and address. Where a tree holds
 //! itself, contracts see what it stands for: nodes as `Nodes`, the steps of a plan as `Normal` or
-//! `Reader`. Lists of ids have several owners: a copy of a step is one more owner of its lists.
+//! `Reader`. Lists of steps and of ids have several owners: a copy of a step is one more owner of its
+//! lists, and a plan takes room once for what several of its steps lead to.
 #![tactic(auto)]
 
 pub mod copies;
@@ -23,9 +24,11 @@ pub use guard::Conditions;
 pub use guard::Guard;
 pub use node::Node;
 pub use node::Nodes;
+pub use normal::NormalList;
 pub use normal::NormalPlan;
 pub use normal::NormalStep;
 pub use normal::NormalSteps;
+pub use reader::ReaderList;
 pub use reader::ReaderPlan;
 pub use reader::ReaderStep;
 pub use reader::ReaderSteps;

@@ -1,4 +1,5 @@
--- Single steps in order of their keys are in order just where the plan has an order that they were taken from.
+-- Single steps in order of their keys are in order where the plan has an order that they were taken from.
+use denote.Ref.{Bor}
 use Rattle.std.proofs.Common.{◌≡◌, ◌↔◌, ◌⊎◌, inl, inr, Bool, true, false, true≢false, ◌&&◌, ◌||◌, codes, List, [], ◌∷◌, map, nat_cmp, refl, sym, ap, subst, ◌∙◌}
 use Rattle.std.specs.Cmp.Lexicographic.{slice_cmp}
 use Rattle.std.specs.List.{AllByRecursion, list_all}
@@ -6,12 +7,13 @@ use Rattle.std.specs.List.Sorted.{IsPermutation, IsSortedByKey}
 use Rattle.std.specs.Ordering.{is_lt}
 use Rattle.plan_ir.proofs.gql_plain_laws.Booleans.{both_ways, or_true}
 use Rattle.plan_ir.specs.Reader.{Reader}
+use Rattle.plan_ir.specs.gql_plain.Order.{AreInOrder}
 use Rattle.plan_order.proofs.DistinctTexts.{both, differ_so, distinct_shuffled, distinct_so, list_all_shuffled, none_shuffled}
 use Rattle.plan_order.proofs.NotedSteps.{less_when}
-use Rattle.plan_order.proofs.RisingSingles.{DoNotFall, fragments_rise, responses_rise, rising_so}
+use Rattle.plan_order.proofs.RisingSingles.{DoNotFall, fragments_rise, keys_rise, responses_rise, rising_so}
 use Rattle.plan_order.proofs.Shuffles.{Shuffle, all-shuffled, differ-rising, shuffle-map, shuffle-of}
 use Rattle.plan_order.proofs.StepKeys.{fragments_shuffled, responses_shuffled}
-use Rattle.plan_order.specs.HasOrder.{distinct, has_order, has_order_below, is_orderable, stands_apart}
+use Rattle.plan_order.specs.HasOrder.{distinct, has_order, has_order_below, has_single_guards, is_orderable, keys_have_order, stands_apart}
 use Rattle.plan_order.specs.Ordered.{IsApart, IsInOrder}
 use Rattle.plan_order.specs.Responses.{fragments, responses}
 use Rattle.plan_order.specs.Singles.{AreSingles, IsKeyed, key_in, step_in, steps_in}
@@ -50,6 +52,10 @@ nothing_there : (texts : List Text) → is_none texts ≡ true → texts ≡ []
 nothing_there [] e = refl
 nothing_there (text ∷ texts) e = absurd (true≢false (sym e))
 
+and_false : (b : Bool) → (b && false) ≡ false
+and_false true = refl
+and_false false = refl
+
 -- ---- the steps of one object
 
 apart_here : (steps : Reader) → (is_none (fragments steps) || list_all stands_apart (responses steps)) ≡ true → (fragments steps ≡ []) ⊎ AllByRecursion IsApart (responses steps)
@@ -59,16 +65,7 @@ apart_here steps e = on (one_of_two (is_none (fragments steps)) (list_all stands
     on (inl none) = inl (nothing_there (fragments steps) none)
     on (inr all) = inr (all_apart (responses steps) all)
 
-here_apart : (steps : Reader) → (fragments steps ≡ []) ⊎ AllByRecursion IsApart (responses steps) → (is_none (fragments steps) || list_all stands_apart (responses steps)) ≡ true
-here_apart steps (inl none) = ap (λ fs. is_none fs || list_all stands_apart (responses steps)) none
-here_apart steps (inr all) = ap (λ b. is_none (fragments steps) || b) (apart_all (responses steps) all) ∙ or_true (is_none (fragments steps))
-
--- where there is a pointer, all response keys stand apart
-pub all_left : (steps : Reader) → (fragments steps ≡ [] → ⊥) → (fragments steps ≡ []) ⊎ AllByRecursion IsApart (responses steps) → AllByRecursion IsApart (responses steps)
-all_left steps some (inl none) = absurd (some none)
-all_left steps some (inr all) = all
-
-in_order_so : (steps : Reader) → DoNotFall (responses steps) → DoNotFall (fragments steps) → has_order steps ≡ true → IsInOrder steps
+in_order_so : (steps : Reader) → DoNotFall (responses steps) → DoNotFall (fragments steps) → keys_have_order steps ≡ true → IsInOrder steps
 in_order_so steps keys spread e =
     let parts = both (distinct (responses steps) && distinct (fragments steps)) (is_none (fragments steps) || list_all stands_apart (responses steps)) e in
     let once = both (distinct (responses steps)) (distinct (fragments steps)) parts.0 in
@@ -78,28 +75,40 @@ in_order_so steps keys spread e =
       apart = apart_here steps parts.1;
     }
 
-order_so : (steps : Reader) → IsInOrder steps → has_order steps ≡ true
-order_so steps order =
-    λ i. (distinct_so (responses steps) (differ-rising (responses steps) order.fields) i && distinct_so (fragments steps) (differ-rising (fragments steps) order.pointers) i) && here_apart steps order.apart i
-
-order_moved : (one other : Reader) → Shuffle (responses one) (responses other) → Shuffle (fragments one) (fragments other) → has_order one ≡ has_order other
+order_moved : (one other : Reader) → Shuffle (responses one) (responses other) → Shuffle (fragments one) (fragments other) → keys_have_order one ≡ keys_have_order other
 order_moved one other keys spread =
     λ i. (distinct_shuffled (responses one) (responses other) keys i && distinct_shuffled (fragments one) (fragments other) spread i)
     && (none_shuffled spread i || list_all_shuffled stands_apart keys i)
 
+-- ---- texts in another order
+
+-- texts that were put in order rise just where none stands twice
+pub rise_distinct : (xs ys : List (Bor Text)) (answer : Bool) → IsPermutation xs ys → IsSortedByKey (λ (t : Bor Text). t.now) (slice_cmp nat_cmp) ys
+    → ((answer ≡ true) ↔ AreInOrder (map (λ t. t.now) ys)) → answer ≡ distinct (map (λ t. t.now) xs)
+rise_distinct xs ys answer moved sorted rises =
+    let texts : List Text = map (λ t. t.now) ys in
+    both_ways answer (distinct texts)
+    (λ e. distinct_so texts (differ-rising texts (rises.0 e)))
+    (λ e. rises.1 (rising_so texts (keys_rise (λ (t : Bor Text). t.now) ys sorted) (differ_so texts e)))
+    ∙ sym (distinct_shuffled (map (λ t. t.now) xs) texts (shuffle-map (λ (t : Bor Text). t.now) (shuffle-of xs ys moved)))
+
 -- ---- a plan and its single steps in order
 
-pub order_found : (plan copy : Reader) (xs ys : List Single) (answer : Bool) → AreSingles plan xs → IsPermutation xs ys → IsSortedByKey key_in (slice_cmp nat_cmp) ys → copy ≡ steps_in ys
-    → has_order_below plan ≡ true → ((answer ≡ true) ↔ IsInOrder copy) → answer ≡ is_orderable plan
-order_found plan copy xs ys answer are moved sorted is below found =
+pub order_made : (plan copy : Reader) (xs ys : List Single) → AreSingles plan xs → IsPermutation xs ys → IsSortedByKey key_in (slice_cmp nat_cmp) ys → copy ≡ steps_in ys
+    → has_order plan ≡ true → IsInOrder copy
+order_made plan copy xs ys are moved sorted is order =
     let steps = shuffle-map step_in (shuffle-of xs ys moved) in
     let keyed : AllByRecursion IsKeyed ys = all-shuffled IsKeyed (shuffle-of xs ys moved) are.keyed in
-    let same : has_order plan ≡ has_order (steps_in ys) =
+    let same : keys_have_order plan ≡ keys_have_order (steps_in ys) =
     order_moved plan (steps_in ys)
     (subst (λ ks. Shuffle ks (responses (steps_in ys))) are.told (responses_shuffled (map step_in xs) (map step_in ys) steps))
     (subst (λ fs. Shuffle fs (fragments (steps_in ys))) are.spread (fragments_shuffled (map step_in xs) (map step_in ys) steps)) in
-    let exact : answer ≡ has_order (steps_in ys) =
-    both_ways answer (has_order (steps_in ys))
-    (λ e. order_so (steps_in ys) (subst IsInOrder is (found.0 e)))
-    (λ e. found.1 (subst IsInOrder (sym is) (in_order_so (steps_in ys) (responses_rise ys keyed sorted) (fragments_rise ys keyed sorted) e))) in
-    exact ∙ sym same ∙ ap (λ b. b && has_order plan) (sym below)
+    let keys : keys_have_order (steps_in ys) ≡ true = sym same ∙ (both (has_single_guards plan) (keys_have_order plan) order).1 in
+    subst IsInOrder (sym is) (in_order_so (steps_in ys) (responses_rise ys keyed sorted) (fragments_rise ys keyed sorted) keys)
+
+-- where the steps have no order, or what stands below them has none, the plan has none
+pub order_lost : (plan : Reader) → has_order plan ≡ false → false ≡ is_orderable plan
+order_lost plan e = sym (ap (λ b. has_order_below plan && b) e ∙ and_false (has_order_below plan))
+
+pub order_kept : (plan : Reader) → has_order_below plan ≡ true → has_order plan ≡ true → true ≡ is_orderable plan
+order_kept plan below here = λ i. sym below i && sym here i

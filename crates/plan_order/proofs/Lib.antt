@@ -4,6 +4,7 @@ pub mod DistinctTexts
 pub mod FieldsInOrder
 pub mod FieldsMet
 pub mod FoundOrders
+pub mod GuardSteps
 pub mod Grouping
 pub mod ItemsOrdered
 pub mod NotedSteps

@@ -51,23 +51,24 @@ unfolding IsStrictlySortedBy
 rising_so [] up other = tt
 rising_so (text ∷ texts) up other = (all_below text texts up.0 other.0, rising_so texts up.1 other.1)
 
--- ---- single steps that were put in order
+-- ---- what was put in order by a key
 
-abbrev under : Single → Single → Bool
-under x y = is_lt (slice_cmp nat_cmp (key_in x) (key_in y))
+module _ {X : Type 0} (key : X → Text) where
+  abbrev under : X → X → Bool
+  under x y = is_lt (slice_cmp nat_cmp (key x) (key y))
 
-each_later : (z : Single) (zs : List Single) → ((j : ℕ) (d : Single) → j < length zs → under (get_or zs j d) z ≡ false) → AllByRecursion (IsNoFall (key_in z)) (map key_in zs)
-each_later z [] f = tt
-each_later z (x ∷ xs) f = (f 0 x (omega arith), each_later z xs (λ j d lt. f (suc j) d (omega arith)))
+  each_later : (z : X) (zs : List X) → ((j : ℕ) (d : X) → j < length zs → under (get_or zs j d) z ≡ false) → AllByRecursion (IsNoFall (key z)) (map key zs)
+  each_later z [] f = tt
+  each_later z (x ∷ xs) f = (f 0 x (omega arith), each_later z xs (λ j d lt. f (suc j) d (omega arith)))
 
-keys_rise : (zs : List Single) → IsSortedByKey key_in (slice_cmp nat_cmp) zs → DoNotFall (map key_in zs)
-keys_rise [] sorted = tt
-keys_rise (z ∷ zs) sorted = (
-  each_later z zs (λ j d lt. sorted_far under (ranks_by nat_list_cmp_total key_in) (z ∷ zs) sorted 0 (suc j) d (omega arith) (omega arith)),
-  keys_rise zs (λ k d low lt.
-      let e : suc k + 1 ≡ suc (k + 1) = omega arith in
-      subst (λ m. under (get_or (z ∷ zs) m d) (get_or zs k d) ≡ false) e (sorted (suc k) d (omega arith) (omega arith))),
-)
+  pub keys_rise : (zs : List X) → IsSortedByKey key (slice_cmp nat_cmp) zs → DoNotFall (map key zs)
+  keys_rise [] sorted = tt
+  keys_rise (z ∷ zs) sorted = (
+    each_later z zs (λ j d lt. sorted_far under (ranks_by nat_list_cmp_total key) (z ∷ zs) sorted 0 (suc j) d (omega arith) (omega arith)),
+    keys_rise zs (λ k d low lt.
+        let e : suc k + 1 ≡ suc (k + 1) = omega arith in
+        subst (λ m. under (get_or (z ∷ zs) m d) (get_or zs k d) ≡ false) e (sorted (suc k) d (omega arith) (omega arith))),
+  )
 
 -- ---- what single steps say stands among their keys
 
@@ -93,7 +94,7 @@ fragments_among (z ∷ zs) all =
     subst (λ fs. Within fs (key_in z ∷ map key_in zs)) (sym (fragments_step z.step (steps_in zs))) (within-append here (fragments_among zs all.1))
 
 pub responses_rise : (zs : List Single) → AllByRecursion IsKeyed zs → IsSortedByKey key_in (slice_cmp nat_cmp) zs → DoNotFall (responses (steps_in zs))
-responses_rise zs all sorted = no_fall-within (responses_among zs all) (keys_rise zs sorted)
+responses_rise zs all sorted = no_fall-within (responses_among zs all) (keys_rise key_in zs sorted)
 
 pub fragments_rise : (zs : List Single) → AllByRecursion IsKeyed zs → IsSortedByKey key_in (slice_cmp nat_cmp) zs → DoNotFall (fragments (steps_in zs))
-fragments_rise zs all sorted = no_fall-within (fragments_among zs all) (keys_rise zs sorted)
+fragments_rise zs all sorted = no_fall-within (fragments_among zs all) (keys_rise key_in zs sorted)

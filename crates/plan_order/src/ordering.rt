@@ -8,29 +8,31 @@ ghost use Rattle.plan_ir.specs.ReaderView.{step_of};
 ghost use Rattle.plan_order.specs.HasOrder.{has_order_below, is_orderable};
 ghost use Rattle.plan_order.specs.Singles.{AreSingles, IsOrderedCopy, key_in};
 
-use crate::keys::is_in_order;
+use crate::keys::has_order;
 use crate::single::{Single, each_guarded, one_of, plan_of, with_child};
 use plan_ir::{Arguments, Name, NoMemory, ReaderPlan, ReaderStep, ReaderSteps};
 use std::alloc::Global;
 
 /// A plan that reads what this one reads, with its steps in order of their response keys, or None where
-/// no order of them is: where two steps of an object have one response key or one fragment, or a
-/// response key stands among what an object with pointers tells beside its fields. n steps take about
-/// n * log n steps, and each of them as many copies of guards as stand around it.
+/// no order of them is: where two steps of an object have one response key or one fragment, a response
+/// key stands among what an object with pointers tells beside its fields, or a guard stands right in a
+/// guard. n steps take about n * log n steps; there are at most twice as many in the copy. An object
+/// whose steps have no order is not looked into, so what several steps lead to is not gone through for
+/// each of them: those have one response key.
 #[cycle(ordered)]
 pub fn ordered(alloc: Global, plan: &ReaderPlan) -> Result<Option<ReaderPlan>, NoMemory>
     ensures copy { IfOk result (λ found. IfSome found (λ copy. IsOrderedCopy plan.now.steps copy.steps)) }
     ensures found { IfOk result (λ found. is_some found ≡ is_orderable plan.now.steps) }
 {
+    if !has_order(alloc, &plan.steps)? {
+        return Ok(None);
+    }
     let Some(singles) = singles_of(alloc, &plan.steps)? else {
         return Ok(None);
     };
     let sorted = in_order(singles)?;
     let copy = plan_of(alloc, sorted)?;
-    if is_in_order(alloc, &copy.steps)? {
-        return Ok(Some(copy));
-    }
-    Ok(None)
+    Ok(Some(copy))
 }
 
 /// The single steps in order of their keys.

@@ -5,7 +5,7 @@ ghost use Rattle.plan_ir.specs.Reader as reader;
 ghost use Rattle.plan_ir.specs.ReaderView.{step_of};
 ghost use Rattle.plan_order.specs.Singles.{IsKeyed, guard_each, over_child, single_of, step_in, steps_in};
 
-use plan_ir::{Guard, NoMemory, ReaderPlan, ReaderStep, ReaderSteps, copy_of_conn};
+use plan_ir::{Guard, NoMemory, ReaderList, ReaderPlan, ReaderStep, copy_of_conn};
 use std::alloc::Global;
 
 /// A step by itself, and what it is put in order by: the response key of its field, or its fragment.
@@ -32,11 +32,12 @@ pub(crate) fn one_of<'p>(
 pub(crate) fn plan_of(alloc: Global, singles: Vec<Single<'_>>) -> Result<ReaderPlan, NoMemory>
     ensures { IfOk result (λ plan. plan.steps ≡ steps_in singles.entry.items) }
 {
-    let mut steps = ReaderSteps::new(alloc);
+    let mut steps = ReaderList::new(alloc);
     'singles: for single in singles {
         let Single { key: _, step } = single;
         steps.push(step)?;
     }
+    let steps = steps.share(alloc)?;
     Ok(ReaderPlan { steps })
 }
 
@@ -74,8 +75,9 @@ pub(crate) fn with_child(step: &ReaderStep, below: ReaderPlan) -> Result<ReaderS
 fn guarded(alloc: Global, guard: &Guard, step: ReaderStep) -> Result<ReaderStep, NoMemory>
     ensures { IfOk result (λ one. step_of one ≡ reader.guarded guard.now (step_of step) reader.done) }
 {
-    let mut steps = ReaderSteps::new(alloc);
+    let mut steps = ReaderList::new(alloc);
     steps.push(step)?;
+    let steps = steps.share(alloc)?;
     Ok(ReaderStep::Guarded {
         guard: guard.copy()?,
         child: ReaderPlan { steps },

@@ -22,12 +22,12 @@ use Rattle.plan_ir.specs.schema_types.NameRules.{fragment_named, fragments, oper
 use Rattle.plan_ir.specs.schema_types.Sites.{FragmentAt, OperationAt}
 
 module _ (r : Readers) (ready : IsReady r) where
-  steps_are : (scope : Scope) (ts : List Text) (s : Sels)
-      → steps_made r scope ts s ≡ reader_steps (length (fragments (definitions_in r.schema.now r.documents.now))) (project r.schema.now r.documents.now) scope ts s
-  steps_are scope ts s =
+  steps_are : (scope : Scope) (over : Option Text) (ts : List Text) (s : Sels)
+      → steps_made r scope over ts s ≡ reader_steps (length (fragments (definitions_in r.schema.now r.documents.now))) (project r.schema.now r.documents.now) scope over ts s
+  steps_are scope over ts s =
       let p : Project = project r.schema.now r.documents.now in
-      (λ i. reading (ready.all_spreads i) r.schema.now (find_in r.fragments) scope ts s)
-      ∙ reading_is p (find_in r.fragments) ready.fragments_found (length p.fragments) scope ts s
+      (λ i. reading (ready.all_spreads i) r.schema.now (find_in r.fragments) scope over ts s)
+      ∙ reading_is p (find_in r.fragments) ready.fragments_found (length p.fragments) scope over ts s
 
   operation_found : (q : Option OperationAt) (o : ReadyOperation) (steps : Reader) → Some o ≡ option_map ready_operation q → steps ≡ operation_steps r o
       → Some steps ≡ option_map (operation_reader (project r.schema.now r.documents.now)) q
@@ -36,7 +36,7 @@ module _ (r : Readers) (ready : IsReady r) where
     never g = cc
   operation_found (Some x) o steps e h =
       let same : o ≡ ready_operation x = cc e in
-      ap Some (h ∙ ap (operation_steps r) same ∙ steps_are operation_scope (name_or (root r.schema.now x.kind) ∷ []) x.selections)
+      ap Some (h ∙ ap (operation_steps r) same ∙ steps_are operation_scope (root r.schema.now x.kind) (name_or (root r.schema.now x.kind) ∷ []) x.selections)
 
   fragment_found : (q : Option FragmentAt) (f : Ready) (steps : Reader) → Some f ≡ option_map ready_fragment q → steps ≡ fragment_steps r f
       → Some steps ≡ option_map (fragment_reader (project r.schema.now r.documents.now)) q
@@ -45,7 +45,7 @@ module _ (r : Readers) (ready : IsReady r) where
     never g = cc
   fragment_found (Some x) f steps e h =
       let same : f ≡ ready_fragment x = cc e in
-      ap Some (h ∙ ap (fragment_steps r) same ∙ steps_are (scope_of_own x) (possible r.schema.now x.on.name) x.selections)
+      ap Some (h ∙ ap (fragment_steps r) same ∙ steps_are (scope_of_own x) (Some x.on.name) (possible r.schema.now x.on.name) x.selections)
 
   composite_found : (q : Option FragmentAt) (f : Ready) → Some f ≡ option_map ready_fragment q → IfSome q (IsComposite r.schema.now) → is_composite r.schema.now f.on ≡ true
   composite_found None f e h = absurd (never e) where

@@ -30,20 +30,20 @@ fragment_there n (x ∷ fs) f e = fragment_first n x f (fragment_named fs n) (fr
 
 -- so many spreads give the same steps
 abbrev AreSame : Project → Find → (k : ℕ) → Type 0
-AreSame p find k = (scope : Scope) (ts : List Text) (s : Sels) → reading k p.defs find scope ts s ≡ reader_steps k p scope ts s
+AreSame p find k = (scope : Scope) (over : Option Text) (ts : List Text) (s : Sels) → reading k p.defs find scope over ts s ≡ reader_steps k p scope over ts s
 
 spread_same : (p : Project) (find : Find) (k : ℕ) → AreSame p find k → (scope : Scope) (ts : List Text) (n : Text) (ds : List Directive) (q : Option FragmentAt) → fragment_named p.fragments n ≡ q
-    → spread_ready p.defs ts scope n ds (option_map ready_fragment q) (λ r us. reading k p.defs find (ready_scope scope ds r) us r.selections)
-    ≡ spread_steps p.defs ts scope ds q (λ f us. reader_steps k p (scope_at_spread scope ds f) us f.selections)
+    → spread_ready p.defs ts scope n ds (option_map ready_fragment q) (λ r us. reading k p.defs find (ready_scope scope ds r) (Some r.on) us r.selections)
+    ≡ spread_steps p.defs ts scope ds q (λ f us. reader_steps k p (scope_at_spread scope ds f) (Some f.on.name) us f.selections)
 spread_same p find k fewer scope ts n ds None e = refl
 spread_same p find k fewer scope ts n ds (Some f) e = λ i.
     inline_steps p.defs ts (Some f.on.name) (conditions_of (printed_conditions scope ds))
-    (λ us. entered_ready scope (sym (fragment_there n p.fragments f e) i) ds (ready_fragment f) (fewer (scope_at_spread scope ds f) us f.selections i))
+    (λ us. entered_ready scope (sym (fragment_there n p.fragments f e) i) ds (ready_fragment f) (fewer (scope_at_spread scope ds f) (Some f.on.name) us f.selections i))
 
 pub reading_is : (p : Project) (find : Find) → HasFragments find p.fragments → (k : ℕ) → AreSame p find k
-reading_is p find ready zero scope ts s = refl
-reading_is p find ready (suc k) scope ts s = λ i.
+reading_is p find ready zero scope over ts s = refl
+reading_is p find ready (suc k) scope over ts s = λ i.
     steps_with
-    (λ us n ds. (ap (λ (o : Option Ready). spread_ready p.defs us scope n ds o (λ r vs. reading k p.defs find (ready_scope scope ds r) vs r.selections)) (ready n)
+    (λ us n ds. (ap (λ (o : Option Ready). spread_ready p.defs us scope n ds o (λ r vs. reading k p.defs find (ready_scope scope ds r) (Some r.on) vs r.selections)) (ready n)
     ∙ spread_same p find k (reading_is p find ready k) scope us n ds (fragment_named p.fragments n) refl) i)
-    p.defs scope ts s
+    p.defs scope over ts s

@@ -16,8 +16,7 @@ use Rattle.plan_ir.specs.gql_ast.declared.place.FilePlace.{FilePlace}
 use Rattle.plan_ir.specs.gql_plain.Order.{has_text}
 use Rattle.plan_build.proofs.ClassLaws.{Differ}
 use Rattle.plan_build.proofs.Grouped.{each_so, seen}
-use Rattle.plan_build.proofs.Meaning.{differ_form}
-use Rattle.plan_build.proofs.PartLaws.{Holds, among_left, among_right, each_append, fields, inside_alone}
+use Rattle.plan_build.proofs.PartLaws.{Holds, among_left, among_right, below_within, differ_at, types_there, each_append, fields, inside_alone}
 use Rattle.plan_build.proofs.Parts as parts
 use Rattle.plan_build.proofs.StepLaws.{AreSound, inside_type}
 use Rattle.plan_build.specs.NodesMeaning.{ask_of_node}
@@ -75,7 +74,7 @@ paths_append defs around a b = ap paths (before_append defs around a b no_fields
 gathered_append : (defs : Defs) (T : Text) (env : Values) (a b : Nodes) → parts.gather_in defs T env (nodes_append a b) ≡ parts.gather_in defs T env a ++ parts.gather_in defs T env b
 gathered_append defs T env nodes.end b = refl
 gathered_append defs T env (nodes.field r n xs ds c of s p rest) b =
-    let first : List (Asked parts.Part) = cond (is_left_out env ds) [] (record { ask = ask_of_node defs T env r n xs c; part = parts.child defs T env n of s } ∷ []) in
+    let first : List (Asked parts.Part) = cond (is_left_out env ds) [] (record { ask = ask_of_node defs T env r n xs c; part = parts.child defs env of s } ∷ []) in
     ap (λ (z : List (Asked parts.Part)). first ++ z) (gathered_append defs T env rest b) ∙ sym (append_assoc first (parts.gather_in defs T env rest) (parts.gather_in defs T env b))
 gathered_append defs T env (nodes.inline o ds s p rest) b =
     let first : List (Asked parts.Part) = cond (is_left_out env ds) [] (cond (applies defs o T) (parts.gather_in defs T env s) []) in
@@ -87,6 +86,7 @@ pub record Stands (p : Project) (own : Values) (T : Text) (x : Known) : Type 0 w
   pub means : Means own x.scope x.part.environment
   pub differ : Differ x.types
   pub here : has_text x.types T ≡ true
+  pub met : has_text x.met T ≡ true
   pub holds : Holds p.defs T (as_nodes p own x)
 
 abbrev pub seen_nodes : Project → Values → Asked Known → Asked parts.Part
@@ -95,7 +95,8 @@ seen_nodes p own = seen (λ (a : Asked Known). as_nodes p own a.part)
 -- a field that nodes give too
 pub record IsGiven (p : Project) (own : Values) (ns : List (Asked parts.Part)) (a : Asked Known) : Type 0 where
   pub among : Among (seen_nodes p own a) ns
-  pub types : a.part.types ≡ types_of a.ask.form
+  pub types : a.part.met ≡ types_of a.ask.form
+  pub wide : (U : Text) → has_text (types_of a.ask.form) U ≡ true → has_text a.part.types U ≡ true
   pub means : Means own a.part.scope a.part.part.environment
   pub differ : Differ a.part.types
 
@@ -110,7 +111,7 @@ module _ (p : Project) (own : Values) (T : Text) where
 
   widened : (ns ms : List (Asked parts.Part)) (fs gs : List Path) → ((a : Asked parts.Part) → Among a ns → Among a ms) → ((s : Path) → Among s fs → Among s gs)
       → (x : Item Known) → Covers ns fs x → Covers ms gs x
-  widened ns ms fs gs given there (asked a) h = record { among = given (seen_nodes p own a) h.among; types = h.types; means = h.means; differ = h.differ }
+  widened ns ms fs gs given there (asked a) h = record { among = given (seen_nodes p own a) h.among; types = h.types; wide = h.wide; means = h.means; differ = h.differ }
   widened ns ms fs gs given there (pointed q) h = (h.0, λ s k. there s (h.1 s k))
 
   all_widened : (ns ms : List (Asked parts.Part)) (fs gs : List Path) → ((a : Asked parts.Part) → Among a ns → Among a ms) → ((s : Path) → Among s fs → Among s gs)
@@ -161,7 +162,7 @@ module _ (p : Project) (own : Values) (T : Text) where
         let subs : Nodes = nodes_append (expanded inner (below p.defs over n) s) new in
         let it : Asked parts.Part = record {
           ask = ask_of_node p.defs T own (response_key a n) n (substitute_in scope xs) (connection_among ds);
-          part = parts.child p.defs T own n of subs;
+          part = parts.child p.defs own of subs;
         } in
         let ns : List (Asked parts.Part) = given_by (expanded from over (sels.field a n xs ds s rest)) in
         let fs : List Path = paths_in around (expanded from over (sels.field a n xs ds s rest)) in
@@ -172,20 +173,21 @@ module _ (p : Project) (own : Values) (T : Text) where
           ask = it.ask;
           part = record {
             set = record { environment = own; nodes = nodes_append (sym (whole inner (below p.defs over n) s) i) new };
+            types = it.part.types;
             around = base_of of;
             type = it.part.type;
           };
         })
-        refl means (differ_form p.defs T n))
+        refl (λ U h. types_there p.defs sound (base_of of) U (below_within p.defs T n (substitute_in scope xs) (connection_among ds) of (suited.0 T there) U h)) means (differ_at p.defs (base_of of)))
         (all_widened (given_by (expanded next over rest)) ns (paths_in around (expanded next over rest)) fs
         (λ x h. among_right x (cond (is_left_out own (printed_directives scope ds)) [] (it ∷ [])) (given_by (expanded next over rest)) h)
         (λ x h. inr (among_right x (map (under own_field) (paths (fields_of p.defs (base_of of) subs))) (paths_in around (expanded next over rest)) h))
-        (read next over u us rest) (covered_with next over around u us rest differ has there alone suited.1))
+        (read next over u us rest) (covered_with next over around u us rest differ has there alone suited.2))
       where
-        first : (b : Bool) (x : Known) (it : Asked parts.Part) (ms : List (Asked parts.Part)) (fs : List Path) → it ≡ record { ask = it.ask; part = as_nodes p own x } → x.types ≡ types_of it.ask.form
+        first : (b : Bool) (x : Known) (it : Asked parts.Part) (ms : List (Asked parts.Part)) (fs : List Path) → it ≡ record { ask = it.ask; part = as_nodes p own x } → x.met ≡ types_of it.ask.form → ((U : Text) → has_text (types_of it.ask.form) U ≡ true → has_text x.types U ≡ true)
             → Means own x.scope x.part.environment → Differ x.types → Covered (cond b [] (it ∷ []) ++ ms) fs (cond b [] (asked (record { ask = it.ask; part = x }) ∷ []))
-        first true x it ms fs is types m d = tt
-        first false x it ms fs is types m d = (record { among = inl is; types = types; means = m; differ = d }, tt)
+        first true x it ms fs is types w m d = tt
+        first false x it ms fs is types w m d = (record { among = inl is; types = types; wide = w; means = m; differ = d }, tt)
     covered_with from over around u us (sels.spread n ds rest) differ has there alone suited =
         let next : ℕ = from + 2 + directives_nodes ds in
         entered u us n ds from around (expanded next over rest) (read next over u us rest) differ has there alone suited
@@ -222,8 +224,11 @@ module _ (p : Project) (own : Values) (T : Text) where
       means = means_inside own env scope means ds f;
       differ = differ_inside p.defs us (Some f.on.name) differ;
       here = has_inside p.defs us (Some f.on.name) T has e;
+      met = has_inside p.defs us (Some f.on.name) T has e;
       holds = record {
         suited = subst (Suited p.defs f.on.name (inside f).type) (sym (nodes_append-end (nodes_inside k p scope ds f))) suited;
+        differ = differ_inside p.defs us (Some f.on.name) differ;
+        here = has_inside p.defs us (Some f.on.name) T has e;
         there = inside_type p.defs u (Some f.on.name) T there e;
         alone = λ o. sound.alone f.on.name T o e;
       };

@@ -6,7 +6,7 @@ use Rattle.plan_ir.specs.gql_ast.Sels.{Sels}
 use Rattle.plan_ir.specs.gql_ast.declared.directive.Directive.{Directive}
 use Rattle.plan_build.proofs.Parts as nodes
 use Rattle.plan_build.specs.NodesMeaning.{ask_of_node}
-use Rattle.plan_build.specs.Steps.{are_within}
+use Rattle.plan_build.specs.Steps.{are_within, types_at}
 use Rattle.plan_build.specs.Suited.{type_inside}
 use Rattle.plan_ir.specs.Additions.{additions, type_on, type_or}
 use Rattle.plan_ir.specs.Expansion.{Project, expansion, printed_conditions, printed_directives, response_key, selections_from}
@@ -26,12 +26,13 @@ use Rattle.plan_ir.specs.schema_types.Sites.{FragmentAt, arguments_nodes, below,
 use Rattle.plan_ir.specs.store_model.Items.{Collect, Item, asked, pointed}
 use Rattle.plan_ir.specs.store_model.Reaches.{types_of}
 
--- selections, and what stands in the place of their local variables; the types of the records that they are read at; the static type around
+-- selections, and what stands in the place of their local variables; the types that their plan is for, and those that the records may be of; the static type around
 -- them and the one that is counted on; and what their expansion needs, with the nodes that are added behind it
 pub record Known : Type 0 where
   pub part : Part
   pub scope : Scope
   pub types : List Text
+  pub met : List Text
   pub around : Text
   pub type : Text
   pub from : ℕ
@@ -44,10 +45,10 @@ abbrev pub nodes_within : Project → Known → Nodes
 nodes_within p x = nodes_append (expansion x.part.spreads p x.scope x.from x.over x.part.selections) x.added
 
 abbrev pub as_nodes : Project → Values → Known → nodes.Part
-as_nodes p own x = record { set = record { environment = own; nodes = nodes_within p x }; around = x.around; type = x.type }
+as_nodes p own x = record { set = record { environment = own; nodes = nodes_within p x }; types = x.types; around = x.around; type = x.type }
 
 abbrev pub as_plan : Project → Values → Known → ReaderPart
-as_plan p own x = record { environment = own; steps = reader_steps x.part.spreads p x.scope x.types x.part.selections }
+as_plan p own x = record { environment = own; steps = reader_steps x.part.spreads p x.scope x.over x.types x.part.selections }
 
 -- ---- what stands inside fragments, and below fields
 
@@ -61,6 +62,7 @@ known_inside p own k scope env t ts ds f = record {
   part = record { spreads = k; environment = environment_inside own env ds f; selections = f.selections };
   scope = scope_at_spread scope ds f;
   types = types_inside p.defs ts (Some f.on.name);
+  met = types_inside p.defs ts (Some f.on.name);
   around = f.on.name;
   type = type_inside p.defs t (Some f.on.name);
   from = selections_from f;
@@ -72,9 +74,10 @@ abbrev pub known_below : Project → (object : Text) → (spreads : ℕ) → Sco
 known_below p T k scope env from over a n xs ds s = record {
   part = record { spreads = k; environment = env; selections = s };
   scope = scope;
-  types = types_of (form_on p.defs T n);
+  types = types_at p.defs (base_of (type_or (field_type p.defs over n)));
+  met = types_of (form_on p.defs T n);
   around = base_of (type_or (field_type p.defs over n));
-  type = base_of (type_on p.defs T n);
+  type = base_of (type_or (field_type p.defs over n));
   from = from + head_nodes a + arguments_nodes xs + directives_nodes ds;
   over = below p.defs over n;
   added = additions p.defs (is_some (connection_among ds)) (base_of (type_or (field_type p.defs over n))) s (p.place from);

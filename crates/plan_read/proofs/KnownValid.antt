@@ -58,7 +58,8 @@ module _ (p : Project) (own : Values) (sound : AreSound p.defs) (T : Text) (ps :
   -- a field that comes of nodes of these parts
   record Comes (a : Asked Known) : Type 0 where
     from : GatheredFrom p.defs T ps (seen_nodes p own a)
-    types : a.part.types ≡ types_of a.ask.form
+    types : a.part.met ≡ types_of a.ask.form
+    wide : (U : Text) → has_text (types_of a.ask.form) U ≡ true → has_text a.part.types U ≡ true
     means : Means own a.part.scope a.part.part.environment
     differ : Differ a.part.types
 
@@ -88,7 +89,7 @@ module _ (p : Project) (own : Values) (sound : AreSound p.defs) (T : Text) (ps :
     body_merges y within q r (inr e) f s u h k = absurd e
 
     item_comes : (i : Item Known) → Covers p own T (parts.gather p.defs T (as_nodes p own x)) (paths (fields p.defs (as_nodes p own x))) i → ItemComes i
-    item_comes (asked a) h = record { from = from_one (seen_nodes p own a) h.among; types = h.types; means = h.means; differ = h.differ }
+    item_comes (asked a) h = record { from = from_one (seen_nodes p own a) h.among; types = h.types; wide = h.wide; means = h.means; differ = h.differ }
     item_comes (pointed q) h = (h.0, body_merges q.body h.1)
 
     items_come : AllByRecursion ItemComes (gather p own T x)
@@ -118,7 +119,8 @@ module _ (p : Project) (own : Values) (sound : AreSound p.defs) (T : Text) (ps :
   stands_below x m U fit comes h = record {
     means = fit.0.means;
     differ = fit.0.differ;
-    here = ap (λ (ts : List Text). has_text ts U)
+    here = fit.0.wide U (ap (λ (f : Form). has_text (types_of f) U) (one_form p.defs T ps merge (seen_nodes p own m) (seen_nodes p own x) fit.0.from comes.from fit.1) ∙ h);
+    met = ap (λ (ts : List Text). has_text ts U)
         (fit.0.types ∙ ap types_of (one_form p.defs T ps merge (seen_nodes p own m) (seen_nodes p own x) fit.0.from comes.from fit.1)) ∙ h;
     holds = holds_below p.defs T ps merge (seen_nodes p own x) (seen_nodes p own m) U (fit.0.from, fit.1) comes.from h;
   }

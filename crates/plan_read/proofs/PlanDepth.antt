@@ -5,7 +5,7 @@ use Rattle.plan_ir.specs.gql_ast.Sels.{Sels}
 use Rattle.plan_ir.specs.gql_ast.declared.directive.Directive.{Directive}
 use Rattle.plan_build.specs.Classes.{Class, Target, classes_of}
 use Rattle.plan_build.specs.Conditions.{conditions_of}
-use Rattle.plan_build.specs.Steps.{FieldNode, are_within, is_one}
+use Rattle.plan_build.specs.Steps.{FieldNode, are_within, is_one, types_at}
 use Rattle.plan_ir.specs.Expansion.{Project, printed_conditions, response_key}
 use Rattle.plan_ir.specs.Reader as r
 use Rattle.plan_ir.specs.Reader.{Reader, done, reader_append}
@@ -17,9 +17,10 @@ use Rattle.plan_ir.specs.relay_dirs.Connections.{connection_among}
 use Rattle.plan_ir.specs.relay_dirs.Locals.{locals_of}
 use Rattle.plan_build.specs.relay_model.Collection.{is_inline, is_open}
 use Rattle.plan_build.specs.relay_model.Readings.{depth_inside, depth_of, depth_with}
-use Rattle.plan_ir.specs.schema_tables.Types.{Text, Defs, is_composite, possible}
+use Rattle.plan_ir.specs.Additions.{type_or}
+use Rattle.plan_ir.specs.schema_tables.Types.{Text, Defs, base_of, is_composite, possible}
 use Rattle.plan_ir.specs.schema_types.NameRules.{fragment_named}
-use Rattle.plan_ir.specs.schema_types.Sites.{FragmentAt}
+use Rattle.plan_ir.specs.schema_types.Sites.{FragmentAt, below, condition_or, field_type}
 
 -- ---- numbers
 
@@ -71,15 +72,14 @@ class_below n step le (c ∷ []) = le c.target
 class_below n step le (c ∷ d ∷ cs) = classes_below n step le (c ∷ d ∷ cs)
 
 module _ (defs : Defs) (n : ℕ) where
-  target_below : (f : FieldNode) (below : List Text → Reader) → ((ts : List Text) → records_below (below ts) + 1 ≤ n) → (t : Target) → records_below (target_step defs f below t) ≤ n
-  target_below f below le t =
-      either_below n (is_composite defs t.base) (object_step defs f t (below (possible defs t.base))) (leaf_step f)
-      (both (records_below (below (possible defs t.base)) + 1) 0 n (le (possible defs t.base)) (omega arith)) (omega arith)
+  target_below : (f : FieldNode) (child : Reader) → records_below child + 1 ≤ n → (t : Target) → records_below (target_step defs f child t) ≤ n
+  target_below f child le t =
+      either_below n (is_composite defs t.base) (object_step defs f t child) (leaf_step f) (both (records_below child + 1) 0 n le (omega arith)) (omega arith)
 
-  field_below : (ts : List Text) (f : FieldNode) (below : List Text → Reader) → ((us : List Text) → records_below (below us) + 1 ≤ n) → records_below (field_steps defs ts f below) ≤ n
-  field_below ts f below le =
-      either_below n (bytes_eq f.name (codes "__typename")) (r.typename f.response done) (class_steps (target_step defs f below) (classes_of defs f.name ts)) (omega arith)
-      (class_below n (target_step defs f below) (target_below f below le) (classes_of defs f.name ts))
+  field_below : (ts : List Text) (f : FieldNode) (child : Reader) → records_below child + 1 ≤ n → records_below (field_steps defs ts f child) ≤ n
+  field_below ts f child le =
+      either_below n (bytes_eq f.name (codes "__typename")) (r.typename f.response done) (class_steps (target_step defs f child) (classes_of defs f.name ts)) (omega arith)
+      (class_below n (target_step defs f child) (target_below f child le) (classes_of defs f.name ts))
 
   -- ---- inline fragments and spreads
 
@@ -111,31 +111,32 @@ module _ (defs : Defs) (n : ℕ) where
 -- ---- selections
 
 walk_below : (enter : List Text → Text → List Directive → Reader) (deep : Text → ℕ) → ((ts : List Text) (name : Text) (ds : List Directive) → records_below (enter ts name ds) ≤ deep name)
-    → (defs : Defs) (scope : Scope) (n : ℕ) (ts : List Text) (s : Sels) → depth_with deep s ≤ n → records_below (steps_with enter defs scope ts s) ≤ n
-walk_below enter deep entered defs scope n ts sels.end le = omega arith
-walk_below enter deep entered defs scope n ts (sels.field a name xs ds s rest) le =
+    → (defs : Defs) (scope : Scope) (n : ℕ) (over : Option Text) (ts : List Text) (s : Sels) → depth_with deep s ≤ n → records_below (steps_with enter defs scope over ts s) ≤ n
+walk_below enter deep entered defs scope n over ts sels.end le = omega arith
+walk_below enter deep entered defs scope n over ts (sels.field a name xs ds s rest) le =
     let f : FieldNode = record { response = response_key a name; name = name; arguments = substitute_in scope xs; connection = connection_among ds } in
-    let below : List Text → Reader = λ us. steps_with enter defs scope us s in
+    let types : List Text = types_at defs (base_of (type_or (field_type defs over name))) in
+    let child : Reader = steps_with enter defs scope (below defs over name) types s in
     let room = first_of_both (depth_with deep s + 1) (depth_with deep rest) n le in
-    append_below n (behind None (conditions_of (printed_conditions scope ds)) (field_steps defs ts f below)) (steps_with enter defs scope ts rest)
-    (behind_below n None (conditions_of (printed_conditions scope ds)) (field_steps defs ts f below)
-    (field_below defs n ts f below (λ us. more (depth_with deep s) n (steps_with enter defs scope us s) room (walk_below enter deep entered defs scope (depth_with deep s) us s (omega arith)))))
-    (walk_below enter deep entered defs scope n ts rest (second_of_both (depth_with deep s + 1) (depth_with deep rest) n le))
+    append_below n (behind None (conditions_of (printed_conditions scope ds)) (field_steps defs ts f child)) (steps_with enter defs scope over ts rest)
+    (behind_below n None (conditions_of (printed_conditions scope ds)) (field_steps defs ts f child)
+    (field_below defs n ts f child (more (depth_with deep s) n child room (walk_below enter deep entered defs scope (depth_with deep s) (below defs over name) types s (omega arith)))))
+    (walk_below enter deep entered defs scope n over ts rest (second_of_both (depth_with deep s + 1) (depth_with deep rest) n le))
   where
     more : (d n : ℕ) (s : Reader) → d + 1 ≤ n → records_below s ≤ d → records_below s + 1 ≤ n
     more d n s room le = omega (arith, room, le)
-walk_below enter deep entered defs scope n ts (sels.spread name ds rest) le =
-    append_below n (enter ts name ds) (steps_with enter defs scope ts rest)
+walk_below enter deep entered defs scope n over ts (sels.spread name ds rest) le =
+    append_below n (enter ts name ds) (steps_with enter defs scope over ts rest)
     (at_most (records_below (enter ts name ds)) (deep name) n (entered ts name ds) (first_of_both (deep name) (depth_with deep rest) n le))
-    (walk_below enter deep entered defs scope n ts rest (second_of_both (deep name) (depth_with deep rest) n le))
+    (walk_below enter deep entered defs scope n over ts rest (second_of_both (deep name) (depth_with deep rest) n le))
   where
     at_most : (a b n : ℕ) → a ≤ b → b ≤ n → a ≤ n
     at_most a b n first second = omega arith
-walk_below enter deep entered defs scope n ts (sels.inline o ds s rest) le =
-    append_below n (inline_steps defs ts o (conditions_of (printed_conditions scope ds)) (λ us. steps_with enter defs scope us s)) (steps_with enter defs scope ts rest)
-    (inline_below defs n ts o (conditions_of (printed_conditions scope ds)) (λ us. steps_with enter defs scope us s)
-    (λ us. walk_below enter deep entered defs scope n us s (first_of_both (depth_with deep s) (depth_with deep rest) n le)))
-    (walk_below enter deep entered defs scope n ts rest (second_of_both (depth_with deep s) (depth_with deep rest) n le))
+walk_below enter deep entered defs scope n over ts (sels.inline o ds s rest) le =
+    append_below n (inline_steps defs ts o (conditions_of (printed_conditions scope ds)) (λ us. steps_with enter defs scope (condition_or over o) us s)) (steps_with enter defs scope over ts rest)
+    (inline_below defs n ts o (conditions_of (printed_conditions scope ds)) (λ us. steps_with enter defs scope (condition_or over o) us s)
+    (λ us. walk_below enter deep entered defs scope n (condition_or over o) us s (first_of_both (depth_with deep s) (depth_with deep rest) n le)))
+    (walk_below enter deep entered defs scope n over ts rest (second_of_both (depth_with deep s) (depth_with deep rest) n le))
 
 -- a spread of a fragment, where its steps stand at few enough records
 entered_of : (defs : Defs) (scope : Scope) (ds : List Directive) (ts : List Text) (deep : FragmentAt → ℕ) (inside : FragmentAt → List Text → Reader)
@@ -143,16 +144,16 @@ entered_of : (defs : Defs) (scope : Scope) (ds : List Directive) (ts : List Text
 entered_of defs scope ds ts deep inside le None = omega arith
 entered_of defs scope ds ts deep inside le (Some f) = spread_below defs (deep f) ts scope ds f inside (le f)
 
-pub plan_deep : (k : ℕ) (p : Project) (scope : Scope) (ts : List Text) (s : Sels) → records_below (reader_steps k p scope ts s) ≤ depth_of k p s
-plan_deep zero p scope ts s = walk_below (λ us n ds. done) (λ n. 0) (λ us n ds. omega arith) p.defs scope (depth_of zero p s) ts s (omega arith)
-plan_deep (suc k) p scope ts s =
+pub plan_deep : (k : ℕ) (p : Project) (scope : Scope) (over : Option Text) (ts : List Text) (s : Sels) → records_below (reader_steps k p scope over ts s) ≤ depth_of k p s
+plan_deep zero p scope over ts s = walk_below (λ us n ds. done) (λ n. 0) (λ us n ds. omega arith) p.defs scope (depth_of zero p s) over ts s (omega arith)
+plan_deep (suc k) p scope over ts s =
     walk_below
-    (λ us n ds. spread_steps p.defs us scope ds (fragment_named p.fragments n) (λ f vs. reader_steps k p (scope_at_spread scope ds f) vs f.selections))
+    (λ us n ds. spread_steps p.defs us scope ds (fragment_named p.fragments n) (λ f vs. reader_steps k p (scope_at_spread scope ds f) (Some f.on.name) vs f.selections))
     (λ n. depth_inside (λ f. depth_of k p f.selections + 1) (fragment_named p.fragments n))
-    (λ us n ds. entered_of p.defs scope ds us (λ f. depth_of k p f.selections + 1) (λ f vs. reader_steps k p (scope_at_spread scope ds f) vs f.selections)
-    (λ f vs. one_more (records_below (reader_steps k p (scope_at_spread scope ds f) vs f.selections)) (depth_of k p f.selections) (plan_deep k p (scope_at_spread scope ds f) vs f.selections))
+    (λ us n ds. entered_of p.defs scope ds us (λ f. depth_of k p f.selections + 1) (λ f vs. reader_steps k p (scope_at_spread scope ds f) (Some f.on.name) vs f.selections)
+    (λ f vs. one_more (records_below (reader_steps k p (scope_at_spread scope ds f) (Some f.on.name) vs f.selections)) (depth_of k p f.selections) (plan_deep k p (scope_at_spread scope ds f) (Some f.on.name) vs f.selections))
     (fragment_named p.fragments n))
-    p.defs scope (depth_of (suc k) p s) ts s (omega arith)
+    p.defs scope (depth_of (suc k) p s) over ts s (omega arith)
   where
     one_more : (a b : ℕ) → a ≤ b → a + 1 ≤ b + 1
     one_more a b le = omega arith

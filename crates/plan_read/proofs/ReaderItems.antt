@@ -81,30 +81,30 @@ module _ (env : Values) (T : Text) (step : Target → Reader) where
 -- ---- fields
 
 -- the steps below a field of this form
-abbrev pub below_form : Form → (below : List Text → Reader) → Reader
-below_form items.typename below = done
-below_form items.leaf below = done
-below_form (items.one b) below = below b.types
-below_form (items.many b) below = below b.types
+abbrev pub below_form : Form → (child : Reader) → Reader
+below_form items.typename child = done
+below_form items.leaf child = done
+below_form (items.one b) child = child
+below_form (items.many b) child = child
 
-pub below_types : (form : Form) (below : List Text → Reader) (U : Text) → has_text (types_of form) U ≡ true → below_form form below ≡ below (types_of form)
-below_types items.typename below U h = absurd (true≢false (sym h))
-below_types items.leaf below U h = absurd (true≢false (sym h))
-below_types (items.one b) below U h = refl
-below_types (items.many b) below U h = refl
+pub below_types : (form : Form) (child : Reader) (U : Text) → has_text (types_of form) U ≡ true → below_form form child ≡ child
+below_types items.typename child U h = absurd (true≢false (sym h))
+below_types items.leaf child U h = absurd (true≢false (sym h))
+below_types (items.one b) child U h = refl
+below_types (items.many b) child U h = refl
 
 -- a field of this form, with what stands below it
-abbrev pub item_of_form : Values → FieldNode → (below : List Text → Reader) → Form → Item ReaderPart
-item_of_form env f below form =
+abbrev pub item_of_form : Values → FieldNode → (child : Reader) → Form → Item ReaderPart
+item_of_form env f child form =
     field_item (record { response = f.response; name = f.name; arguments = arguments_in_environment env f.arguments; connection = option_map connection_asked f.connection; form = form })
-    env (below_form form below)
+    env (below_form form child)
 
-pub target_items : (defs : Defs) (T : Text) (env : Values) (f : FieldNode) (below : List Text → Reader) (t : Target) → (form_of defs t ≡ items.leaf → f.connection ≡ None)
-    → collect_reading env T (target_step defs f below t) ≡ item_of_form env f below (form_of defs t) ∷ []
-target_items defs T env f below t plain = on (is_composite defs t.base) t.many plain where
+pub target_items : (defs : Defs) (T : Text) (env : Values) (f : FieldNode) (child : Reader) (t : Target) → (form_of defs t ≡ items.leaf → f.connection ≡ None)
+    → collect_reading env T (target_step defs f child t) ≡ item_of_form env f child (form_of defs t) ∷ []
+target_items defs T env f child t plain = on (is_composite defs t.base) t.many plain where
   on : (b m : Bool) → (cond b (objects m (below_type defs t.base)) items.leaf ≡ items.leaf → f.connection ≡ None)
-      → collect_reading env T (cond b (object f.response f.name f.arguments m (possible defs t.base) (below_type defs t.base).identified (below_type defs t.base).open_type f.connection (below (possible defs t.base)) done) (leaf f.response f.name f.arguments done))
-      ≡ item_of_form env f below (cond b (objects m (below_type defs t.base)) items.leaf) ∷ []
+      → collect_reading env T (cond b (object f.response f.name f.arguments m (possible defs t.base) (below_type defs t.base).identified (below_type defs t.base).open_type f.connection child done) (leaf f.response f.name f.arguments done))
+      ≡ item_of_form env f child (cond b (objects m (below_type defs t.base)) items.leaf) ∷ []
   on true true h = refl
   on true false h = refl
   on false m h = λ i. field_item (record {

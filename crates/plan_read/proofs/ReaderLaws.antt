@@ -56,7 +56,7 @@ module _ (p : Project) (own : Values) (sound : AreSound p.defs) where
   plans_give T (x ∷ xs) [] stands h = absurd h
   plans_give T (x ∷ xs) (g ∷ gs) stands h =
       zip_append (AlikeItem (IsPlan p own)) (gather p own T x) (collect_reader T g) (collect_all (gather p own) T xs) (collect_all collect_reader T gs)
-      (subst (λ (z : ReaderPart). AlikeSteps p own (gather p own T x) (collect_reader T z)) (sym (h.0 T stands.0.here))
+      (subst (λ (z : ReaderPart). AlikeSteps p own (gather p own T x) (collect_reader T z)) (sym (h.0 T stands.0.met))
       (plan_items p own sound T x stands.0.means stands.0.differ stands.0.here stands.0.holds.there stands.0.holds.suited))
       (plans_give T xs gs stands.1 h.1)
 
@@ -73,7 +73,7 @@ module _ (p : Project) (own : Values) (sound : AreSound p.defs) where
   reads_the_same constant x means types known operation_type owner m id =
       let typed : Text → Text = type_of_record operation_type in
       let n : ℕ = depth_of x.part.spreads p x.part.selections + 1 in
-      let deep : records_below (as_plan p own x).steps ≤ depth_of x.part.spreads p x.part.selections = plan_deep x.part.spreads p x.scope x.types x.part.selections in
+      let deep : records_below (as_plan p own x).steps ≤ depth_of x.part.spreads p x.part.selections = plan_deep x.part.spreads p x.scope x.over x.types x.part.selections in
       sym (plan_enough typed owner m n types own (as_plan p own x).steps id (omega (arith, deep)))
       ∙ sym (read_alike (gather p own) collect_reader typed owner m (λ k. ArePlans) (λ k. plans_keep) n types (x ∷ []) (as_plan p own x ∷ []) id (known, ((λ U h. refl), tt)))
       ∙ sym (read_items (collect (masked_setting p own)) (gather p own) typed owner m (FromDocuments own) (document_items p own constant) n types x.part [] x [] id (refl, means) tt)
@@ -81,9 +81,9 @@ module _ (p : Project) (own : Values) (sound : AreSound p.defs) where
   -- ---- at the top
 
   -- an expansion whose fields merge, with nothing behind it
-  merges_alone : (e : Expanded) → field_differences p.defs e ≡ [] → (x : Known) → as_nodes p own x ≡ record { set = record { environment = own; nodes = e.selections }; around = e.root; type = e.root }
+  merges_alone : (e : Expanded) → field_differences p.defs e ≡ [] → (x : Known) → as_nodes p own x ≡ record { set = record { environment = own; nodes = e.selections }; types = x.types; around = e.root; type = e.root }
       → Merge p.defs (map (as_nodes p own) (x ∷ []))
-  merges_alone e none x is = subst (λ (q : parts.Part). Merge p.defs (q ∷ [])) (sym is) (merge_root p.defs own e none)
+  merges_alone e none x is = subst (λ (q : parts.Part). Merge p.defs (q ∷ [])) (sym is) (merge_root p.defs own e x.types none)
 
 -- ---- operations
 
@@ -92,6 +92,7 @@ known_operation p own o = record {
   part = part_of (masked_setting p own) o;
   scope = operation_scope;
   types = name_or (root p.defs o.kind) ∷ [];
+  met = name_or (root p.defs o.kind) ∷ [];
   around = name_or (root p.defs o.kind);
   type = name_or (root p.defs o.kind);
   from = operation_from o;
@@ -111,15 +112,18 @@ operation_known p own o sound suited none T h =
           means = λ n. refl;
           differ = differ_one t;
           here = h;
+          met = h;
           holds = record {
             suited = subst (Suited p.defs t t) (sym bare) suited.selections;
+            differ = differ_one t;
+            here = h;
             there = ap (has_text (possible p.defs t)) is ∙ root_has p.defs sound t suited.root;
             alone = λ b. is;
           };
         },
         tt,
       ),
-      merges_alone p own (are_sound p.defs sound) e none (known_operation p own o) (λ i. record { set = record { environment = own; nodes = bare i }; around = t; type = t }),
+      merges_alone p own (are_sound p.defs sound) e none (known_operation p own o) (λ i. record { set = record { environment = own; nodes = bare i }; types = t ∷ []; around = t; type = t }),
     )
 
 pub readers_mean_operations : ReadersMeanOperations
@@ -135,6 +139,7 @@ known_fragment p own scope f = record {
   part = fragment_part p f own scope;
   scope = scope_of_own f;
   types = possible p.defs f.on.name;
+  met = possible p.defs f.on.name;
   around = f.on.name;
   type = f.on.name;
   from = selections_from f;
@@ -153,8 +158,11 @@ fragment_known p own scope f sound locals suited none T h =
           means = marked_means f own scope locals;
           differ = differ_possible p.defs t;
           here = h;
+          met = h;
           holds = record {
             suited = subst (Suited p.defs t t) (sym bare) suited;
+            differ = differ_possible p.defs t;
+            here = h;
             there = h;
             alone = λ b. (are_sound p.defs sound).alone t T b h;
           };
@@ -162,7 +170,7 @@ fragment_known p own scope f sound locals suited none T h =
         tt,
       ),
       merges_alone p (with_marked own scope) (are_sound p.defs sound) e none (known_fragment p own scope f)
-          (λ i. record { set = record { environment = with_marked own scope; nodes = bare i }; around = t; type = t }),
+          (λ i. record { set = record { environment = with_marked own scope; nodes = bare i }; types = possible p.defs t; around = t; type = t }),
     )
 
 pub readers_mean_fragments : ReadersMeanFragments

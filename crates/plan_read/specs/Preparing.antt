@@ -1,5 +1,5 @@
 -- What stands ready to plan reads, and the steps that are made of it.
-use Rattle.std.specs.Prelude.{◌≡◌, List, [], ◌∷◌, length}
+use Rattle.std.specs.Prelude.{◌≡◌, List, [], ◌∷◌, Option, Some, length}
 use Rattle.plan_ir.specs.gql_ast.Sels.{Sels}
 use Rattle.plan_expand.specs.Answers.{definitions_in}
 use Rattle.plan_ir.specs.Expansion.{name_or}
@@ -18,11 +18,11 @@ pub record IsReady (r : Readers) : Type 0 where
   pub operations_found : HasOperations (find_operation r.operations) (operations (definitions_in r.schema.now r.documents.now))
   pub all_spreads : r.spreads ≡ length (fragments (definitions_in r.schema.now r.documents.now))
 
-abbrev pub steps_made : Readers → Scope → (types : List Text) → Sels → Reader
-steps_made r scope ts s = reading r.spreads r.schema.now (find_in r.fragments) scope ts s
+abbrev pub steps_made : Readers → Scope → (around : Option Text) → (types : List Text) → Sels → Reader
+steps_made r scope over ts s = reading r.spreads r.schema.now (find_in r.fragments) scope over ts s
 
 abbrev pub operation_steps : Readers → ReadyOperation → Reader
-operation_steps r o = steps_made r operation_scope (name_or (root r.schema.now o.kind) ∷ []) o.selections
+operation_steps r o = steps_made r operation_scope (root r.schema.now o.kind) (name_or (root r.schema.now o.kind) ∷ []) o.selections
 
 abbrev pub fragment_steps : Readers → Ready → Reader
-fragment_steps r f = steps_made r (λ n. mark_local n (f.locals n)) (possible r.schema.now f.on) f.selections
+fragment_steps r f = steps_made r (λ n. mark_local n (f.locals n)) (Some f.on) (possible r.schema.now f.on) f.selections

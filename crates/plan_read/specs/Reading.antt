@@ -63,7 +63,7 @@ spread_ready defs ts scope n ds (Some r) inside =
 abbrev pub entering : (spreads : ℕ) → Defs → Find → Scope → (types : List Text) → Text → List Directive → Reader
 entering zero defs find scope ts n ds = done
 entering (suc k) defs find scope ts n ds =
-    spread_ready defs ts scope n ds (find n) (λ r us. steps_with (entering k defs find (ready_scope scope ds r)) defs (ready_scope scope ds r) us r.selections)
+    spread_ready defs ts scope n ds (find n) (λ r us. steps_with (entering k defs find (ready_scope scope ds r)) defs (ready_scope scope ds r) (Some r.on) us r.selections)
 
-abbrev pub reading : (spreads : ℕ) → Defs → Find → Scope → (types : List Text) → Sels → Reader
-reading k defs find scope ts s = steps_with (entering k defs find scope) defs scope ts s
+abbrev pub reading : (spreads : ℕ) → Defs → Find → Scope → (around : Option Text) → (types : List Text) → Sels → Reader
+reading k defs find scope over ts s = steps_with (entering k defs find scope) defs scope over ts s

@@ -6,8 +6,8 @@ use Rattle.plan_ir.specs.gql_ast.Sels.{Sels}
 use Rattle.plan_ir.specs.gql_ast.declared.directive.Directive.{Directive}
 use Rattle.plan_build.specs.Classes.{Class, Target, classes_of}
 use Rattle.plan_build.specs.Conditions.{conditions_of}
-use Rattle.plan_build.specs.Steps.{FieldNode, are_within, identified, is_one}
-use Rattle.plan_ir.specs.Additions.{is_abstract}
+use Rattle.plan_build.specs.Steps.{FieldNode, are_within, identified, is_one, types_at}
+use Rattle.plan_ir.specs.Additions.{is_abstract, type_or}
 use Rattle.plan_ir.specs.Expansion.{Project, name_or, printed_conditions, response_key, spreads_in}
 use Rattle.plan_ir.specs.Reader.{Reader, done, typename, leaf, object, guarded, pointer, pointer_inline, reader_append}
 use Rattle.plan_ir.specs.Substitution.{Arguments, Scope, arguments_at_spread, operation_scope, scope_at_spread, scope_of_own, substitute_in, value_or}
@@ -15,9 +15,9 @@ use Rattle.plan_ir.specs.declared.guard.Condition.{Condition}
 use Rattle.plan_ir.specs.relay_dirs.Connections.{connection_among, value_of_name}
 use Rattle.plan_ir.specs.relay_dirs.Locals.{Local, locals_of}
 use Rattle.plan_build.specs.relay_model.Collection.{is_inline, is_open}
-use Rattle.plan_ir.specs.schema_tables.Types.{Text, Defs, is_composite, possible, root}
+use Rattle.plan_ir.specs.schema_tables.Types.{Text, Defs, base_of, is_composite, possible, root}
 use Rattle.plan_ir.specs.schema_types.NameRules.{fragment_named}
-use Rattle.plan_ir.specs.schema_types.Sites.{FragmentAt, OperationAt}
+use Rattle.plan_ir.specs.schema_types.Sites.{FragmentAt, OperationAt, below, condition_or, field_type}
 
 -- ---- guards
 
@@ -35,8 +35,8 @@ abbrev pub object_step : Defs → FieldNode → Target → (child : Reader) → 
 object_step defs f t child =
     object f.response f.name f.arguments t.many (possible defs t.base) (identified defs t.base) (is_abstract defs t.base) f.connection child done
 
-abbrev pub target_step : Defs → FieldNode → (below : List Text → Reader) → Target → Reader
-target_step defs f below t = cond (is_composite defs t.base) (object_step defs f t (below (possible defs t.base))) (leaf_step f)
+abbrev pub target_step : Defs → FieldNode → (child : Reader) → Target → Reader
+target_step defs f child t = cond (is_composite defs t.base) (object_step defs f t child) (leaf_step f)
 
 -- a step for each class
 abbrev pub guarded_classes : (step : Target → Reader) → List Class → Reader
@@ -48,20 +48,20 @@ abbrev pub class_steps : (step : Target → Reader) → List Class → Reader
 class_steps step (c ∷ []) = step c.target
 class_steps step cs = guarded_classes step cs
 
-abbrev pub field_steps : Defs → List Text → FieldNode → (below : List Text → Reader) → Reader
-field_steps defs ts f below =
-    cond (bytes_eq f.name (codes "__typename")) (typename f.response done) (class_steps (target_step defs f below) (classes_of defs f.name ts))
+abbrev pub field_steps : Defs → List Text → FieldNode → (child : Reader) → Reader
+field_steps defs ts f child =
+    cond (bytes_eq f.name (codes "__typename")) (typename f.response done) (class_steps (target_step defs f child) (classes_of defs f.name ts))
 
 -- ---- inline fragments and spreads
 
 -- where each type around is of the fragment's type there is no test of types; where it is one type alone that is not, nothing is taken
-abbrev pub on_steps : Defs → List Text → (on : Text) → List Condition → (below : List Text → Reader) → Reader
-on_steps defs ts o cs below =
-    cond (are_within (possible defs o) ts) (behind None cs (below ts)) (cond (is_one ts) done (behind (Some (possible defs o)) cs (below (possible defs o))))
+abbrev pub on_steps : Defs → List Text → (on : Text) → List Condition → (inner : List Text → Reader) → Reader
+on_steps defs ts o cs inner =
+    cond (are_within (possible defs o) ts) (behind None cs (inner ts)) (cond (is_one ts) done (behind (Some (possible defs o)) cs (inner (possible defs o))))
 
-abbrev pub inline_steps : Defs → List Text → (on : Option Text) → List Condition → (below : List Text → Reader) → Reader
-inline_steps defs ts None cs below = behind None cs (below ts)
-inline_steps defs ts (Some o) cs below = cond (is_composite defs o) (on_steps defs ts o cs below) done
+abbrev pub inline_steps : Defs → List Text → (on : Option Text) → List Condition → (inner : List Text → Reader) → Reader
+inline_steps defs ts None cs inner = behind None cs (inner ts)
+inline_steps defs ts (Some o) cs inner = cond (is_composite defs o) (on_steps defs ts o cs inner) done
 
 -- the value that a spread gives each local variable, else its default, else null, in written order
 abbrev pub pointer_arguments : Scope → List Directive → List Local → Arguments
@@ -84,32 +84,32 @@ spread_steps defs ts scope ds (Some f) inside =
 -- ---- selections
 
 -- `enter` gives the steps of a spread
-abbrev pub steps_with : (enter : List Text → Text → List Directive → Reader) → Defs → Scope → List Text → Sels → Reader
-steps_with enter defs scope ts sels.end = done
-steps_with enter defs scope ts (sels.field a n xs ds s rest) =
+abbrev pub steps_with : (enter : List Text → Text → List Directive → Reader) → Defs → Scope → (around : Option Text) → List Text → Sels → Reader
+steps_with enter defs scope over ts sels.end = done
+steps_with enter defs scope over ts (sels.field a n xs ds s rest) =
     reader_append
     (behind None (conditions_of (printed_conditions scope ds))
     (field_steps defs ts (record { response = response_key a n; name = n; arguments = substitute_in scope xs; connection = connection_among ds })
-    (λ us. steps_with enter defs scope us s)))
-    (steps_with enter defs scope ts rest)
-steps_with enter defs scope ts (sels.spread n ds rest) = reader_append (enter ts n ds) (steps_with enter defs scope ts rest)
-steps_with enter defs scope ts (sels.inline o ds s rest) =
-    reader_append (inline_steps defs ts o (conditions_of (printed_conditions scope ds)) (λ us. steps_with enter defs scope us s)) (steps_with enter defs scope ts rest)
+    (steps_with enter defs scope (below defs over n) (types_at defs (base_of (type_or (field_type defs over n)))) s)))
+    (steps_with enter defs scope over ts rest)
+steps_with enter defs scope over ts (sels.spread n ds rest) = reader_append (enter ts n ds) (steps_with enter defs scope over ts rest)
+steps_with enter defs scope over ts (sels.inline o ds s rest) =
+    reader_append (inline_steps defs ts o (conditions_of (printed_conditions scope ds)) (λ us. steps_with enter defs scope (condition_or over o) us s)) (steps_with enter defs scope over ts rest)
 
 -- so many spreads may still be entered, one in another
-abbrev pub reader_steps : (spreads : ℕ) → Project → Scope → (types : List Text) → Sels → Reader
-reader_steps zero p scope ts s = steps_with (λ us n ds. done) p.defs scope ts s
-reader_steps (suc k) p scope ts s =
+abbrev pub reader_steps : (spreads : ℕ) → Project → Scope → (around : Option Text) → (types : List Text) → Sels → Reader
+reader_steps zero p scope over ts s = steps_with (λ us n ds. done) p.defs scope over ts s
+reader_steps (suc k) p scope over ts s =
     steps_with
-    (λ us n ds. spread_steps p.defs us scope ds (fragment_named p.fragments n) (λ f vs. reader_steps k p (scope_at_spread scope ds f) vs f.selections))
-    p.defs scope ts s
+    (λ us n ds. spread_steps p.defs us scope ds (fragment_named p.fragments n) (λ f vs. reader_steps k p (scope_at_spread scope ds f) (Some f.on.name) vs f.selections))
+    p.defs scope over ts s
 
 -- ---- plans
 
 -- the plan of an operation: its root is one object type
 abbrev pub operation_reader : Project → OperationAt → Reader
-operation_reader p o = reader_steps (spreads_in p) p operation_scope (name_or (root p.defs o.kind) ∷ []) o.selections
+operation_reader p o = reader_steps (spreads_in p) p operation_scope (root p.defs o.kind) (name_or (root p.defs o.kind) ∷ []) o.selections
 
 -- the plan of a fragment, whose local variables stand under marked names
 abbrev pub fragment_reader : Project → FragmentAt → Reader
-fragment_reader p f = reader_steps (spreads_in p) p (scope_of_own f) (possible p.defs f.on.name) f.selections
+fragment_reader p f = reader_steps (spreads_in p) p (scope_of_own f) (Some f.on.name) (possible p.defs f.on.name) f.selections

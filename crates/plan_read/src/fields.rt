@@ -17,8 +17,8 @@ use plan_build::kept::Kept;
 use plan_expand::directives::print_directives;
 use plan_expand::scope::{Scope, substitute_in};
 use plan_ir::{
-    Arguments, Conditions, Directives, Guard, Ids, Name, NoMemory, ReaderPlan, ReaderStep,
-    ReaderSteps, Schema, Selections, connection_among,
+    Arguments, Conditions, Directives, Guard, Ids, Name, NoMemory, ReaderList, ReaderPlan,
+    ReaderStep, ReaderSteps, Schema, Selections, connection_among,
 };
 use std::alloc::Global;
 
@@ -75,7 +75,7 @@ pub(crate) fn behind(types: Option<Ids>, conditions: Conditions, steps: ReaderSt
 }
 
 /// Puts the name of the type of the record.
-pub(crate) fn put_typename(field: &Field<'_>, steps: &mut ReaderSteps) -> Result<(), NoMemory>
+pub(crate) fn put_typename(field: &Field<'_>, steps: &mut ReaderList) -> Result<(), NoMemory>
     ensures { OnOk result (steps.new ≡ reader_append steps.old (typename (expansion.response_key field.now.alias.now field.now.name.now) done)) }
 {
     let response = response_key(field.alias, field.name)?;
@@ -87,7 +87,7 @@ pub(crate) fn put_leaf(
     alloc: Global,
     scope: &Scope<'_, '_>,
     field: &Field<'_>,
-    steps: &mut ReaderSteps,
+    steps: &mut ReaderList,
 ) -> Result<(), NoMemory>
     ensures { OnOk result (steps.new ≡ reader_append steps.old (spec.leaf_step (field_view (scope_of scope.now) field.now))) }
 {
@@ -110,7 +110,7 @@ pub(crate) fn put_object<'a>(
     field: &Field<'_>,
     target: &Target<'a>,
     child: ReaderSteps,
-    steps: &mut ReaderSteps,
+    steps: &mut ReaderList,
 ) -> Result<(), NoMemory>
     requires right { IsRight schema.now kept.old }
     requires composite { types.is_composite schema.now target.now.base.now ≡ true }

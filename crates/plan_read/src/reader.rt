@@ -1,5 +1,5 @@
 //! The operations and fragments of a project, ready to be planned.
-ghost use Rattle.std.specs.Prelude.{◌≡◌, [], ◌∷◌, true, Some, is_some, IfOk};
+ghost use Rattle.std.specs.Prelude.{◌≡◌, [], ◌∷◌, true, Some, is_some, option_copied, IfOk};
 ghost use Rattle.plan_ir.specs.doc_sites.Definitions.{AreIn};
 ghost use Rattle.plan_build.specs.AroundView.{IsOfComposite, types_of};
 ghost use Rattle.plan_expand.specs.ScopeView.{scope_of};
@@ -15,14 +15,13 @@ ghost use Rattle.plan_ir.specs.schema_tables.Types as types;
 
 use crate::fragments::{Fragments, ReadyFragment};
 use crate::operations::{Operations, ReadyOperation};
-use crate::steps::{Walk, put_set};
-use crate::types::root_type;
+use crate::steps::{Walk, make_set};
+use crate::types::{root_name, root_type};
 use plan_build::around::Around;
 use plan_build::kept::Kept;
 use plan_expand::scope::Scope;
 use plan_ir::{
-    DefinitionAt, Documents, Form, Name, NoMemory, ReaderPlan, ReaderSteps, Schema, Selections,
-    count_fragments,
+    DefinitionAt, Documents, Form, Name, NoMemory, ReaderPlan, Schema, Selections, count_fragments,
 };
 use std::alloc::Global;
 
@@ -80,26 +79,27 @@ impl<'a> Readers<'a> {
         }
     }
 
-    /// The plan of selections, where the records are of the types around.
+    /// The plan of selections, where a static type is around and the records are of the types around.
     fn make(
         &self,
         alloc: Global,
         scope: &Scope<'_, 'a>,
+        over: Option<&'a str>,
         around: Around<'_, 'a>,
         selections: &'a Selections,
     ) -> Result<ReaderPlan, NoMemory>
         requires { IsOfComposite self.now.schema.now around }
-        ensures { IfOk result (λ plan. plan.steps ≡ steps_made self.now (scope_of scope.now) (types_of self.now.schema.now around.entry) selections.now) }
+        ensures { IfOk result (λ plan. plan.steps ≡ steps_made self.now (scope_of scope.now) (option_copied over.entry) (types_of self.now.schema.now around.entry) selections.now) }
     {
         let walk = Walk {
             schema: self.schema,
             fragments: &self.fragments,
             scope,
             spreads: self.spreads,
+            over,
         };
         let mut kept = Kept::new(alloc);
-        let mut steps = ReaderSteps::new(alloc);
-        put_set(alloc, walk, &mut kept, around, selections, &mut steps)?;
+        let steps = make_set(alloc, walk, &mut kept, around, selections)?;
         Ok(ReaderPlan { steps })
     }
 
@@ -121,7 +121,14 @@ impl<'a> Readers<'a> {
     {
         let types = root_type(alloc, self.schema, ready.kind)?;
         let scope = Scope::Operation;
-        self.make(alloc, &scope, Around::Listed(&types), ready.selections)
+        let over = root_name(self.schema, ready.kind);
+        self.make(
+            alloc,
+            &scope,
+            over,
+            Around::Listed(&types),
+            ready.selections,
+        )
     }
 
     /// The plan of the fragment of that name.
@@ -143,6 +150,12 @@ impl<'a> Readers<'a> {
         ensures { IfOk result (λ plan. plan.steps ≡ fragment_steps self.now (ready_of ready.now)) }
     {
         let scope = Scope::Own(&ready.locals);
-        self.make(alloc, &scope, Around::Of(ready.on), ready.selections)
+        self.make(
+            alloc,
+            &scope,
+            Some(ready.on),
+            Around::Of(ready.on),
+            ready.selections,
+        )
     }
 }

@@ -14,19 +14,22 @@ ghost use Rattle.plan_read.specs.FieldView.{field_view};
 ghost use Rattle.plan_read.specs.ReadyView.{ready_of};
 ghost use Rattle.plan_read.specs.Reading as reading;
 ghost use Rattle.plan_read.specs.Steps as spec;
+ghost use Rattle.plan_ir.specs.schema_types.Sites as sites;
 ghost use Rattle.plan_read.specs.WalkView.{below_field, fragment_in, inside_in, steps_in};
 
 use crate::fields::{Field, behind, conditions_in, put_leaf, put_object, put_typename, text_of};
 use crate::fragments::{Fragments, ReadyFragment};
 use crate::masks::is_open;
 use crate::pointers::pointer_arguments;
+use crate::types::text_or_empty;
 use plan_build::around::Around;
 use plan_build::classes::{Class, Target};
 use plan_build::kept::Kept;
 use plan_expand::scope::{Scope, scope_at_spread};
+use plan_ir::around::below;
 use plan_ir::{
-    Conditions, Directives, Name, NoMemory, ReaderPlan, ReaderStep, ReaderSteps, Schema, Selection,
-    Selections,
+    Conditions, Directives, Ids, Name, NoMemory, ReaderList, ReaderPlan, ReaderStep, ReaderSteps,
+    Schema, Selection, Selections,
 };
 use std::alloc::Global;
 
@@ -38,6 +41,8 @@ pub(crate) struct Walk<'w, 'a> {
     pub(crate) scope: &'w Scope<'w, 'a>,
     /// How many spreads may still be entered, one in another.
     pub(crate) spreads: usize,
+    /// The static type around the selections.
+    pub(crate) over: Option<&'a str>,
 }
 
 /// What stands inside an inline fragment, or at a spread.
@@ -53,15 +58,44 @@ pub(crate) enum Inside<'f, 'a> {
     },
 }
 
-/// Puts the steps of selections.
+/// The static type inside an inline fragment.
+fn condition_or<'a>(around: Option<&'a str>, on: Option<&'a str>) -> Option<&'a str>
+    ensures { option_copied result ≡ sites.condition_or (option_copied around.entry) (option_copied on.entry) }
+{
+    match on {
+        Some(name) => Some(name),
+        None => around,
+    }
+}
+
+/// The steps of selections.
 #[cycle(steps)]
-pub(crate) fn put_set<'a>(
+pub(crate) fn make_set<'a>(
     alloc: Global,
     walk: Walk<'_, 'a>,
     kept: &mut Kept<'a>,
     around: Around<'_, 'a>,
     selections: &'a Selections,
-    steps: &mut ReaderSteps,
+) -> Result<ReaderSteps, NoMemory>
+    requires right { IsRight walk.schema.now kept.old }
+    requires composite { IsOfComposite walk.schema.now around }
+    ensures right { OnOk result (IsRight walk.entry.schema.now kept.new) }
+    ensures made { IfOk result (λ steps. steps ≡ steps_in walk.entry (types_of walk.entry.schema.now around.entry) selections.now) }
+{
+    let mut steps = ReaderList::new(alloc);
+    put_set(alloc, walk, kept, around, selections, &mut steps)?;
+    steps.share(alloc)
+}
+
+/// Puts the steps of selections.
+#[cycle(steps)]
+fn put_set<'a>(
+    alloc: Global,
+    walk: Walk<'_, 'a>,
+    kept: &mut Kept<'a>,
+    around: Around<'_, 'a>,
+    selections: &'a Selections,
+    steps: &mut ReaderList,
 ) -> Result<(), NoMemory>
     requires right { IsRight walk.schema.now kept.old }
     requires composite { IsOfComposite walk.schema.now around }
@@ -82,7 +116,7 @@ fn put_selection<'a>(
     kept: &mut Kept<'a>,
     around: Around<'_, 'a>,
     selection: &'a Selection,
-    steps: &mut ReaderSteps,
+    steps: &mut ReaderList,
 ) -> Result<(), NoMemory>
     requires right { IsRight walk.schema.now kept.old }
     requires composite { IsOfComposite walk.schema.now around }
@@ -115,8 +149,15 @@ fn put_selection<'a>(
             selections,
         } => {
             let on = text_of(on);
+            let inner = Walk {
+                schema: walk.schema,
+                fragments: walk.fragments,
+                scope: walk.scope,
+                spreads: walk.spreads,
+                over: condition_or(walk.over, on),
+            };
             let inside = Inside::Selections(selections);
-            put_inline(alloc, walk, kept, around, on, directives, inside, steps)
+            put_inline(alloc, inner, kept, around, on, directives, inside, steps)
         }
     }
 }
@@ -129,7 +170,7 @@ fn put_field<'a>(
     kept: &mut Kept<'a>,
     around: Around<'_, 'a>,
     field: Field<'a>,
-    steps: &mut ReaderSteps,
+    steps: &mut ReaderList,
 ) -> Result<(), NoMemory>
     requires right { IsRight walk.schema.now kept.old }
     requires composite { IsOfComposite walk.schema.now around }
@@ -142,8 +183,9 @@ fn put_field<'a>(
     if conditions.is_empty() {
         return put_field_steps(alloc, walk, kept, around, field, steps);
     }
-    let mut inside = ReaderSteps::new(alloc);
+    let mut inside = ReaderList::new(alloc);
     put_field_steps(alloc, walk, kept, around, field, &mut inside)?;
+    let inside = inside.share(alloc)?;
     steps.push(behind(None, conditions, inside))
 }
 
@@ -155,7 +197,7 @@ fn put_field_steps<'a>(
     kept: &mut Kept<'a>,
     around: Around<'_, 'a>,
     field: Field<'a>,
-    steps: &mut ReaderSteps,
+    steps: &mut ReaderList,
 ) -> Result<(), NoMemory>
     requires right { IsRight walk.schema.now kept.old }
     requires composite { IsOfComposite walk.schema.now around }
@@ -166,82 +208,112 @@ fn put_field_steps<'a>(
     if field.name.as_str() == "__typename" {
         return put_typename(&field, steps);
     }
+    let child = make_child(alloc, walk, kept, field)?;
     let one = kept.one_target(alloc, walk.schema, around, field.name.as_str())?;
     if let Some(target) = one {
-        return put_target(alloc, walk, kept, &target, field, steps);
+        return put_target(alloc, walk, kept, &target, field, &child, steps);
     }
     let classes = around.classes_of(alloc, walk.schema, field.name.as_str())?;
-    put_classes(alloc, walk, kept, &classes, field, steps)
+    put_classes(alloc, walk, kept, &classes, field, &child, steps)
+}
+
+/// The steps of what stands below a field, for all object types that its static type may be: whichever
+/// of its classes they stand in, they are the same.
+#[cycle(steps)]
+fn make_child<'a>(
+    alloc: Global,
+    walk: Walk<'_, 'a>,
+    kept: &mut Kept<'a>,
+    field: Field<'a>,
+) -> Result<ReaderSteps, NoMemory>
+    requires { IsRight walk.schema.now kept.old }
+    ensures right { OnOk result (IsRight walk.entry.schema.now kept.new) }
+    ensures made { IfOk result (λ child. child ≡ below_field walk.entry field.entry) }
+{
+    let schema = walk.schema;
+    let over = below(schema, walk.over, field.name.as_str());
+    let inner = Walk {
+        schema,
+        fragments: walk.fragments,
+        scope: walk.scope,
+        spreads: walk.spreads,
+        over,
+    };
+    let of = text_or_empty(over);
+    if schema.is_composite(of) {
+        return make_set(alloc, inner, kept, Around::Of(of), field.selections);
+    }
+    let none = Ids::new(alloc);
+    make_set(alloc, inner, kept, Around::Listed(&none), field.selections)
 }
 
 /// Puts a step for each class; one class alone wants no guard.
-#[cycle(steps)]
 fn put_classes<'a>(
     alloc: Global,
     walk: Walk<'_, 'a>,
     kept: &mut Kept<'a>,
     classes: &[Class<'a>],
     field: Field<'a>,
-    steps: &mut ReaderSteps,
+    child: &ReaderSteps,
+    steps: &mut ReaderList,
 ) -> Result<(), NoMemory>
     requires { IsRight walk.schema.now kept.old }
     ensures right { OnOk result (IsRight walk.entry.schema.now kept.new) }
     ensures put { OnOk result (steps.new ≡ reader_append steps.old (spec.class_steps
-        (spec.target_step walk.entry.schema.now (field_view (scope_of walk.entry.scope.now) field.entry) (below_field walk.entry field.entry)) (map class_view classes.now))) }
+        (spec.target_step walk.entry.schema.now (field_view (scope_of walk.entry.scope.now) field.entry) child.now) (map class_view classes.now))) }
 {
     if classes.len() == 1 {
-        return put_target(alloc, walk, kept, &classes[0].target, field, steps);
+        return put_target(alloc, walk, kept, &classes[0].target, field, child, steps);
     }
     'classes: for class in classes {
-        put_class(alloc, walk, kept, class, field, steps)?;
+        put_class(alloc, walk, kept, class, field, child, steps)?;
     }
     Ok(())
 }
 
 /// Puts the step of a class behind the guard of its types.
-#[cycle(steps)]
 fn put_class<'a>(
     alloc: Global,
     walk: Walk<'_, 'a>,
     kept: &mut Kept<'a>,
     class: &Class<'a>,
     field: Field<'a>,
-    steps: &mut ReaderSteps,
+    child: &ReaderSteps,
+    steps: &mut ReaderList,
 ) -> Result<(), NoMemory>
     requires { IsRight walk.schema.now kept.old }
     ensures right { OnOk result (IsRight walk.entry.schema.now kept.new) }
     ensures put { OnOk result (steps.new ≡ reader_append steps.old (spec.guarded_classes
-        (spec.target_step walk.entry.schema.now (field_view (scope_of walk.entry.scope.now) field.entry) (below_field walk.entry field.entry)) (class_view class.now ∷ []))) }
+        (spec.target_step walk.entry.schema.now (field_view (scope_of walk.entry.scope.now) field.entry) child.now) (class_view class.now ∷ []))) }
 {
-    let mut inside = ReaderSteps::new(alloc);
-    put_target(alloc, walk, kept, &class.target, field, &mut inside)?;
+    let mut inside = ReaderList::new(alloc);
+    put_target(alloc, walk, kept, &class.target, field, child, &mut inside)?;
+    let inside = inside.share(alloc)?;
     let types = class.types.copy()?;
     let conditions = Conditions::new(alloc);
     steps.push(behind(Some(types), conditions, inside))
 }
 
 /// Puts the step of a field that leads to this target.
-#[cycle(steps)]
 fn put_target<'a>(
     alloc: Global,
     walk: Walk<'_, 'a>,
     kept: &mut Kept<'a>,
     target: &Target<'a>,
     field: Field<'a>,
-    steps: &mut ReaderSteps,
+    child: &ReaderSteps,
+    steps: &mut ReaderList,
 ) -> Result<(), NoMemory>
     requires { IsRight walk.schema.now kept.old }
     ensures right { OnOk result (IsRight walk.entry.schema.now kept.new) }
     ensures put { OnOk result (steps.new ≡ reader_append steps.old
-        (spec.target_step walk.entry.schema.now (field_view (scope_of walk.entry.scope.now) field.entry) (below_field walk.entry field.entry) (target_view target.now))) }
+        (spec.target_step walk.entry.schema.now (field_view (scope_of walk.entry.scope.now) field.entry) child.now (target_view target.now))) }
 {
     let schema = walk.schema;
     if !schema.is_composite(target.base) {
         return put_leaf(alloc, walk.scope, &field, steps);
     }
-    let below = Around::Of(target.base);
-    let mut child = ReaderSteps::new(alloc);
-    put_set(alloc, walk, kept, below, field.selections, &mut child)?;
+    let child = child.copy()?;
     put_object(
         alloc, schema, kept, walk.scope, &field, target, child, steps,
     )
@@ -256,7 +328,7 @@ fn put_spread<'a>(
     around: Around<'_, 'a>,
     name: &Name,
     directives: &'a Directives,
-    steps: &mut ReaderSteps,
+    steps: &mut ReaderList,
 ) -> Result<(), NoMemory>
     requires right { IsRight walk.schema.now kept.old }
     requires composite { IsOfComposite walk.schema.now around }
@@ -291,7 +363,7 @@ fn put_inline<'a>(
     on: Option<&'a str>,
     directives: &Directives,
     inside: Inside<'_, 'a>,
-    steps: &mut ReaderSteps,
+    steps: &mut ReaderList,
 ) -> Result<(), NoMemory>
     requires right { IsRight walk.schema.now kept.old }
     requires composite { IsOfComposite walk.schema.now around }
@@ -316,7 +388,7 @@ fn put_on<'a>(
     on: &'a str,
     conditions: Conditions,
     inside: Inside<'_, 'a>,
-    steps: &mut ReaderSteps,
+    steps: &mut ReaderList,
 ) -> Result<(), NoMemory>
     requires right { IsRight walk.schema.now kept.old }
     requires composite { IsOfComposite walk.schema.now around }
@@ -334,8 +406,9 @@ fn put_on<'a>(
     if around.is_one(schema) {
         return Ok(());
     }
-    let mut child = ReaderSteps::new(alloc);
+    let mut child = ReaderList::new(alloc);
     put_inside(alloc, walk, kept, Around::Of(on), inside, &mut child)?;
+    let child = child.share(alloc)?;
     let ids = schema.possible(on);
     let guard = ids.copy()?;
     steps.push(behind(Some(guard), conditions, child))
@@ -350,7 +423,7 @@ fn put_behind<'a>(
     around: Around<'_, 'a>,
     conditions: Conditions,
     inside: Inside<'_, 'a>,
-    steps: &mut ReaderSteps,
+    steps: &mut ReaderList,
 ) -> Result<(), NoMemory>
     requires right { IsRight walk.schema.now kept.old }
     requires composite { IsOfComposite walk.schema.now around }
@@ -360,8 +433,9 @@ fn put_behind<'a>(
     if conditions.is_empty() {
         return put_inside(alloc, walk, kept, around, inside, steps);
     }
-    let mut child = ReaderSteps::new(alloc);
+    let mut child = ReaderList::new(alloc);
     put_inside(alloc, walk, kept, around, inside, &mut child)?;
+    let child = child.share(alloc)?;
     steps.push(behind(None, conditions, child))
 }
 
@@ -373,7 +447,7 @@ fn put_inside<'a>(
     kept: &mut Kept<'a>,
     around: Around<'_, 'a>,
     inside: Inside<'_, 'a>,
-    steps: &mut ReaderSteps,
+    steps: &mut ReaderList,
 ) -> Result<(), NoMemory>
     requires right { IsRight walk.schema.now kept.old }
     requires composite { IsOfComposite walk.schema.now around }
@@ -404,7 +478,7 @@ fn put_entered<'a>(
     directives: &'a Directives,
     fragment: &ReadyFragment<'a>,
     spreads: usize,
-    steps: &mut ReaderSteps,
+    steps: &mut ReaderList,
 ) -> Result<(), NoMemory>
     requires right { IsRight walk.schema.now kept.old }
     requires composite { IsOfComposite walk.schema.now around }
@@ -451,10 +525,11 @@ fn make_pointer<'a>(
             inline: None,
         });
     }
-    let mut body = ReaderSteps::new(alloc);
+    let mut body = ReaderList::new(alloc);
     put_fragment(
         alloc, walk, kept, around, directives, fragment, spreads, &mut body,
     )?;
+    let body = body.share(alloc)?;
     Ok(ReaderStep::Pointer {
         fragment: name,
         arguments,
@@ -472,7 +547,7 @@ fn put_fragment<'a>(
     directives: &'a Directives,
     fragment: &ReadyFragment<'a>,
     spreads: usize,
-    steps: &mut ReaderSteps,
+    steps: &mut ReaderList,
 ) -> Result<(), NoMemory>
     requires right { IsRight walk.schema.now kept.old }
     requires composite { IsOfComposite walk.schema.now around }
@@ -485,6 +560,7 @@ fn put_fragment<'a>(
         fragments: walk.fragments,
         scope: &scope,
         spreads,
+        over: Some(fragment.on),
     };
     put_set(alloc, inner, kept, around, fragment.selections, steps)
 }

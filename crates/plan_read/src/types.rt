@@ -24,3 +24,23 @@ pub(crate) fn root_type(alloc: Global, schema: &Schema, kind: Kind) -> Result<Id
     let root = name_of_root(alloc, schema.root(kind))?;
     one_type(alloc, &root)
 }
+
+/// The name of the root type of a kind, where there is one; takes no memory.
+pub(crate) fn root_name(schema: &Schema, kind: Kind) -> Option<&str>
+    ensures { option_copied result ≡ types.root schema.now kind }
+{
+    match schema.root(kind) {
+        Some(name) => Some(name.as_str()),
+        None => None,
+    }
+}
+
+/// The text, or the empty one where there is none; takes no memory.
+pub(crate) fn text_or_empty(text: Option<&str>) -> &str
+    ensures { result.now ≡ name_or (option_copied text.entry) }
+{
+    match text {
+        Some(text) => text,
+        None => "",
+    }
+}

@@ -155,6 +155,7 @@ fn operations_have_plans(rt: HostRuntime) -> Result<(), Fail> {
 fn narrowed_fields_have_steps_of_their_own(rt: HostRuntime) -> Result<(), Fail> {
     let rows =
         "query Q{node{next{id}}} => {node<A!|B!?>{[A]{next<A!>{id #__typename}} [B]{next<A!|B!?>{id #__typename}} id #__typename}}
+        query Q{node{next{next{id}}}} => {node<A!|B!?>{[A]{next<A!>{[A]{next<A!>{id #__typename}} [B]{next<A!|B!?>{id #__typename}} id #__typename}} [B]{next<A!|B!?>{[A]{next<A!>{id #__typename}} [B]{next<A!|B!?>{id #__typename}} id #__typename}} id #__typename}}
         query Q{node{...on B{next{__typename}}}} => {node<A!|B!?>{[B]{next<A!|B!?>{#__typename id}} id #__typename}}";
     assert_eq!(rt; wrong_rows(rt.alloc(), NARROWING, rows)?.as_str(), "");
     Ok(())

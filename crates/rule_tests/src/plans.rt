@@ -1,8 +1,8 @@
 //! Copies with ample memory: of guards, nodes, operations and plans, in each of their forms.
 use plan_ir::{
     Argument, Arguments, Condition, Conditions, Conn, Directives, Expanded, FilePlace, Guard, Ids,
-    Kind, NoMemory, Node, Nodes, NormalPlan, NormalStep, NormalSteps, ReaderPlan, ReaderStep,
-    ReaderSteps, TypeTree, ValueTree, VariableDefs, Words,
+    Kind, NoMemory, Node, Nodes, NormalList, NormalPlan, NormalStep, NormalSteps, ReaderList,
+    ReaderPlan, ReaderStep, ReaderSteps, TypeTree, ValueTree, VariableDefs, Words,
 };
 use std::alloc::Global;
 use std::test::Fail;
@@ -168,7 +168,7 @@ fn operations_are_copied(rt: HostRuntime) -> Result<(), Fail> {
 
 /// `__typename` and a leaf.
 fn normal_leaves(alloc: Global) -> Result<NormalPlan, NoMemory> {
-    let mut steps = NormalSteps::new(alloc);
+    let mut steps = NormalList::new(alloc);
     steps.push(NormalStep::Typename {
         response: Words::new(alloc, "__typename")?,
     })?;
@@ -177,6 +177,7 @@ fn normal_leaves(alloc: Global) -> Result<NormalPlan, NoMemory> {
         name: Words::new(alloc, "size")?,
         arguments: Arguments::new(alloc),
     })?;
+    let steps = steps.share(alloc)?;
     Ok(NormalPlan { steps })
 }
 
@@ -197,13 +198,14 @@ fn normal_object(alloc: Global) -> Result<NormalStep, NoMemory> {
 
 /// A connection, and no step behind a guard.
 fn normal_plan(alloc: Global) -> Result<NormalPlan, NoMemory> {
-    let mut steps = NormalSteps::new(alloc);
+    let mut steps = NormalList::new(alloc);
     steps.push(normal_object(alloc)?)?;
     let guard = guard(alloc)?;
     let child = NormalPlan {
-        steps: NormalSteps::new(alloc),
+        steps: NormalSteps::none(alloc)?,
     };
     steps.push(NormalStep::Guarded { guard, child })?;
+    let steps = steps.share(alloc)?;
     Ok(NormalPlan { steps })
 }
 
@@ -233,7 +235,7 @@ fn plans_that_normalize_are_copied(rt: HostRuntime) -> Result<(), Fail> {
 
 /// `__typename` and a leaf.
 fn reader_leaves(alloc: Global) -> Result<ReaderPlan, NoMemory> {
-    let mut steps = ReaderSteps::new(alloc);
+    let mut steps = ReaderList::new(alloc);
     steps.push(ReaderStep::Typename {
         response: Words::new(alloc, "__typename")?,
     })?;
@@ -242,6 +244,7 @@ fn reader_leaves(alloc: Global) -> Result<ReaderPlan, NoMemory> {
         name: Words::new(alloc, "size")?,
         arguments: Arguments::new(alloc),
     })?;
+    let steps = steps.share(alloc)?;
     Ok(ReaderPlan { steps })
 }
 
@@ -262,13 +265,14 @@ fn reader_object(alloc: Global) -> Result<ReaderStep, NoMemory> {
 
 /// A connection, and no step behind a guard.
 fn reader_plan(alloc: Global) -> Result<ReaderPlan, NoMemory> {
-    let mut steps = ReaderSteps::new(alloc);
+    let mut steps = ReaderList::new(alloc);
     steps.push(reader_object(alloc)?)?;
     let guard = guard(alloc)?;
     let child = ReaderPlan {
-        steps: ReaderSteps::new(alloc),
+        steps: ReaderSteps::none(alloc)?,
     };
     steps.push(ReaderStep::Guarded { guard, child })?;
+    let steps = steps.share(alloc)?;
     Ok(ReaderPlan { steps })
 }
 
@@ -308,9 +312,10 @@ fn pointer(alloc: Global, inline: Option<ReaderPlan>) -> Result<ReaderStep, NoMe
 #[test]
 fn pointers_are_copied(rt: HostRuntime) -> Result<(), Fail> {
     let alloc = rt.alloc();
-    let mut steps = ReaderSteps::new(alloc);
+    let mut steps = ReaderList::new(alloc);
     steps.push(pointer(alloc, None)?)?;
     steps.push(pointer(alloc, Some(reader_leaves(alloc)?))?)?;
+    let steps = steps.share(alloc)?;
     let copy = steps.copy()?;
     assert!(rt;
         matches!(

@@ -43,7 +43,7 @@ fn order_of(alloc: Global, plan: ReaderPlan) -> Result<String, Fail> {
 fn steps_rise_by_response_key(rt: HostRuntime) -> Result<(), Fail> {
     let alloc = rt.alloc();
     let plan = leaves(alloc, "name age Zone")?;
-    let plan = with(plan, leaf(alloc, "b", "a")?)?;
+    let plan = with(alloc, plan, leaf(alloc, "b", "a")?)?;
     assert_eq!(rt; order_of(alloc, plan)?.as_str(), "Zone age b name ");
     Ok(())
 }
@@ -53,7 +53,7 @@ fn steps_rise_by_response_key(rt: HostRuntime) -> Result<(), Fail> {
 fn guards_are_parted(rt: HostRuntime) -> Result<(), Fail> {
     let alloc = rt.alloc();
     let plan = alone(alloc, of_type(alloc, "User", leaves(alloc, "c a")?)?)?;
-    let plan = with(plan, leaf(alloc, "b", "b")?)?;
+    let plan = with(alloc, plan, leaf(alloc, "b", "b")?)?;
     assert_eq!(rt; order_of(alloc, plan)?.as_str(), "a b c ");
     Ok(())
 }
@@ -65,7 +65,17 @@ fn one_response_key_twice_has_no_order(rt: HostRuntime) -> Result<(), Fail> {
     let plan = leaves(alloc, "a b a")?;
     assert_eq!(rt; order_of(alloc, plan)?.as_str(), "no order");
     let plan = alone(alloc, of_type(alloc, "User", leaves(alloc, "a")?)?)?;
-    let plan = with(plan, of_type(alloc, "Page", leaves(alloc, "a")?)?)?;
+    let plan = with(alloc, plan, of_type(alloc, "Page", leaves(alloc, "a")?)?)?;
+    assert_eq!(rt; order_of(alloc, plan)?.as_str(), "no order");
+    Ok(())
+}
+
+/// A guard right in a guard would be copied to each step behind it.
+#[test]
+fn guards_in_guards_have_no_order(rt: HostRuntime) -> Result<(), Fail> {
+    let alloc = rt.alloc();
+    let inner = alone(alloc, of_type(alloc, "User", leaves(alloc, "a b")?)?)?;
+    let plan = alone(alloc, of_type(alloc, "User", inner)?)?;
     assert_eq!(rt; order_of(alloc, plan)?.as_str(), "no order");
     Ok(())
 }
@@ -89,9 +99,9 @@ fn response_keys_among_the_marks(rt: HostRuntime) -> Result<(), Fail> {
     let plan = alone(alloc, leaf(alloc, "__id", "id")?)?;
     assert_eq!(rt; order_of(alloc, plan)?.as_str(), "__id ");
     let plan = alone(alloc, leaf(alloc, "__id", "id")?)?;
-    let plan = with(plan, spread(alloc, "F", None)?)?;
+    let plan = with(alloc, plan, spread(alloc, "F", None)?)?;
     assert_eq!(rt; order_of(alloc, plan)?.as_str(), "no order");
-    let plan = with(leaves(alloc, "F a")?, spread(alloc, "F", None)?)?;
+    let plan = with(alloc, leaves(alloc, "F a")?, spread(alloc, "F", None)?)?;
     assert!(rt; order_of(alloc, plan)?.as_str() != "no order");
     Ok(())
 }
@@ -100,8 +110,8 @@ fn response_keys_among_the_marks(rt: HostRuntime) -> Result<(), Fail> {
 #[test]
 fn one_fragment_twice_has_no_order(rt: HostRuntime) -> Result<(), Fail> {
     let alloc = rt.alloc();
-    let plan = with(leaves(alloc, "a")?, spread(alloc, "F", None)?)?;
-    let plan = with(plan, spread(alloc, "F", None)?)?;
+    let plan = with(alloc, leaves(alloc, "a")?, spread(alloc, "F", None)?)?;
+    let plan = with(alloc, plan, spread(alloc, "F", None)?)?;
     assert_eq!(rt; order_of(alloc, plan)?.as_str(), "no order");
     Ok(())
 }

@@ -1,29 +1,40 @@
 //! Plans by which the tests read.
 use plan_ir::{
-    Arguments, Conditions, Guard, Ids, NoMemory, ReaderPlan, ReaderStep, ReaderSteps, Words,
+    Arguments, Conditions, Guard, Ids, NoMemory, ReaderList, ReaderPlan, ReaderStep, Words,
 };
 use std::alloc::Global;
 
 /// The plan of these leaves, whose response keys are their names; names are parted by one space.
 pub(crate) fn leaves(alloc: Global, names: &str) -> Result<ReaderPlan, NoMemory> {
-    let mut steps = ReaderSteps::new(alloc);
+    let mut steps = ReaderList::new(alloc);
     for name in names.split(' ') {
         steps.push(leaf(alloc, name, name)?)?;
     }
+    let steps = steps.share(alloc)?;
     Ok(ReaderPlan { steps })
 }
 
 /// The plan with one step more.
-pub(crate) fn with(plan: ReaderPlan, step: ReaderStep) -> Result<ReaderPlan, NoMemory> {
-    let ReaderPlan { mut steps } = plan;
+pub(crate) fn with(
+    alloc: Global,
+    plan: ReaderPlan,
+    step: ReaderStep,
+) -> Result<ReaderPlan, NoMemory> {
+    let mut steps = ReaderList::new(alloc);
+    for step in plan.steps.as_slice() {
+        steps.push(step.copy()?)?;
+    }
     steps.push(step)?;
+    let steps = steps.share(alloc)?;
     Ok(ReaderPlan { steps })
 }
 
 /// The plan of one step.
 pub(crate) fn alone(alloc: Global, step: ReaderStep) -> Result<ReaderPlan, NoMemory> {
-    let steps = ReaderSteps::new(alloc);
-    with(ReaderPlan { steps }, step)
+    let mut steps = ReaderList::new(alloc);
+    steps.push(step)?;
+    let steps = steps.share(alloc)?;
+    Ok(ReaderPlan { steps })
 }
 
 pub(crate) fn leaf(alloc: Global, response: &str, name: &str) -> Result<ReaderStep, NoMemory> {

@@ -97,7 +97,7 @@ fn told(alloc: Global, plan: ReaderPlan, of: &str, id: &str) -> Result<String, F
 fn members_rise(rt: HostRuntime) -> Result<(), Fail> {
     let alloc = rt.alloc();
     let friend = users(alloc, "friend", false, leaves(alloc, "name")?)?;
-    let below = with(leaves(alloc, "name age")?, friend)?;
+    let below = with(alloc, leaves(alloc, "name age")?, friend)?;
     let plan = alone(alloc, users(alloc, "me", false, below)?)?;
     let wanted = r#"{"me":{"age":5,"friend":{"name":"Bo"},"name":"Ann"}} 4 7 client:root"#;
     assert_eq!(rt; told(alloc, plan, "Query", "client:root")?.as_str(), wanted);
@@ -120,10 +120,26 @@ fn lists_have_nulls(rt: HostRuntime) -> Result<(), Fail> {
 fn what_is_missing_is_left_out(rt: HostRuntime) -> Result<(), Fail> {
     let alloc = rt.alloc();
     let plan = alone(alloc, users(alloc, "team", true, leaves(alloc, "age")?)?)?;
-    let plan = with(plan, users(alloc, "lost", false, leaves(alloc, "name")?)?)?;
-    let plan = with(plan, users(alloc, "page", false, leaves(alloc, "name")?)?)?;
-    let plan = with(plan, users(alloc, "gone", false, leaves(alloc, "name")?)?)?;
-    let plan = with(plan, users(alloc, "me", true, leaves(alloc, "name")?)?)?;
+    let plan = with(
+        alloc,
+        plan,
+        users(alloc, "lost", false, leaves(alloc, "name")?)?,
+    )?;
+    let plan = with(
+        alloc,
+        plan,
+        users(alloc, "page", false, leaves(alloc, "name")?)?,
+    )?;
+    let plan = with(
+        alloc,
+        plan,
+        users(alloc, "gone", false, leaves(alloc, "name")?)?,
+    )?;
+    let plan = with(
+        alloc,
+        plan,
+        users(alloc, "me", true, leaves(alloc, "name")?)?,
+    )?;
     let wanted = r#"{"gone":null,"team":[{"age":5},null,{},null]} missing 4 7 8 9 client:root p"#;
     assert_eq!(rt; told(alloc, plan, "Query", "client:root")?.as_str(), wanted);
     Ok(())
@@ -160,9 +176,13 @@ fn records_at_the_top(rt: HostRuntime) -> Result<(), Fail> {
 fn spreads_are_told(rt: HostRuntime) -> Result<(), Fail> {
     let alloc = rt.alloc();
     let plan = alone(alloc, leaf(alloc, "A", "age")?)?;
-    let plan = with(plan, leaf(alloc, "name", "name")?)?;
-    let plan = with(plan, spread(alloc, "G", None)?)?;
-    let plan = with(plan, spread(alloc, "F", Some(leaves(alloc, "age")?))?)?;
+    let plan = with(alloc, plan, leaf(alloc, "name", "name")?)?;
+    let plan = with(alloc, plan, spread(alloc, "G", None)?)?;
+    let plan = with(
+        alloc,
+        plan,
+        spread(alloc, "F", Some(leaves(alloc, "age")?))?,
+    )?;
     let wanted =
         r#"{"A":5,"__fragments":{"F":{"age":5},"G":{}},"__id":"4","__owner":"h","name":"Ann"} 4"#;
     assert_eq!(rt; told(alloc, plan, "User", "4")?.as_str(), wanted);
@@ -174,7 +194,7 @@ fn spreads_are_told(rt: HostRuntime) -> Result<(), Fail> {
 fn steps_of_types(rt: HostRuntime) -> Result<(), Fail> {
     let alloc = rt.alloc();
     let plan = alone(alloc, of_type(alloc, "Page", leaves(alloc, "age")?)?)?;
-    let plan = with(plan, of_type(alloc, "User", leaves(alloc, "name")?)?)?;
+    let plan = with(alloc, plan, of_type(alloc, "User", leaves(alloc, "name")?)?)?;
     assert_eq!(rt;
         told(alloc, plan, "User", "4")?.as_str(),
         r#"{"name":"Ann"} 4"#

@@ -6,7 +6,8 @@ use Rattle.std.specs.Vec.{with_items}
 use Rattle.plan_ir.specs.NormalMeaning.{Plan, collect_plan}
 use Rattle.plan_ir.specs.store_model.Items.{Group, groups_at}
 use Rattle.store_norm.specs.CacheView.{AreRight, IsRight, IsSame, IsTypeAt}
-use Rattle.store_norm.specs.Caching.{Caching, caches, parts_below, parts_of, plans_of}
+use Rattle.store_norm.specs.Caching.{Caching, caches, parts_below, parts_of, plans_of, room}
+use Rattle.store_norm.proofs.CacheRoom.{caches_low}
 use Rattle.store_norm.specs.declared.cache.TypeGroups.{TypeGroups}
 use Rattle.plan_ir.specs.store_record.Keys.{Text}
 
@@ -29,29 +30,25 @@ type_name [] at x name e is = absurd e
 type_name (t ∷ ts) zero x name e is = ap (λ (u : TypeGroups). u.name.now) is ∙ e
 type_name (t ∷ ts) (suc at) x name e is = type_name ts at x name e is
 
-pub right_at : (ps : List Plan) (levels : ℕ) (ts : List TypeGroups) (at : ℕ) (x : TypeGroups) (name : Text) → AreRight ps levels ts → IsTypeAt ts at name → x ≡ get_or ts at x → IsRight ps levels x
-right_at ps levels [] at x name right e is = absurd e
-right_at ps levels (t ∷ ts) zero x name right e is = subst (IsRight ps levels) (sym is) right.0
-right_at ps levels (t ∷ ts) (suc at) x name right e is = right_at ps levels ts at x name right.1 e is
+pub right_at : (ps : List Plan) (ts : List TypeGroups) (at : ℕ) (x : TypeGroups) (name : Text) → AreRight ps ts → IsTypeAt ts at name → x ≡ get_or ts at x → IsRight ps x
+right_at ps [] at x name right e is = absurd e
+right_at ps (t ∷ ts) zero x name right e is = subst (IsRight ps) (sym is) right.0
+right_at ps (t ∷ ts) (suc at) x name right e is = right_at ps ts at x name right.1 e is
 
-pub right_last : (ps : List Plan) (levels : ℕ) (ts : List TypeGroups) (t : TypeGroups) → AreRight ps levels ts → IsRight ps levels t → AreRight ps levels (ts ++ t ∷ [])
-right_last ps levels [] t right last = (last, tt)
-right_last ps levels (u ∷ ts) t right last = (right.0, right_last ps levels ts t right.1 last)
+pub right_last : (ps : List Plan) (ts : List TypeGroups) (t : TypeGroups) → AreRight ps ts → IsRight ps t → AreRight ps (ts ++ t ∷ [])
+right_last ps [] t right last = (last, tt)
+right_last ps (u ∷ ts) t right last = (right.0, right_last ps ts t right.1 last)
 
-pub plans_of-caches : (levels : ℕ) (gs : List (Group Plan)) → plans_of (caches levels gs) ≡ parts_of gs
-plans_of-caches levels [] = refl
-plans_of-caches levels (g ∷ gs) = ap (λ ps. parts_below g ∷ ps) (plans_of-caches levels gs)
-
-fewer_levels : (levels below : ℕ) (gs : List (Group Plan)) → below < levels → AllByRecursion (λ (c : Caching). c.levels < levels) (caches below gs)
-fewer_levels levels below [] fewer = tt
-fewer_levels levels below (g ∷ gs) fewer = (fewer, fewer_levels levels below gs fewer)
+pub plans_of-caches : (gs : List (Group Plan)) → plans_of (caches gs) ≡ parts_of gs
+plans_of-caches [] = refl
+plans_of-caches (g ∷ gs) = ap (λ ps. parts_below g ∷ ps) (plans_of-caches gs)
 
 -- what is made for a type, with nothing below yet
-pub right_made : (ps : List Plan) (levels below : ℕ) (t : TypeGroups) → below < levels → t.groups ≡ groups_at collect_plan t.name.now ps → t.below.items ≡ caches below t.groups → IsRight ps levels t
-right_made ps levels below t fewer groups made = record {
+pub right_made : (ps : List Plan) (t : TypeGroups) → t.groups ≡ groups_at collect_plan t.name.now ps → t.below.items ≡ caches t.groups → IsRight ps t
+right_made ps t groups made = record {
   groups = groups;
-  below = ap plans_of made ∙ plans_of-caches below t.groups;
-  fewer = subst (AllByRecursion (λ (c : Caching). c.levels < levels)) (sym made) (fewer_levels levels below t.groups fewer);
+  below = ap plans_of made ∙ plans_of-caches t.groups;
+  fewer = subst (AllByRecursion (λ (c : Caching). room c.parts < room ps)) (sym (made ∙ ap caches groups)) (caches_low ps t.name.now);
 }
 
 abbrev first_plans : List (List Plan) → List Plan

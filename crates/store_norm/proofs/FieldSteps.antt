@@ -32,9 +32,9 @@ module _ (g h k m : Gathering) (id key : Text) (old : Field) (path : Path) (page
       set ∙ (λ i. with_value (place i) value (whole i)) ∙ gathering_right.set g id key old value path (both pages rest)
 
 -- an object of a type is told by the groups that the cache has for the type
-pub type_told : (ms : J.Members) (b : Below) (qs ps : List Plan) (levels : ℕ) (ts : List TypeGroups) (at : ℕ) (x : TypeGroups) (name made : Text) (path : Path)
-    → AreRight qs levels ts → IsTypeAt ts at name → x ≡ get_or ts at x → qs ≡ ps → object_told ms b x.name.now x.groups made path ≡ object_told ms b name (groups_at collect_plan name ps) made path
-type_told ms b qs ps levels ts at x name made path right place is same =
+pub type_told : (ms : J.Members) (b : Below) (qs ps : List Plan) (ts : List TypeGroups) (at : ℕ) (x : TypeGroups) (name made : Text) (path : Path)
+    → AreRight qs ts → IsTypeAt ts at name → x ≡ get_or ts at x → qs ≡ ps → object_told ms b x.name.now x.groups made path ≡ object_told ms b name (groups_at collect_plan name ps) made path
+type_told ms b qs ps ts at x name made path right place is same =
     let named : x.name.now ≡ name = type_name ts at x name place is in
-    let groups : x.groups ≡ groups_at collect_plan name ps = (right_at qs levels ts at x name right place is).groups ∙ (λ i. groups_at collect_plan (named i) (same i)) in
+    let groups : x.groups ≡ groups_at collect_plan name ps = (right_at qs ts at x name right place is).groups ∙ (λ i. groups_at collect_plan (named i) (same i)) in
     λ i. object_told ms b (named i) (groups i) made path

@@ -1,3 +1,4 @@
+pub mod CacheRoom
 pub mod CacheSteps
 pub mod EachReport
 pub mod FieldSteps

@@ -3,18 +3,18 @@ use Rattle.std.specs.Prelude.{◌≡◌, ◌<◌, ℕ, zero, suc, List, [], ◌�
 use Rattle.std.specs.List.{AllByRecursion}
 use Rattle.plan_ir.specs.NormalMeaning.{Plan, collect_plan}
 use Rattle.plan_ir.specs.store_model.Items.{groups_at}
-use Rattle.store_norm.specs.Caching.{Caching, plans_of, parts_of}
+use Rattle.store_norm.specs.Caching.{Caching, plans_of, parts_of, room}
 use Rattle.store_norm.specs.declared.cache.TypeGroups.{TypeGroups}
 use Rattle.plan_ir.specs.store_record.Keys.{Text}
 
--- the groups of a type are those that the plans ask, and what lies below is for them, in fewer levels
-pub record IsRight (ps : List Plan) (levels : ℕ) (t : TypeGroups) : Type 0 where
+-- the groups of a type are those that the plans ask, and what lies below is for them, and less deep
+pub record IsRight (ps : List Plan) (t : TypeGroups) : Type 0 where
   pub groups : t.groups ≡ groups_at collect_plan t.name.now ps
   pub below : plans_of t.below.items ≡ parts_of t.groups
-  pub fewer : AllByRecursion (λ (c : Caching). c.levels < levels) t.below.items
+  pub fewer : AllByRecursion (λ (c : Caching). room c.parts < room ps) t.below.items
 
-abbrev pub AreRight : List Plan → ℕ → List TypeGroups → Type 0
-AreRight ps levels ts = AllByRecursion (IsRight ps levels) ts
+abbrev pub AreRight : List Plan → List TypeGroups → Type 0
+AreRight ps ts = AllByRecursion (IsRight ps) ts
 
 -- the groups of a type stand at a place
 abbrev pub IsTypeAt : List TypeGroups → ℕ → Text → Type 0

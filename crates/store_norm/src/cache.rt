@@ -4,12 +4,11 @@ use std::collections::BTreeMap;
 use std::marker::Model;
 
 /// The groups that plans ask of objects, made for each type when an object of it is met first. It is
-/// seen as the plans, and the number of levels that may lie below.
+/// seen as the plans.
 #[cycle(cache)]
 #[derive(Drop)]
 pub(crate) struct GroupCache<'p> {
     pub(crate) parts: Vec<PlanAt<'p>>,
-    pub(crate) levels: usize,
     /// Where the groups of a type may stand.
     pub(crate) places: BTreeMap<&'p str, usize>,
     pub(crate) types: Vec<TypeGroups<'p>>,
@@ -34,15 +33,17 @@ impl<'p> Model for GroupCache<'p> {
     ghost use Rattle.std.specs.Prelude.{map};
     ghost use Rattle.plan_groups.specs.FieldView.{plan_at};
 
-    ghost view = { λ c. record { parts = map plan_at c.parts.items; levels = c.levels } };
+    ghost view = { λ c. record { parts = map plan_at c.parts.items } };
 
     ghost use Rattle.store_norm.specs.CacheView.{AreRight};
 
-    ghost invariant = { λ c. AreRight (map plan_at c.parts.items) c.levels c.types.items };
+    ghost invariant = { λ c. AreRight (map plan_at c.parts.items) c.types.items };
 
-    ghost size = { λ c. c.levels };
+    ghost use Rattle.store_norm.specs.Caching.{room};
+
+    ghost size = { λ c. room c.parts };
 
     ghost use Rattle.store_norm.specs.CacheFalls.{cache_falls};
 
-    ghost size_decreases = { λ c right. cache_falls (map plan_at c.parts.items) c.levels c.types.items right };
+    ghost size_decreases = { λ c right. cache_falls (map plan_at c.parts.items) c.types.items right };
 }

@@ -10,13 +10,10 @@ use plan_ir::NoMemory;
 use std::alloc::Global;
 use std::collections::BTreeMap;
 
-/// More levels than any plan has.
-pub(crate) const LEVELS: usize = 1_000_000;
-
 impl<'p> GroupCache<'p> {
     /// What these plans ask; nothing is made yet.
-    fn new(alloc: Global, plans: &[PlanAt<'p>], levels: usize) -> Result<GroupCache<'p>, NoMemory>
-        ensures { IfOk result (λ cache. cache ≡ record { parts = map plan_at plans.now; levels = levels }) }
+    fn new(alloc: Global, plans: &[PlanAt<'p>]) -> Result<GroupCache<'p>, NoMemory>
+        ensures { IfOk result (λ cache. cache ≡ record { parts = map plan_at plans.now }) }
     {
         let mut parts = Vec::with_capacity(alloc, plans.len())?;
         'plans: for plan in plans {
@@ -24,19 +21,17 @@ impl<'p> GroupCache<'p> {
         }
         Ok(GroupCache {
             parts,
-            levels,
             places: BTreeMap::new(alloc),
             types: Vec::new(alloc),
         })
     }
 
     /// No plans, which ask nothing; takes no memory.
-    fn empty(alloc: Global, levels: usize) -> GroupCache<'p>
-        ensures { result ≡ record { parts = []; levels = levels } }
+    fn empty(alloc: Global) -> GroupCache<'p>
+        ensures { result ≡ record { parts = [] } }
     {
         GroupCache {
             parts: Vec::new(alloc),
-            levels,
             places: BTreeMap::new(alloc),
             types: Vec::new(alloc),
         }
@@ -47,30 +42,25 @@ impl<'p> GroupCache<'p> {
 pub(crate) fn caches_below<'p>(
     alloc: Global,
     groups: &[GroupAt<'p>],
-    levels: usize,
 ) -> Result<Vec<GroupCache<'p>>, NoMemory>
-    ensures { IfOk result (λ below. below.items ≡ caches levels groups.now) }
+    ensures { IfOk result (λ below. below.items ≡ caches groups.now) }
 {
     let mut below = Vec::with_capacity(alloc, groups.len())?;
     'groups: for group in groups {
-        below.push(cache_below(alloc, group, levels)?)?;
+        below.push(cache_below(alloc, group)?)?;
     }
     Ok(below)
 }
 
 /// What lies below a group; nothing is made yet. Where no objects stand under its fields nothing is ever
 /// asked of it, and it takes no memory.
-fn cache_below<'p>(
-    alloc: Global,
-    group: &GroupAt<'p>,
-    levels: usize,
-) -> Result<GroupCache<'p>, NoMemory>
-    ensures { IfOk result (λ cache. cache ≡ record { parts = parts_below group.now; levels = levels }) }
+fn cache_below<'p>(alloc: Global, group: &GroupAt<'p>) -> Result<GroupCache<'p>, NoMemory>
+    ensures { IfOk result (λ cache. cache ≡ record { parts = parts_below group.now }) }
 {
     if has_objects(&group.form()) {
-        return GroupCache::new(alloc, group.parts(), levels);
+        return GroupCache::new(alloc, group.parts());
     }
-    Ok(GroupCache::empty(alloc, levels))
+    Ok(GroupCache::empty(alloc))
 }
 
 /// Whether objects, or a list of them, stand under a field; takes no memory.
@@ -90,19 +80,18 @@ fn has_objects(form: &FormAt<'_>) -> bool
 pub(crate) fn place_of<'p>(
     alloc: Global,
     plans: &[PlanAt<'p>],
-    levels: usize,
     places: &mut BTreeMap<&'p str, usize>,
     types: &mut Vec<TypeGroups<'p>>,
     name: &'p str,
 ) -> Result<usize, NoMemory>
-    requires { AreRight (map plan_at plans.now) levels types.old.items }
-    ensures right { AreRight (map plan_at plans.now) levels types.new.items }
+    requires { AreRight (map plan_at plans.now) types.old.items }
+    ensures right { AreRight (map plan_at plans.now) types.new.items }
     ensures place { IfOk result (λ at. IsTypeAt types.new.items at name.now) }
 {
     if let Some(place) = known_place(places, types, name) {
         return Ok(place);
     }
-    let made = groups_of_type(alloc, plans, levels, name)?;
+    let made = groups_of_type(alloc, plans, name)?;
     let place = types.len();
     drop(places.insert(name, place)?);
     types.push(made)?;
@@ -145,17 +134,13 @@ fn is_at(types: &[TypeGroups<'_>], place: usize, name: &str) -> bool
 fn groups_of_type<'p>(
     alloc: Global,
     plans: &[PlanAt<'p>],
-    levels: usize,
     name: &'p str,
 ) -> Result<TypeGroups<'p>, NoMemory>
-    ensures right { IfOk result (λ made. IsRight (map plan_at plans.now) levels made) }
+    ensures right { IfOk result (λ made. IsRight (map plan_at plans.now) made) }
     ensures named { IfOk result (λ made. made.name.now ≡ name.now) }
 {
-    let Some(levels) = levels.checked_sub(1) else {
-        return Err(NoMemory);
-    };
     let groups = Groups::of(alloc, name, plans)?;
-    let below = caches_below(alloc, groups.as_slice(), levels)?;
+    let below = caches_below(alloc, groups.as_slice())?;
     Ok(TypeGroups {
         name,
         groups,

@@ -9,7 +9,7 @@ ghost use Rattle.plan_ir.specs.store_model.Verdicts.{content};
 ghost use Rattle.store_report.specs.Gathering.{gathered_onto};
 ghost use Rattle.store_report.specs.Refusals.{IsRefusedBy};
 
-use crate::caching::{LEVELS, caches_below};
+use crate::caching::caches_below;
 use crate::members::member;
 use crate::taken::taken;
 use crate::walk::say_groups;
@@ -112,7 +112,7 @@ fn say_root<'r>(
 {
     let parts = [part];
     let groups = Groups::of(alloc, root, &parts)?;
-    let mut below = caches_below(alloc, groups.as_slice(), LEVELS)?;
+    let mut below = caches_below(alloc, groups.as_slice())?;
     let id = SharedText::new(alloc, Words::new(alloc, "client:root")?)?;
     let path = Path::new();
     gathered.name(&id, Words::new(alloc, "__Root")?, &path)?;

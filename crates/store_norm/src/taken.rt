@@ -8,7 +8,7 @@ ghost use Rattle.plan_ir.specs.store_model.Says as says;
 ghost use Rattle.plan_ir.specs.store_model.Verdicts.{content};
 ghost use Rattle.store_report.specs.ObjectRows.{Adds, IsUntaken};
 
-use crate::caching::{LEVELS, caches_below};
+use crate::caching::caches_below;
 use crate::members::member;
 use crate::taking::take_groups;
 use plan_groups::{Groups, PlanAt};
@@ -90,7 +90,7 @@ fn take_root<'r>(
 {
     let parts = [part];
     let groups = Groups::of(alloc, root, &parts)?;
-    let mut below = caches_below(alloc, groups.as_slice(), LEVELS)?;
+    let mut below = caches_below(alloc, groups.as_slice())?;
     let id = SharedText::new(alloc, Words::new(alloc, "client:root")?)?;
     let trail = Trail::new();
     let mut fields = Vec::with_capacity(alloc, groups.as_slice().len())?;

@@ -356,7 +356,6 @@ fn take_type<'r>(
     let at = place_of(
         alloc,
         &below.parts,
-        below.levels,
         &mut below.places,
         &mut below.types,
         name,

@@ -332,7 +332,6 @@ fn say_type<'r>(
     let at = place_of(
         alloc,
         &below.parts,
-        below.levels,
         &mut below.places,
         &mut below.types,
         name,

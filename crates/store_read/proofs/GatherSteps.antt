@@ -27,7 +27,7 @@ use Rattle.store_read.specs.declared.gathered.Fields.{Fields}
 -- ---- depths
 
 pub guarded_deep : (x : ReaderStep) (g : Guard) (child : ReaderPlan) → x ≡ N.Guarded g child → depth child.steps < depth (step_of x)
-guarded_deep x g child e = let deep : depth (step_of x) ≡ depth child.steps + 1 = ap (λ (y : ReaderStep). depth (step_of y)) e ∙ omega arith in omega (arith, deep)
+guarded_deep x g child e = let deep : depth (step_of x) ≡ depth child.steps + 2 = ap (λ (y : ReaderStep). depth (step_of y)) e ∙ omega arith in omega (arith, deep)
 
 -- ---- items
 

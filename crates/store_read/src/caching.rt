@@ -1,5 +1,5 @@
 //! Making what plans ask of records, once for each type.
-ghost use Rattle.std.specs.Prelude.{◌≡◌, ◌++◌, map, IfOk, OnOk};
+ghost use Rattle.std.specs.Prelude.{◌≡◌, ◌<◌, ◌++◌, map, IfOk, OnOk};
 ghost use Rattle.store_read.specs.CacheView.{AreRight, IsPlaceOf, IsRight, IsTypeAt, group_view, pointer_view};
 ghost use Rattle.store_read.specs.Caching.{read_group, read_pointer};
 ghost use Rattle.store_read.specs.FieldView.{part_at, spread_at, IsKept};
@@ -39,7 +39,8 @@ pub(crate) fn place_of<'p>(
     types: &mut Vec<TypeItems<'p>>,
     name: &'p str,
 ) -> Result<usize, NoMemory>
-    requires { AreRight (map part_at parts.now) levels types.old.items }
+    requires right { AreRight (map part_at parts.now) levels types.old.items }
+    requires some { 0 < levels }
     ensures right { AreRight (map part_at parts.now) levels types.new.items }
     ensures place { IfOk result (λ at. IsTypeAt types.new.items at name.now) }
 {
@@ -74,12 +75,11 @@ fn items_of_type<'p>(
     levels: usize,
     name: &'p str,
 ) -> Result<TypeItems<'p>, NoMemory>
+    requires { 0 < levels }
     ensures right { IfOk result (λ made. IsRight (map part_at parts.now) levels made) }
     ensures named { IfOk result (λ made. made.name.now ≡ name.now) }
 {
-    let Some(levels) = levels.checked_sub(1) else {
-        return Err(NoMemory);
-    };
+    let levels = levels - 1;
     let gathered = gather(alloc, name, parts)?;
     let groups = groups_made(alloc, &gathered.groups, levels)?;
     let pointers = pointers_made(alloc, &gathered.spreads, levels)?;

@@ -10,7 +10,6 @@ mod caching;
 pub mod field;
 mod gathered;
 pub mod laws;
-pub mod levels;
 mod members;
 mod met;
 pub mod reading;

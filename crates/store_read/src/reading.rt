@@ -6,7 +6,6 @@ ghost use Rattle.store_read.specs.Reading.{reading_of, slots};
 
 use crate::cache::Cache;
 use crate::field::PartAt;
-use crate::levels::{one_more, records_below};
 use crate::members::or_null;
 use crate::met::Met;
 use crate::snapshot::Snapshot;
@@ -33,7 +32,7 @@ pub fn read<S: RecordSource>(
     ensures looks { S.Count.looks steps.new ≤ S.Count.looks steps.old + standings (plan_reads (type_of_record env.now.root) owner.now (slots (S.records source.now)) env.now.values plan.now.steps types.now id.now) }
     ensures applies { S.Count.applies steps.new ≡ S.Count.applies steps.old }
 {
-    let levels = one_more(records_below(&plan.steps)?)?;
+    let levels = plan.steps.levels();
     let store = Store {
         source,
         root: env.root.as_str(),

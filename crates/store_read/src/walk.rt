@@ -1,5 +1,5 @@
 //! The walk along records.
-ghost use Rattle.std.specs.Prelude.{◌≡◌, ◌+◌, ◌-◌, ◌≤◌, ◌++◌, None, Some, length, map, option_map, option_copied, IfOk, OnOk};
+ghost use Rattle.std.specs.Prelude.{◌≡◌, ◌+◌, ◌-◌, ◌<◌, ◌≤◌, ◌++◌, None, Some, length, map, option_map, option_copied, IfOk, OnOk};
 ghost use Rattle.plan_ir.specs.gql_plain.Shown.{plain_trees, shown_members, tree_of};
 ghost use Rattle.plan_groups.specs.FieldView.{form_at};
 ghost use Rattle.plan_ir.specs.store_model.Walks as walks;
@@ -37,10 +37,10 @@ pub(crate) fn read_record<'p, S: RecordSource>(
     ensures applies { S.Count.applies steps.new ≡ S.Count.applies steps.old }
     ensures cache { cache.new ≡ cache.old }
 {
-    if cache.levels == 0 {
-        return Err(NoMemory);
-    }
     met.stand(id)?;
+    if cache.levels == 0 {
+        return lost(met);
+    }
     let source = store.source;
     match source.get(id.as_str(), steps) {
         Some(Slot::Alive(shared)) => {
@@ -76,6 +76,7 @@ fn read_live<'p, S: RecordSource>(
     met: &mut Met,
     steps: &mut S::Count,
 ) -> Result<Option<Plain>, NoMemory>
+    requires { 0 < cache.old.levels }
     ensures shown { IfOk result (λ shown. option_map tree_of shown ≡ (walked.live_read (S.records store.now.source.now) store.now.root.now store.now.owner.now cache.old types.now id.now row.now).0) }
     ensures met { OnOk result (met.new ≡ met_onto met.old (walked.live_read (S.records store.now.source.now) store.now.root.now store.now.owner.now cache.old types.now id.now row.now).1) }
     ensures looks { S.Count.looks steps.new ≤ S.Count.looks steps.old + length (walked.live_read (S.records store.now.source.now) store.now.root.now store.now.owner.now cache.old types.now id.now row.now).1.seen }

@@ -8,6 +8,5 @@ pub mod Sets
 pub mod PutSteps
 pub mod Reaching
 pub mod TableSteps
-pub mod LevelSteps
 pub mod KeptSteps
 pub mod MarkSteps

@@ -6,6 +6,8 @@ use Rattle.plan_ir.specs.gql_ast.Value.{Val}
 use Rattle.plan_ir.specs.gql_plain.declared.ids.Conn.{Conn}
 use Rattle.plan_ir.specs.Normal.{Normal, depth, done, guarded}
 use Rattle.plan_ir.specs.NormalMeaning.{Plan, ask_step, below_step, collect_steps, guard_passes, object_form, type_passes, typename_ask}
+use Rattle.plan_ir.proofs.NormalLeadLaws.{again_at, lead_at, marks_counted}
+use Rattle.plan_ir.specs.NormalLeads.{AreAgain, lead_of, leads_of}
 use Rattle.plan_ir.specs.NormalView.{step_before, step_of, steps_of}
 use Rattle.plan_ir.specs.declared.guard.Guard.{Guard}
 use Rattle.plan_ir.specs.declared.normal.NormalPlan.{NormalPlan}
@@ -17,7 +19,7 @@ use Rattle.plan_ir.specs.store_model.Reaches.{types_of}
 use Rattle.plan_ir.specs.store_record.Keys.{Text}
 use Rattle.store_retain.proofs.Follow.{drop_at}
 use Rattle.store_retain.proofs.Reaching.{zip_append}
-use Rattle.store_retain.specs.Stands.{Adds, Begins, IsAsked, IsWayOf, StandsFor, asked_by}
+use Rattle.store_retain.specs.Stands.{Adds, Begins, IsAsked, IsLead, IsWayOf, StandsFor, asked_by}
 use Rattle.store_retain.specs.Ways.{Parts, Way, is_on, ways_in, ways_on}
 
 -- ---- lists that begin with others
@@ -136,7 +138,7 @@ form_types false b = refl
 pub object_deep : (x : NormalStep) (r n : Text) (xs : List (Text × Val)) (m : Bool) (ts is : List Text) (o : Bool) (c : Option Conn) (child : NormalPlan) → x ≡ N.Object r n xs m ts is o c child
     → depth child.steps < depth (step_of x)
 object_deep x r n xs m ts is o c child e =
-    let deep : depth (step_of x) ≡ depth child.steps + 1 = ap (λ (y : NormalStep). depth (step_of y)) e ∙ omega arith in
+    let deep : depth (step_of x) ≡ depth child.steps + 2 = ap (λ (y : NormalStep). depth (step_of y)) e ∙ omega arith in
     omega (arith, deep)
 
 module _ (ps : Parts) (old new : List Way) (on : Option (List Text)) (env : Values) (x : NormalStep) (w : Way) (nothing : Begins ([] ∷ []) ps) (pushed : new ≡ old ++ w ∷ []) where
@@ -243,3 +245,50 @@ pub steps_end : (ps : Parts) (on : Option (List Text)) (env : Values) (xs : List
     → Leaves ps on env start now (steps_of (drop i xs)) whole → Adds ps start now (asked_by on env whole)
 steps_end ps on env xs i start now whole h left =
     left ps now (begins_self ps) (adds_none ps now (asked_by on env (steps_of (drop i xs))) (λ T. ap (λ (ys : List NormalStep). asked_by on env (steps_of ys) T) (drop_none xs i h) ∙ cond_nothing (is_on on T)))
+
+-- ---- what is known of what steps lead to
+
+pub lead_later : (first second : Parts) (env : Values) (k : Option ℕ) (lead : Option Normal) → Begins first second → IsLead first env k lead → IsLead second env k lead
+lead_later first second env None lead grows h = tt
+lead_later first second env (Some k) lead grows h = λ later begins n steps e. h later (begins_then first second later grows begins) n steps e
+
+pub lead_of_part : (ps : Parts) (env : Values) (k : ℕ) (child : Normal) (lead : Option Normal) → lead ≡ Some child → ((later : Parts) → Begins ps later → (n : ℕ) → StandsFor later n k (record { environment = env; steps = child }))
+    → IsLead ps env (Some k) lead
+lead_of_part ps env k child lead is stands = λ later begins n steps e.
+    let same : child ≡ steps = some_same child steps (sym is ∙ e) in
+    subst (λ (s : Normal). StandsFor later n k (record { environment = env; steps = s })) same (stands later begins n)
+  where
+    some_same : (a b : Normal) → Some a ≡ Some b → a ≡ b
+    some_same a b e = cc e
+
+lead_again : (ps : Parts) (env : Values) (b : Bool) (last : Option ℕ) (before here : Option Normal) → (b ≡ true → before ≡ here) → IsLead ps env last before → IsLead ps env (cond b last None) here
+lead_again ps env true last before here same h = subst (λ q. IsLead ps env last q) (same refl) h
+lead_again ps env false last before here same h = tt
+
+bit_at : (bs : List Bool) (i : ℕ) (b : Bool) → i < length bs → b ≡ get_or bs i b → b ≡ true → get_or bs i false ≡ true
+bit_at [] i b h is e = absurd (omega (arith, h))
+bit_at (d ∷ bs) zero b h is e = sym is ∙ e
+bit_at (d ∷ bs) (suc i) b h is e = bit_at bs i b (omega (arith, h)) is e
+
+lead_here : (xs : List NormalStep) (whole : Normal) (i : ℕ) (x : NormalStep) → i < length xs → x ≡ get_or xs i x → steps_of xs ≡ whole → get_or (leads_of whole) i None ≡ lead_of (step_of x)
+lead_here xs whole i x h is e =
+    ap (λ (s : Normal). get_or (leads_of s) i None) (sym e) ∙ lead_at xs i x h ∙ sym (ap (λ (y : NormalStep). lead_of (step_of y)) is)
+
+-- what is known of the step at a place, where it leads to the same as the one before
+pub known_here : (ps : Parts) (env : Values) (xs : List NormalStep) (bs : List Bool) (whole : Normal) (i : ℕ) (x : NormalStep) (b : Bool) (last k : Option ℕ) → i < length xs → x ≡ get_or xs i x → steps_of xs ≡ whole
+    → AreAgain None bs (leads_of whole) → b ≡ get_or bs i b → IsLead ps env last (get_or (None ∷ leads_of whole) i None) → k ≡ cond b last None → IsLead ps env k (lead_of (step_of x))
+known_here ps env xs bs whole i x b last k h is e marks bit known made =
+    let within : i < length bs = omega (arith, h, marks_counted bs xs whole marks e) in
+    let same : b ≡ true → get_or (None ∷ leads_of whole) i None ≡ lead_of (step_of x) =
+    λ yes. again_at None bs (leads_of whole) i marks (bit_at bs i b within bit yes) ∙ lead_here xs whole i x h is e in
+    subst (λ q. IsLead ps env q (lead_of (step_of x))) (sym made) (lead_again ps env b last (get_or (None ∷ leads_of whole) i None) (lead_of (step_of x)) same known)
+
+pub known_next : (ps : Parts) (env : Values) (xs : List NormalStep) (whole : Normal) (i : ℕ) (x : NormalStep) (k : Option ℕ) → i < length xs → x ≡ get_or xs i x → steps_of xs ≡ whole
+    → IsLead ps env k (lead_of (step_of x)) → IsLead ps env k (get_or (None ∷ leads_of whole) (i + 1) None)
+known_next ps env xs whole i x k h is e known =
+    let one : suc i ≡ i + 1 = omega arith in
+    subst (λ j. IsLead ps env k (get_or (None ∷ leads_of whole) j None)) one (subst (λ q. IsLead ps env k q) (sym (lead_here xs whole i x h is e)) known)
+
+-- a step alone
+pub lead_alone : (xs : List NormalStep) (x : NormalStep) (whole : Normal) → xs ≡ x ∷ [] → steps_of xs ≡ whole → step_of x ≡ whole
+lead_alone xs x whole one e = sym (ap steps_of one) ∙ e

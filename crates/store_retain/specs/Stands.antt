@@ -1,6 +1,6 @@
 -- When a part stands for a plan: on every object type it has the ways that the plan asks, and what stands below them stands for
 -- what stands below there.
-use Rattle.std.specs.Prelude.{◌≡◌, ℕ, zero, suc, List, [], ◌∷◌, ◌++◌, cond, Option}
+use Rattle.std.specs.Prelude.{◌≡◌, ℕ, zero, suc, List, [], ◌∷◌, ◌++◌, cond, Option, None, Some}
 use Rattle.std.specs.List.{AllZip}
 use Rattle.plan_ir.specs.Normal.{Normal}
 use Rattle.plan_ir.specs.NormalMeaning.{Plan, collect_plan, collect_steps}
@@ -40,3 +40,8 @@ Adds ps old new asks =
 -- what steps ask of objects of these types
 abbrev pub asked_by : Option (List Text) → Values → Normal → Text → List (Asked Plan)
 asked_by on env steps T = cond (is_on on T) (asked_of (collect_steps env T steps)) []
+
+-- a number that is known is that of a part which stands for what is led to, however many parts are put later
+abbrev pub IsLead : Parts → Values → Option ℕ → Option Normal → Type 0
+IsLead ps env None lead = Unit {0}
+IsLead ps env (Some k) lead = (later : Parts) → Begins ps later → (n : ℕ) (steps : Normal) → lead ≡ Some steps → StandsFor later n k (record { environment = env; steps = steps })

@@ -8,7 +8,6 @@
 
 mod found;
 pub mod held;
-mod levels;
 mod mark;
 mod paths;
 pub mod retained;

@@ -7,7 +7,6 @@ ghost use Rattle.store_retain.specs.Steps.{slots_of};
 
 use crate::found::Found;
 use crate::held::Held;
-use crate::levels::{one_more, records_below};
 use crate::table::Table;
 use crate::walk::{Store, walk};
 use circular_buffer::HeapCircularBuffer;
@@ -63,7 +62,7 @@ fn mark_held<'s, S: RecordSource>(
 {
     let mut table = Table::new(alloc)?;
     let number = table.put_plan(alloc, &held.env, &held.normal.steps)?;
-    let rounds = one_more(records_below(&held.normal.steps)?)?;
+    let rounds = held.normal.steps.levels();
     let root = held.env.root.as_str();
     let types = one_name(alloc, root)?;
     let store = Store { source, root };

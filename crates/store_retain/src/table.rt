@@ -1,15 +1,16 @@
 //! The parts of a plan in the environment of its operation, each by its number.
-ghost use Rattle.std.specs.Prelude.{◌≡◌, ◌&&◌, ◌||◌, ℕ, [], ◌∷◌, map, bytes_eq, None, option_map, IfOk, OnOk};
+ghost use Rattle.std.specs.Prelude.{◌≡◌, ◌&&◌, ◌||◌, ℕ, [], ◌∷◌, cond, map, bytes_eq, None, Some, option_map, IfOk, OnOk};
 ghost use Rattle.plan_ir.specs.gql_plain.Order.{has_text};
 ghost use Rattle.plan_ir.specs.Normal.{done, guarded};
 ghost use Rattle.plan_ir.specs.NormalMeaning.{ask_step, connection_of_step, guard_passes as passes, type_passes, typename_ask};
+ghost use Rattle.plan_ir.specs.NormalLeads.{lead_of};
 ghost use Rattle.plan_ir.specs.NormalView.{step_of};
 ghost use Rattle.plan_ir.specs.store_model.Items as items;
 ghost use Rattle.plan_ir.specs.store_model.Items.{handle_of, key_of};
 ghost use Rattle.plan_ir.specs.store_record.Keys as keys;
 ghost use Rattle.plan_ir.specs.store_record.Keys.{Text};
 ghost use Rattle.store_retain.specs.RoadView.{table_of};
-ghost use Rattle.store_retain.specs.Stands.{Adds, Begins, StandsFor, asked_by};
+ghost use Rattle.store_retain.specs.Stands.{Adds, Begins, IsLead, StandsFor, asked_by};
 ghost use Rattle.store_retain.specs.TrailView.{way_of};
 ghost use Rattle.store_retain.specs.Ways.{Parts, is_on};
 
@@ -57,7 +58,29 @@ impl Table {
         Ok(number)
     }
 
-    /// Puts the trails of steps, which are taken for objects of these types.
+    /// The number of the part of what stands below a field: the one that is known, else that of its steps,
+    /// which are put.
+    #[cycle(table)]
+    fn put_below(
+        &mut self,
+        alloc: Global,
+        env: &Env,
+        known: Option<usize>,
+        steps: &NormalSteps,
+    ) -> Result<usize, NoMemory>
+        requires begun { Begins ([] ∷ []) (table_of self.old.parts.items) }
+        requires known { IsLead (table_of self.old.parts.items) env.now.values known (Some steps.now) }
+        ensures grows { OnOk result (Begins (table_of self.old.parts.items) (table_of self.new.parts.items)) }
+        ensures stands { IfOk result (λ number. (later : Parts) → Begins (table_of self.new.parts.items) later → (n : ℕ) → StandsFor later n number (record { environment = env.now.values; steps = steps.now })) }
+    {
+        match known {
+            Some(number) => Ok(number),
+            None => self.put_plan(alloc, env, steps),
+        }
+    }
+
+    /// Puts the trails of steps, which are taken for objects of these types. What a step leads to as the
+    /// one before it does is put once for both.
     #[cycle(table)]
     fn put_steps(
         &mut self,
@@ -71,13 +94,18 @@ impl Table {
         ensures grows { OnOk result (Begins (table_of self.old.parts.items) (table_of self.new.parts.items)) }
         ensures adds { OnOk result (Adds (table_of self.new.parts.items) (map way_of trails.old.items) (map way_of trails.new.items) (asked_by on.now env.now.values steps.now)) }
     {
-        'steps: for step in steps.as_slice() {
-            self.put_step(alloc, env, on, step, trails)?;
+        let items = steps.as_slice();
+        let again = steps.again();
+        let mut last = None;
+        'steps: for (at, step) in items.iter().enumerate() {
+            let known = known_again(again[at], last);
+            last = self.put_step(alloc, env, on, step, known, trails)?;
         }
         Ok(())
     }
 
-    /// Puts the trail of a step, or the trails of those behind a guard that may let them.
+    /// Puts the trail of a step, or the trails of those behind a guard that may let them. Gives the number
+    /// of the part that it leads to, where that is put; it may be known before.
     #[cycle(table)]
     fn put_step(
         &mut self,
@@ -85,17 +113,20 @@ impl Table {
         env: &Env,
         on: &Option<Ids>,
         step: &NormalStep,
+        known: Option<usize>,
         trails: &mut Vec<Trail>,
-    ) -> Result<(), NoMemory>
-        requires { Begins ([] ∷ []) (table_of self.old.parts.items) }
+    ) -> Result<Option<usize>, NoMemory>
+        requires begun { Begins ([] ∷ []) (table_of self.old.parts.items) }
+        requires known { IsLead (table_of self.old.parts.items) env.now.values known (lead_of (step_of step.now)) }
         ensures grows { OnOk result (Begins (table_of self.old.parts.items) (table_of self.new.parts.items)) }
         ensures adds { OnOk result (Adds (table_of self.new.parts.items) (map way_of trails.old.items) (map way_of trails.new.items) (asked_by on.now env.now.values (step_of step.now))) }
+        ensures lead { IfOk result (λ number. IsLead (table_of self.new.parts.items) env.now.values number (lead_of (step_of step.now))) }
     {
         match step {
             NormalStep::Typename { response } => {
                 let trail = typename_trail(alloc, on, response)?;
                 trails.push(trail)?;
-                Ok(())
+                Ok(None)
             }
             NormalStep::Leaf {
                 response,
@@ -107,7 +138,7 @@ impl Table {
                     alloc, env, on, response, name, arguments, &None, types, 0,
                 )?;
                 trails.push(trail)?;
-                Ok(())
+                Ok(None)
             }
             NormalStep::Object {
                 response,
@@ -118,16 +149,16 @@ impl Table {
                 child,
                 ..
             } => {
-                let below = self.put_plan(alloc, env, &child.steps)?;
+                let below = self.put_below(alloc, env, known, &child.steps)?;
                 let types = types.copy()?;
                 let trail = field_trail(
                     alloc, env, on, response, name, arguments, connection, types, below,
                 )?;
                 trails.push(trail)?;
-                Ok(())
+                Ok(Some(below))
             }
             NormalStep::Guarded { guard, child } => {
-                self.put_guarded(alloc, env, on, guard, &child.steps, trails)
+                self.put_guarded(alloc, env, on, guard, &child.steps, known, trails)
             }
         }
     }
@@ -141,19 +172,58 @@ impl Table {
         on: &Option<Ids>,
         guard: &Guard,
         child: &NormalSteps,
+        known: Option<usize>,
         trails: &mut Vec<Trail>,
-    ) -> Result<(), NoMemory>
-        requires { Begins ([] ∷ []) (table_of self.old.parts.items) }
+    ) -> Result<Option<usize>, NoMemory>
+        requires begun { Begins ([] ∷ []) (table_of self.old.parts.items) }
+        requires known { IsLead (table_of self.old.parts.items) env.now.values known (lead_of child.now) }
         ensures grows { OnOk result (Begins (table_of self.old.parts.items) (table_of self.new.parts.items)) }
         ensures adds { OnOk result (Adds (table_of self.new.parts.items) (map way_of trails.old.items) (map way_of trails.new.items) (asked_by on.now env.now.values (guarded guard.now child.now done))) }
+        ensures lead { IfOk result (λ number. IsLead (table_of self.new.parts.items) env.now.values number (lead_of child.now)) }
     {
         let may_pass = lets_any(alloc, env, guard)?;
         if !may_pass {
-            return Ok(());
+            return Ok(known);
         }
         let narrowed = both(alloc, on, &guard.types)?;
-        self.put_steps(alloc, env, &narrowed, child, trails)
+        self.put_let(alloc, env, &narrowed, child, known, trails)
     }
+
+    /// Puts the trails of steps that a guard lets.
+    #[cycle(table)]
+    fn put_let(
+        &mut self,
+        alloc: Global,
+        env: &Env,
+        on: &Option<Ids>,
+        steps: &NormalSteps,
+        known: Option<usize>,
+        trails: &mut Vec<Trail>,
+    ) -> Result<Option<usize>, NoMemory>
+        requires begun { Begins ([] ∷ []) (table_of self.old.parts.items) }
+        requires known { IsLead (table_of self.old.parts.items) env.now.values known (lead_of steps.now) }
+        ensures grows { OnOk result (Begins (table_of self.old.parts.items) (table_of self.new.parts.items)) }
+        ensures adds { OnOk result (Adds (table_of self.new.parts.items) (map way_of trails.old.items) (map way_of trails.new.items) (asked_by on.now env.now.values steps.now)) }
+        ensures lead { IfOk result (λ number. IsLead (table_of self.new.parts.items) env.now.values number (lead_of steps.now)) }
+    {
+        match steps.as_slice() {
+            [step] => self.put_step(alloc, env, on, step, known, trails),
+            _ => {
+                self.put_steps(alloc, env, on, steps, trails)?;
+                Ok(None)
+            }
+        }
+    }
+}
+
+/// The number that is known of the step before, where this one leads to the same.
+fn known_again(again: bool, last: Option<usize>) -> Option<usize>
+    ensures { result ≡ cond again last None }
+{
+    if again {
+        return last;
+    }
+    None
 }
 
 /// The trail of the name of the type of the record.

@@ -36,7 +36,7 @@ pub object_deep : (x : ReaderStep) (r n : Text) (xs : List (Text × Val)) (m : B
     → x ≡ N.Object r n xs m ts is o c child → p ≡ record { environment = env; steps = child.steps } → depth p.steps < depth (step_of x)
 object_deep x r n xs m ts is o c child p env same part =
     let low : depth p.steps ≡ depth child.steps = ap (λ (q : ReaderPart). depth q.steps) part in
-    let more : depth (step_of x) ≡ depth child.steps + 1 = ap (λ (y : ReaderStep). depth (step_of y)) same ∙ omega arith in
+    let more : depth (step_of x) ≡ depth child.steps + 2 = ap (λ (y : ReaderStep). depth (step_of y)) same ∙ omega arith in
     omega (arith, low, more)
 
 pointer_low : (f : Text) (xs : List (Text × Val)) (inline : Option ReaderPlan) (env : Values) → depth (pointer_of env f xs inline).body.steps < depth (step_of (N.Pointer f xs inline))

@@ -53,10 +53,10 @@ pub(crate) fn show_record<'p, S: RecordSource>(
     ensures looks { S.Count.looks steps.new ≤ S.Count.looks steps.old + length (below (S.records store.now.source.now) store.now.root.now store.now.owner.now levels types.now (part_at part.entry ∷ []) id.now).1.seen }
     ensures applies { S.Count.applies steps.new ≡ S.Count.applies steps.old }
 {
-    let Some(levels) = levels.checked_sub(1) else {
-        return Err(NoMemory);
-    };
     met.stand(id)?;
+    let Some(levels) = levels.checked_sub(1) else {
+        return lost(lead, met, out);
+    };
     let source = store.source;
     match source.get(id, steps) {
         Some(Slot::Alive(shared)) => {

@@ -13,7 +13,6 @@ use json::Writer;
 use plan_ir::{Env, Id, Ids, NoMemory, ReaderPlan, Words};
 use std::alloc::Global;
 use store_read::field::PartAt;
-use store_read::levels::{one_more, records_below};
 use store_read::store::Store;
 use store_read::{RecordSource, sorted_texts};
 
@@ -48,7 +47,7 @@ pub fn show<'p, S: RecordSource>(
     ensures looks { S.Count.looks steps.new ≤ S.Count.looks steps.old + standings (plan_reads (type_of_record env.now.root) owner.now (slots (S.records source.now)) env.now.values plan.now.steps types.now id.now) }
     ensures applies { S.Count.applies steps.new ≡ S.Count.applies steps.old }
 {
-    let levels = one_more(records_below(&plan.steps)?)?;
+    let levels = plan.steps.levels();
     let store = Store {
         source,
         root: env.root.as_str(),

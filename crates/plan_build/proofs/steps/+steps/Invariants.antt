@@ -24,14 +24,8 @@ decreases-put_field l = 16 * set_depth l.field.now.selections.now + 9
 abbrev pub decreases-put_field_steps : goal.decreases-put_field_steps
 decreases-put_field_steps l = 16 * set_depth l.field.now.selections.now + 8
 
-abbrev pub decreases-put_classes : goal.decreases-put_classes
-decreases-put_classes l = 16 * set_depth l.field.now.selections.now + 7
-
-abbrev pub decreases-put_class : goal.decreases-put_class
-decreases-put_class l = 16 * set_depth l.field.now.selections.now + 5
-
-abbrev pub decreases-put_target : goal.decreases-put_target
-decreases-put_target l = 16 * set_depth l.field.now.selections.now + 4
+abbrev pub decreases-make_child : goal.decreases-make_child
+decreases-make_child l = 16 * set_depth l.field.now.selections.now + 3
 
 abbrev pub decreases-put_inline : goal.decreases-put_inline
 decreases-put_inline l = 16 * set_depth l.selections.now + 9
@@ -48,9 +42,3 @@ invariant-put_nodes-nodes l =
     × (normal_append l.steps (steps_of l.schema (types_of l.schema l.around) (nodes_of (drop l.node-index l.node-items))) ≡ normal_append l.initial.steps (steps_of l.schema (types_of l.schema l.around) l.nodes))
     × IsRight l.schema l.kept
     × IsOfComposite l.schema l.around
-
-abbrev pub invariant-put_classes-classes : goal.invariant-put_classes-classes
-invariant-put_classes-classes l =
-    (normal_append l.steps (guarded_classes (target_step l.schema (field_view l.field) (λ us. steps_of l.schema us l.field.selections.now)) (map class_view (drop l.class-index l.classes)))
-    ≡ normal_append l.initial.steps (guarded_classes (target_step l.schema (field_view l.field) (λ us. steps_of l.schema us l.field.selections.now)) (map class_view l.classes)))
-    × IsRight l.schema l.kept

@@ -1,14 +1,27 @@
 -- One more selection, and all of them; a spread that may be entered, or may not; what stands in the place of a spread.
-use Rattle.std.proofs.Common.{◌≡◌, ◌-◌, get_or, Some, ap, sym, ◌∙◌, arith}
+use Rattle.std.proofs.Common.{◌≡◌, ◌<◌, ◌-◌, get_or, Some, ap, sym, ◌∙◌, arith}
 use Rattle.std.specs.Prelude.{option_copied, option_map}
 use Rattle.plan_ir.specs.gql_ast.declared.place.FilePlace.{FilePlace}
 use Rattle.plan_ir.specs.Nodes.{end, inline}
 use Rattle.plan_expand.specs.Places.{first_place}
-use Rattle.plan_expand.specs.Making.{making, ready_scope, spread_node}
+use Rattle.plan_expand.specs.Making.{Ready, making, ready_scope, spread_node}
+use Rattle.plan_expand.proofs.Depths.{entered_deep, selection_below, spread_depth}
 use Rattle.plan_expand.specs.ReadyView.{find_in, ready_of}
 use Rattle.plan_expand.specs.ScopeView.{scope_of}
 use Rattle.plan_expand.proofs.MakingSteps.{count_end, count_next, make_end, make_next, put_found, put_missing, put_none}
 use Rattle.plan_expand.proofs.making.+make.Goals as goal
+
+pub make_set-put_selection-requires : goal.make_set-put_selection-requires
+make_set-put_selection-requires t c =
+    let less = selection_below (spread_depth (λ (r : Ready). r.selections) c.args.walk.spreads (find_in c.args.walk.fragments.now)) _ _ c.selections.selection-index c.selection-item.result (omega arith) c.selection-item.is c.selections.invariant.0 in
+    (omega (arith, less), c.requires.1)
+
+pub put_spread-make_spread-requires-in-Some : goal.put_spread-make_spread-requires-in-Some
+put_spread-make_spread-requires-in-Some t c =
+    let some : 0 < c.args.walk.spreads = omega arith in
+    let less = entered_deep (λ (r : Ready). r.selections) c.args.walk.spreads (find_in c.args.walk.fragments.now) c.args.name.now (ready_of c.in-Some.fragment.now) some
+    (ap (find_in c.args.walk.fragments.now) (sym c.as_str.ensures) ∙ sym c.find.ensures ∙ ap (option_map (λ f. ready_of f.now)) c.in-Some.is) in
+    (omega (arith, less), (c.requires.1, some))
 
 pub make_set-selections-preserved : goal.make_set-selections-preserved
 make_set-selections-preserved t c = (

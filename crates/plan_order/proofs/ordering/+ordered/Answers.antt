@@ -3,39 +3,35 @@ use Rattle.std.proofs.Common.{◌≡◌, ◌≤◌, true, false, IfSome, is_some
 use Rattle.plan_ir.proofs.StepDepths.{step_within}
 use Rattle.plan_ir.specs.Reader.{depth}
 use Rattle.plan_ir.specs.ReaderView.{step_of}
-use Rattle.plan_order.proofs.FoundOrders.{order_found}
+use Rattle.plan_order.proofs.FoundOrders.{order_kept, order_lost, order_made}
 use Rattle.plan_order.proofs.SinglesSteps.{singles_guarded, singles_next, singles_ordered}
 use Rattle.plan_order.proofs.StepKeys.{has_below_next, has_below_not}
 use Rattle.plan_order.proofs.ordering.+ordered.Goals as goal
-use Rattle.plan_order.specs.HasOrder.{has_order_below}
+use Rattle.plan_order.specs.HasOrder.{has_order, has_order_below}
 use Rattle.plan_order.specs.Singles.{AreSingles}
 
 -- ---- one plan
 
-pub ordered-returns-then-branch-clause-copy : goal.ordered-returns-then-branch-clause-copy
-ordered-returns-then-branch-clause-copy t c =
-    let plan = c.args.plan.now.steps in
-    let given = c.in-Some.singles.items in
-    let are : AreSingles plan given = subst (λ o. IfSome o (λ s. AreSingles plan s.items)) c.in-Some.is c.in_ok-singles.ensures.singles in
-    singles_ordered plan c.in_ok-copy.copy.steps given c.in_ok-sorted.sorted.items are c.in_ok-sorted.ensures.same c.in_ok-copy.ensures (c.in_ok-is_in_order.ensures.0 c.if-branch.true)
+pub ordered-returns-then-not-branch-clause-found : goal.ordered-returns-then-not-branch-clause-found
+ordered-returns-then-not-branch-clause-found t c =
+    let none : has_order c.args.plan.now.steps ≡ false = sym c.in_ok-has_order.ensures ∙ c.if-not-branch.true in
+    order_lost c.args.plan.now.steps none
 
-pub ordered-returns-then-branch-clause-found : goal.ordered-returns-then-branch-clause-found
-ordered-returns-then-branch-clause-found t c =
+pub ordered-returns-clause-copy : goal.ordered-returns-clause-copy
+ordered-returns-clause-copy t c =
     let plan = c.args.plan.now.steps in
     let given = c.in-Some.singles.items in
+    let here : has_order plan ≡ true = sym c.in_ok-has_order.ensures ∙ c.if-not-branch.false in
     let are : AreSingles plan given = subst (λ o. IfSome o (λ s. AreSingles plan s.items)) c.in-Some.is c.in_ok-singles.ensures.singles in
-    let below : has_order_below plan ≡ true = sym (subst (λ o. is_some o ≡ has_order_below plan) c.in-Some.is c.in_ok-singles.ensures.found) in
-    sym c.if-branch.true
-    ∙ order_found plan c.in_ok-copy.copy.steps given c.in_ok-sorted.sorted.items _ are c.in_ok-sorted.ensures.same c.in_ok-sorted.ensures.order c.in_ok-copy.ensures below c.in_ok-is_in_order.ensures
+    singles_ordered plan c.in_ok-copy.copy.steps given c.in_ok-sorted.sorted.items are c.in_ok-sorted.ensures.same c.in_ok-copy.ensures
+    (order_made plan c.in_ok-copy.copy.steps given c.in_ok-sorted.sorted.items are c.in_ok-sorted.ensures.same c.in_ok-sorted.ensures.order c.in_ok-copy.ensures here)
 
 pub ordered-returns-clause-found : goal.ordered-returns-clause-found
 ordered-returns-clause-found t c =
     let plan = c.args.plan.now.steps in
-    let given = c.in-Some.singles.items in
-    let are : AreSingles plan given = subst (λ o. IfSome o (λ s. AreSingles plan s.items)) c.in-Some.is c.in_ok-singles.ensures.singles in
+    let here : has_order plan ≡ true = sym c.in_ok-has_order.ensures ∙ c.if-not-branch.false in
     let below : has_order_below plan ≡ true = sym (subst (λ o. is_some o ≡ has_order_below plan) c.in-Some.is c.in_ok-singles.ensures.found) in
-    sym c.if-branch.false
-    ∙ order_found plan c.in_ok-copy.copy.steps given c.in_ok-sorted.sorted.items _ are c.in_ok-sorted.ensures.same c.in_ok-sorted.ensures.order c.in_ok-copy.ensures below c.in_ok-is_in_order.ensures
+    order_kept plan below here
 
 -- ---- steps one after another
 

@@ -1,18 +1,17 @@
 -- What is put and what is left are the whole; what stands inside is less deep.
-use Rattle.std.proofs.Common.{◌≡◌, ◌+◌, ◌*◌, map, drop}
+use Rattle.std.proofs.Common.{◌≡◌, ◌+◌, ◌*◌, drop}
 use Rattle.plan_ir.specs.gql_ast.SelectionView.{sel_of, sels_of}
 use Rattle.plan_build.specs.AroundView.{IsOfComposite, types_of}
-use Rattle.plan_build.specs.ClassView.{class_view}
 use Rattle.plan_build.specs.KeptView.{IsRight}
-use Rattle.plan_expand.specs.ScopeView.{scope_of}
 use Rattle.plan_ir.specs.Reader.{reader_append}
-use Rattle.plan_read.specs.FieldView.{field_view}
 use Rattle.plan_read.specs.ReadyView.{find_in}
-use Rattle.plan_read.specs.Steps.{guarded_classes, target_step}
-use Rattle.plan_read.specs.WalkView.{below_field, steps_in}
+use Rattle.plan_read.specs.WalkView.{steps_in}
 use Rattle.plan_read.proofs.Depths.{spread_depth}
 use Rattle.plan_read.proofs.WalkDepths.{depth_in, fragment_depth, inside_depth}
 use Rattle.plan_read.proofs.steps.+steps.Given as goal
+
+abbrev pub decreases-make_set : goal.decreases-make_set
+decreases-make_set l = 16 * depth_in l.walk l.selections.now + 2
 
 abbrev pub decreases-put_set : goal.decreases-put_set
 decreases-put_set l = 16 * depth_in l.walk l.selections.now + 1
@@ -26,14 +25,8 @@ decreases-put_field l = 16 * depth_in l.walk l.field.selections.now + 9
 abbrev pub decreases-put_field_steps : goal.decreases-put_field_steps
 decreases-put_field_steps l = 16 * depth_in l.walk l.field.selections.now + 8
 
-abbrev pub decreases-put_classes : goal.decreases-put_classes
-decreases-put_classes l = 16 * depth_in l.walk l.field.selections.now + 7
-
-abbrev pub decreases-put_class : goal.decreases-put_class
-decreases-put_class l = 16 * depth_in l.walk l.field.selections.now + 5
-
-abbrev pub decreases-put_target : goal.decreases-put_target
-decreases-put_target l = 16 * depth_in l.walk l.field.selections.now + 4
+abbrev pub decreases-make_child : goal.decreases-make_child
+decreases-make_child l = 16 * depth_in l.walk l.field.selections.now + 3
 
 abbrev pub decreases-put_spread : goal.decreases-put_spread
 decreases-put_spread l = 16 * spread_depth l.walk.spreads (find_in l.walk.fragments.now) l.name.now + 15
@@ -65,9 +58,3 @@ invariant-put_set-selections l =
     × (reader_append l.steps (steps_in l.walk (types_of l.walk.schema.now l.around) (sels_of (drop l.selection-index l.selection-items))) ≡ reader_append l.initial.steps (steps_in l.walk (types_of l.walk.schema.now l.around) l.selections))
     × IsRight l.walk.schema.now l.kept
     × IsOfComposite l.walk.schema.now l.around
-
-abbrev pub invariant-put_classes-classes : goal.invariant-put_classes-classes
-invariant-put_classes-classes l =
-    (reader_append l.steps (guarded_classes (target_step l.walk.schema.now (field_view (scope_of l.walk.scope.now) l.field) (below_field l.walk l.field)) (map class_view (drop l.class-index l.classes)))
-    ≡ reader_append l.initial.steps (guarded_classes (target_step l.walk.schema.now (field_view (scope_of l.walk.scope.now) l.field) (below_field l.walk l.field)) (map class_view l.classes)))
-    × IsRight l.walk.schema.now l.kept

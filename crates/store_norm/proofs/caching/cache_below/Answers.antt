@@ -11,7 +11,7 @@ returns-then-has_objects c =
     let g = c.args.group.now in
     let there : has_objects g.first.ask.form ≡ true = ap has_objects (sym c.form.ensures) ∙ sym c.has_objects.ensures ∙ c.if-has_objects.true in
     let asked : map plan_at c.parts.result.now ≡ parts_below g = c.parts.ensures ∙ sym (ap (λ b. cond b (parts g) []) there) in
-    IfOk-weaker c.new.result _ _ (λ cache h. h ∙ (λ i. record { parts = asked i; levels = c.args.levels })) c.new.ensures
+    IfOk-weaker c.new.result _ _ (λ cache h. h ∙ (λ i. record { parts = asked i })) c.new.ensures
 
 pub returns : goal.returns
 returns c =
@@ -19,4 +19,4 @@ returns c =
     let known : c.has_objects.result ≡ false = search rules in
     let absent : has_objects g.first.ask.form ≡ false = ap has_objects (sym c.form.ensures) ∙ sym c.has_objects.ensures ∙ known in
     let none : [] ≡ parts_below g = sym (ap (λ b. cond b (parts g) []) absent) in
-    c.empty.ensures ∙ (λ i. record { parts = none i; levels = c.args.levels })
+    c.empty.ensures ∙ (λ i. record { parts = none i })

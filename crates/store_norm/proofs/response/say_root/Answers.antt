@@ -18,7 +18,7 @@ use Rattle.store_report.specs.Gathering.{gathered_onto}
 
 pub say_groups-requires : goal.say_groups-requires
 say_groups-requires c =
-    ap plans_of (c.deref_mut.ensures.value ∙ c.in_ok-below.ensures) ∙ plans_of-caches _ c.as_slice.result.now ∙ ap parts_of (c.as_slice.ensures ∙ sym c.as_slice-2.ensures)
+    ap plans_of (c.deref_mut.ensures.value ∙ c.in_ok-below.ensures) ∙ plans_of-caches c.as_slice.result.now ∙ ap parts_of (c.as_slice.ensures ∙ sym c.as_slice-2.ensures)
 
 pub returns : goal.returns
 returns c =

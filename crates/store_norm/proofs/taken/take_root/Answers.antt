@@ -14,7 +14,7 @@ use Rattle.store_report.specs.ObjectRows.{Adds, with_open}
 
 pub take_groups-requires : goal.take_groups-requires
 take_groups-requires c =
-    ap plans_of (c.deref_mut.ensures.value ∙ c.in_ok-below.ensures) ∙ plans_of-caches _ c.as_slice.result.now ∙ ap parts_of (c.as_slice.ensures ∙ sym c.as_slice-3.ensures)
+    ap plans_of (c.deref_mut.ensures.value ∙ c.in_ok-below.ensures) ∙ plans_of-caches c.as_slice.result.now ∙ ap parts_of (c.as_slice.ensures ∙ sym c.as_slice-3.ensures)
 
 pub returns : goal.returns
 returns c =

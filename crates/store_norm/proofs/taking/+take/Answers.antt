@@ -142,14 +142,14 @@ take_type-index_mut-requires t c =
 
 pub take_type-take_typed-requires : goal.take_type-take_typed-requires
 take_type-take_typed-requires t c =
-    let right = right_at (map plan_at c.deref.result.now) c.below.inside.levels c.place_of.new.types.items c.in_ok-at.at c.index_mut.result.now c.args.name.now c.in_ok-at.ensures.right c.in_ok-at.ensures.place c.index_mut.ensures.value in
+    let right = right_at (map plan_at c.deref.result.now) c.place_of.new.types.items c.in_ok-at.at c.index_mut.result.now c.args.name.now c.in_ok-at.ensures.right c.in_ok-at.ensures.place c.index_mut.ensures.value in
     (omega arith, right.below)
 
 pub take_type-returns-clause-id : goal.take_type-returns-clause-id
 take_type-returns-clause-id t c =
     IfOk-weaker c.take_typed.result _ _
     (λ id h. h ∙ ap (λ (r : Option Text × Report). r.0)
-    (type_told (members_view c.args.members.now.entries) (below_at c.args.type_below.now) (map plan_at c.deref.result.now) c.args.below.now.parts c.below.inside.levels c.place_of.new.types.items c.in_ok-at.at
+    (type_told (members_view c.args.members.now.entries) (below_at c.args.type_below.now) (map plan_at c.deref.result.now) c.args.below.now.parts c.place_of.new.types.items c.in_ok-at.at
     c.index_mut.result.now c.args.name.now (id_of c.args.place.now) c.args.trail.now c.in_ok-at.ensures.right c.in_ok-at.ensures.place c.index_mut.ensures.value
     (ap (map plan_at) c.deref.ensures.value ∙ ap (λ (k : Caching). k.parts) c.below.view_is))) c.take_typed.ensures.id
 
@@ -157,7 +157,7 @@ pub take_type-returns-clause-said : goal.take_type-returns-clause-said
 take_type-returns-clause-said t c =
     on_ok_weaker c.take_typed.result
     (subst (λ (r : Option Text × Report). Adds c.args.rows.now c.take_typed.new.rows r.1)
-    (type_told (members_view c.args.members.now.entries) (below_at c.args.type_below.now) (map plan_at c.deref.result.now) c.args.below.now.parts c.below.inside.levels c.place_of.new.types.items c.in_ok-at.at
+    (type_told (members_view c.args.members.now.entries) (below_at c.args.type_below.now) (map plan_at c.deref.result.now) c.args.below.now.parts c.place_of.new.types.items c.in_ok-at.at
     c.index_mut.result.now c.args.name.now (id_of c.args.place.now) c.args.trail.now c.in_ok-at.ensures.right c.in_ok-at.ensures.place c.index_mut.ensures.value
     (ap (map plan_at) c.deref.ensures.value ∙ ap (λ (k : Caching). k.parts) c.below.view_is))) c.take_typed.ensures.said
 

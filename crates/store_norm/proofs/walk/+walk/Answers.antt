@@ -124,19 +124,19 @@ say_type-index_mut-requires t c =
 
 pub say_type-say_typed-requires : goal.say_type-say_typed-requires
 say_type-say_typed-requires t c =
-    let right = right_at (map plan_at c.deref.result.now) c.below.inside.levels c.place_of.new.types.items c.in_ok-at.at c.index_mut.result.now c.args.name.now c.in_ok-at.ensures.right c.in_ok-at.ensures.place c.index_mut.ensures.value in
+    let right = right_at (map plan_at c.deref.result.now) c.place_of.new.types.items c.in_ok-at.at c.index_mut.result.now c.args.name.now c.in_ok-at.ensures.right c.in_ok-at.ensures.place c.index_mut.ensures.value in
     (omega arith, right.below)
 
 pub say_type-returns-clause-id : goal.say_type-returns-clause-id
 say_type-returns-clause-id t c =
-    let told = type_told (members_view c.args.members.now.entries) (below_at c.args.type_below.now) (map plan_at c.deref.result.now) c.args.below.now.parts c.below.inside.levels c.place_of.new.types.items c.in_ok-at.at
+    let told = type_told (members_view c.args.members.now.entries) (below_at c.args.type_below.now) (map plan_at c.deref.result.now) c.args.below.now.parts c.place_of.new.types.items c.in_ok-at.at
     c.index_mut.result.now c.args.name.now (id_of c.args.place.now) c.args.path.now c.in_ok-at.ensures.right c.in_ok-at.ensures.place c.index_mut.ensures.value
     (ap (map plan_at) c.deref.ensures.value ∙ ap (λ (k : Caching). k.parts) c.below.view_is) in
     subst (λ r. IfOk c.say_typed.result (λ id. id ≡ r.0)) told c.say_typed.ensures.id
 
 pub say_type-returns-clause-said : goal.say_type-returns-clause-said
 say_type-returns-clause-said t c =
-    let told = type_told (members_view c.args.members.now.entries) (below_at c.args.type_below.now) (map plan_at c.deref.result.now) c.args.below.now.parts c.below.inside.levels c.place_of.new.types.items c.in_ok-at.at
+    let told = type_told (members_view c.args.members.now.entries) (below_at c.args.type_below.now) (map plan_at c.deref.result.now) c.args.below.now.parts c.place_of.new.types.items c.in_ok-at.at
     c.index_mut.result.now c.args.name.now (id_of c.args.place.now) c.args.path.now c.in_ok-at.ensures.right c.in_ok-at.ensures.place c.index_mut.ensures.value
     (ap (map plan_at) c.deref.ensures.value ∙ ap (λ (k : Caching). k.parts) c.below.view_is) in
     subst (λ r. OnOk c.say_typed.result (c.say_typed.new.gathered ≡ gathered_onto c.args.gathered.now r.1)) told c.say_typed.ensures.said

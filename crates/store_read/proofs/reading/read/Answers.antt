@@ -20,10 +20,10 @@ returns-clause-read g c =
     let types = c.args.types.now in
     let id = c.args.id.now in
     let steps = c.args.plan.now.steps in
-    let deep : c.in_ok-levels.levels ≡ records_below steps + 1 = c.in_ok-levels.ensures ∙ ap (λ n. n + 1) c.in_ok-records_below.ensures in
+    let deep : c.levels-levels.result ≡ records_below steps + 1 = c.levels-levels.ensures in
     let alone = ap (map part_at) (c.in_ok-push.ensures.items ∙ ap (λ ps. ps ++ c.new.result ∷ []) c.in_ok-parts.ensures.items) ∙ ap (λ p. p ∷ []) c.new.ensures in
     let whole = (λ i. reads m (c.as_str.ensures i) owner (c.new-cache.ensures i).levels types (c.new-cache.ensures i).parts id)
-    ∙ plan_is m env.root owner c.in_ok-levels.levels types (map part_at c.push.new.self.items) id env.values steps deep alone in
+    ∙ plan_is m env.root owner c.levels-levels.result types (map part_at c.push.new.self.items) id env.values steps deep alone in
     let shows = plan_reads (type_of_record env.root) owner (slots m) env.values steps types id in
     let met = c.read_record.new.met in
     IfOk-weaker c.snapshot.result (λ (s : Snapshot). s ≡ record { shown = c.or_null.result; missing = met.missing; seen = sorted_texts met.seen }) (λ (s : Snapshot). reading_of s ≡ reading shows)
@@ -38,10 +38,10 @@ returns-clause-looks g c =
     let types = c.args.types.now in
     let id = c.args.id.now in
     let steps = c.args.plan.now.steps in
-    let deep : c.in_ok-levels.levels ≡ records_below steps + 1 = c.in_ok-levels.ensures ∙ ap (λ n. n + 1) c.in_ok-records_below.ensures in
+    let deep : c.levels-levels.result ≡ records_below steps + 1 = c.levels-levels.ensures in
     let alone = ap (map part_at) (c.in_ok-push.ensures.items ∙ ap (λ ps. ps ++ c.new.result ∷ []) c.in_ok-parts.ensures.items) ∙ ap (λ p. p ∷ []) c.new.ensures in
     let whole = (λ i. reads m (c.as_str.ensures i) owner (c.new-cache.ensures i).levels types (c.new-cache.ensures i).parts id)
-    ∙ plan_is m env.root owner c.in_ok-levels.levels types (map part_at c.push.new.self.items) id env.values steps deep alone in
+    ∙ plan_is m env.root owner c.levels-levels.result types (map part_at c.push.new.self.items) id env.values steps deep alone in
     subst (λ (r : Found). g.S.Count.Steps.looks c.read_record.new.steps ≤ g.S.Count.Steps.looks c.args.steps.now + length r.1.seen) whole c.read_record.ensures.looks
 
 pub returns-in_err-shown-clause-looks : goal.returns-in_err-shown-clause-looks
@@ -52,8 +52,8 @@ returns-in_err-shown-clause-looks g c =
     let types = c.args.types.now in
     let id = c.args.id.now in
     let steps = c.args.plan.now.steps in
-    let deep : c.in_ok-levels.levels ≡ records_below steps + 1 = c.in_ok-levels.ensures ∙ ap (λ n. n + 1) c.in_ok-records_below.ensures in
+    let deep : c.levels-levels.result ≡ records_below steps + 1 = c.levels-levels.ensures in
     let alone = ap (map part_at) (c.in_ok-push.ensures.items ∙ ap (λ ps. ps ++ c.new.result ∷ []) c.in_ok-parts.ensures.items) ∙ ap (λ p. p ∷ []) c.new.ensures in
     let whole = (λ i. reads m (c.as_str.ensures i) owner (c.new-cache.ensures i).levels types (c.new-cache.ensures i).parts id)
-    ∙ plan_is m env.root owner c.in_ok-levels.levels types (map part_at c.push.new.self.items) id env.values steps deep alone in
+    ∙ plan_is m env.root owner c.levels-levels.result types (map part_at c.push.new.self.items) id env.values steps deep alone in
     subst (λ (r : Found). g.S.Count.Steps.looks c.read_record.new.steps ≤ g.S.Count.Steps.looks c.args.steps.now + length r.1.seen) whole c.read_record.ensures.looks

@@ -15,8 +15,8 @@ pub returns-clause-ids : goal.returns-clause-ids
 returns-clause-ids g c = λ j.
     c.in_ok-walk.ensures.ids j
     ∙ ap (λ ts. has_text c.args.found.now.ids j || has_text ts j)
-    (mark_is (slots_of (g.S.RecordSource.records c.args.source.now)) (table_of c.deref-5.result.now) c.args.held.now c.in_ok-number.number c.in_ok-rounds.rounds _ c.in_ok-types.types _ _
-    c.in_ok-rounds.ensures (c.in_ok-records_below.ensures ∙ ap (λ (p : NormalPlan). records_below p.steps) c.deref-3.ensures) c.in_ok-types.ensures (c.as_str-root.ensures ∙ ap (λ (e : Env). e.root) c.deref-4.ensures)
+    (mark_is (slots_of (g.S.RecordSource.records c.args.source.now)) (table_of c.deref-5.result.now) c.args.held.now c.in_ok-number.number c.levels-rounds.result _ c.in_ok-types.types _ _
+    c.levels-rounds.ensures (ap (λ (p : NormalPlan). records_below p.steps) c.deref-3.ensures) c.in_ok-types.ensures (c.as_str-root.ensures ∙ ap (λ (e : Env). e.root) c.deref-4.ensures)
     (search rules)
     (λ n. subst (λ p. StandsFor (table_of c.deref-5.result.now) n c.in_ok-number.number p) (λ i. record { environment = (c.deref.ensures i).values; steps = (c.deref-2.ensures i).steps })
     (c.in_ok-number.ensures.stands (table_of c.deref-5.result.now)

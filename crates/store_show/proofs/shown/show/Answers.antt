@@ -20,8 +20,8 @@ returns-clause-shown g c =
     let types = c.args.types.now in
     let id = c.args.id.now in
     let plan = c.args.plan.now.steps in
-    let levels = c.in_ok-levels.levels in
-    let deep : levels ≡ records_below plan + 1 = c.in_ok-levels.ensures ∙ ap (λ n. n + 1) c.in_ok-records_below.ensures in
+    let levels = c.levels-levels.result in
+    let deep : levels ≡ records_below plan + 1 = c.levels-levels.ensures in
     let whole : below m c.as_str.result.now owner levels types (part_at c.new.result ∷ []) c.as_str-2.result.now ≡ walks m env.root owner env.values levels types plan id =
     λ i. below m (c.as_str.ensures i) owner levels types (c.new.ensures i ∷ []) (c.as_str-2.ensures i) in
     let found = walks m env.root owner env.values levels types plan id in
@@ -38,8 +38,8 @@ returns-clause-missing g c =
     let types = c.args.types.now in
     let id = c.args.id.now in
     let plan = c.args.plan.now.steps in
-    let levels = c.in_ok-levels.levels in
-    let deep : levels ≡ records_below plan + 1 = c.in_ok-levels.ensures ∙ ap (λ n. n + 1) c.in_ok-records_below.ensures in
+    let levels = c.levels-levels.result in
+    let deep : levels ≡ records_below plan + 1 = c.levels-levels.ensures in
     let whole : below m c.as_str.result.now owner levels types (part_at c.new.result ∷ []) c.as_str-2.result.now ≡ walks m env.root owner env.values levels types plan id =
     λ i. below m (c.as_str.ensures i) owner levels types (c.new.ensures i ∷ []) (c.as_str-2.ensures i) in
     let found = walks m env.root owner env.values levels types plan id in
@@ -56,8 +56,8 @@ returns-clause-seen g c =
     let types = c.args.types.now in
     let id = c.args.id.now in
     let plan = c.args.plan.now.steps in
-    let levels = c.in_ok-levels.levels in
-    let deep : levels ≡ records_below plan + 1 = c.in_ok-levels.ensures ∙ ap (λ n. n + 1) c.in_ok-records_below.ensures in
+    let levels = c.levels-levels.result in
+    let deep : levels ≡ records_below plan + 1 = c.levels-levels.ensures in
     let whole : below m c.as_str.result.now owner levels types (part_at c.new.result ∷ []) c.as_str-2.result.now ≡ walks m env.root owner env.values levels types plan id =
     λ i. below m (c.as_str.ensures i) owner levels types (c.new.ensures i ∷ []) (c.as_str-2.ensures i) in
     let found = walks m env.root owner env.values levels types plan id in
@@ -74,8 +74,8 @@ returns-clause-looks g c =
     let types = c.args.types.now in
     let id = c.args.id.now in
     let plan = c.args.plan.now.steps in
-    let levels = c.in_ok-levels.levels in
-    let deep : levels ≡ records_below plan + 1 = c.in_ok-levels.ensures ∙ ap (λ n. n + 1) c.in_ok-records_below.ensures in
+    let levels = c.levels-levels.result in
+    let deep : levels ≡ records_below plan + 1 = c.levels-levels.ensures in
     let whole : below m c.as_str.result.now owner levels types (part_at c.new.result ∷ []) c.as_str-2.result.now ≡ walks m env.root owner env.values levels types plan id =
     λ i. below m (c.as_str.ensures i) owner levels types (c.new.ensures i ∷ []) (c.as_str-2.ensures i) in
     let found = walks m env.root owner env.values levels types plan id in
@@ -91,8 +91,8 @@ returns-in_err-show_record-clause-looks g c =
     let types = c.args.types.now in
     let id = c.args.id.now in
     let plan = c.args.plan.now.steps in
-    let levels = c.in_ok-levels.levels in
-    let deep : levels ≡ records_below plan + 1 = c.in_ok-levels.ensures ∙ ap (λ n. n + 1) c.in_ok-records_below.ensures in
+    let levels = c.levels-levels.result in
+    let deep : levels ≡ records_below plan + 1 = c.levels-levels.ensures in
     let whole : below m c.as_str.result.now owner levels types (part_at c.new.result ∷ []) c.as_str-2.result.now ≡ walks m env.root owner env.values levels types plan id =
     λ i. below m (c.as_str.ensures i) owner levels types (c.new.ensures i ∷ []) (c.as_str-2.ensures i) in
     let found = walks m env.root owner env.values levels types plan id in
@@ -108,8 +108,8 @@ returns-in_err-sorted_texts-clause-looks g c =
     let types = c.args.types.now in
     let id = c.args.id.now in
     let plan = c.args.plan.now.steps in
-    let levels = c.in_ok-levels.levels in
-    let deep : levels ≡ records_below plan + 1 = c.in_ok-levels.ensures ∙ ap (λ n. n + 1) c.in_ok-records_below.ensures in
+    let levels = c.levels-levels.result in
+    let deep : levels ≡ records_below plan + 1 = c.levels-levels.ensures in
     let whole : below m c.as_str.result.now owner levels types (part_at c.new.result ∷ []) c.as_str-2.result.now ≡ walks m env.root owner env.values levels types plan id =
     λ i. below m (c.as_str.ensures i) owner levels types (c.new.ensures i ∷ []) (c.as_str-2.ensures i) in
     let found = walks m env.root owner env.values levels types plan id in
