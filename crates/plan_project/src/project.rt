@@ -101,11 +101,4 @@ impl Project {
     {
         self.fragments.get(name)
     }
-
-    /// The schema and the documents.
-    pub fn into_parts(self) -> (Schema, Documents)
-        ensures { result ≡ self }
-    {
-        (self.schema, self.documents)
-    }
 }

@@ -39,21 +39,6 @@ pub fn insert_edge<S: RecordSource>(
     put_all(version, changes, steps)
 }
 
-/// As `insert_edge`, of a map that is not used again. What nobody else holds is written in place.
-pub fn put_edge<S: RecordSource>(
-    source: S,
-    edit: &EdgeEdit,
-    front: bool,
-    steps: &mut S::Count,
-) -> Result<S, NoMemory>
-    ensures records { IfOk result (λ m. S.records m ≡ updates.insert_edge front edit.now (S.records source)) }
-    ensures looks { S.Count.looks steps.new ≤ S.Count.looks steps.old + 8 * (1 + entries.number_asked (entries.asked_by_edit edit.now (S.records source))) }
-    ensures applies { S.Count.applies steps.new ≡ S.Count.applies steps.old }
-{
-    let changes = changes_of_insertion(&source, edit, front, steps)?;
-    put_all(source, changes, steps)
-}
-
 /// Takes every edge of a node out of the connection that an edit names. The edges stay as records,
 /// and the map stays as it is. Each edge of the list is looked at once.
 pub fn delete_edge<S: RecordSource>(
@@ -68,20 +53,6 @@ pub fn delete_edge<S: RecordSource>(
     let changes = changes_of_deletion(source, edit, steps)?;
     let version = source.version()?;
     put_all(version, changes, steps)
-}
-
-/// As `delete_edge`, of a map that is not used again. What nobody else holds is written in place.
-pub fn remove_edge<S: RecordSource>(
-    source: S,
-    edit: &EdgeEdit,
-    steps: &mut S::Count,
-) -> Result<S, NoMemory>
-    ensures records { IfOk result (λ m. S.records m ≡ updates.delete_edge edit.now (S.records source)) }
-    ensures looks { S.Count.looks steps.new ≤ S.Count.looks steps.old + 8 * (1 + entries.number_asked (entries.asked_by_edit edit.now (S.records source))) }
-    ensures applies { S.Count.applies steps.new ≡ S.Count.applies steps.old }
-{
-    let changes = changes_of_deletion(&source, edit, steps)?;
-    put_all(source, changes, steps)
 }
 
 /// The records that `insert_edge` puts, in the order in which they are put.

@@ -17,10 +17,8 @@ pub mod page;
 mod replace;
 
 pub use changes::{Change, put_all};
-pub use edit::{
-    changes_of_deletion, changes_of_insertion, delete_edge, insert_edge, put_edge, remove_edge,
-};
-pub use page::{changes_of_page, merge_page, put_page};
+pub use edit::{changes_of_deletion, changes_of_insertion, delete_edge, insert_edge};
+pub use page::{changes_of_page, merge_page};
 pub use store_model;
 pub use store_model::{EdgeEdit, gql_plain, store_record};
 pub use store_source;

@@ -41,21 +41,6 @@ pub fn merge_page<S: RecordSource>(
     put_all(version, changes, steps)
 }
 
-/// As `merge_page`, of a map that is not used again. What nobody else holds is written in place.
-pub fn put_page<S: RecordSource>(
-    source: S,
-    handle: &HandleFact,
-    steps: &mut S::Count,
-) -> Result<S, NoMemory>
-    ensures records { IfOk result (λ m. S.records m ≡ merge.merge handle.now (S.records source)) }
-    ensures looks { S.Count.looks steps.new ≤ S.Count.looks steps.old + 8 * (1 + entries.number_asked (entries.asked_by_page handle.now (S.records source))) }
-    ensures applies { S.Count.applies steps.new ≡ S.Count.applies steps.old }
-{
-    let text = handle.parent.copy()?.into_string();
-    let changes = changes_of_page(*text.allocator(), &source, handle, steps)?;
-    put_all(source, changes, steps)
-}
-
 /// The records that the merge of a page puts, in the order in which they are put.
 pub fn changes_of_page<S: RecordSource>(
     alloc: Global,
