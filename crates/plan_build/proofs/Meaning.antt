@@ -1,5 +1,5 @@
 -- Each response says the same to the steps of an expanded operation and to its nodes.
-use Rattle.std.proofs.Common.{◌≡◌, Bool, true, false, true≢false, cond, ◌||◌, List, [], ◌∷◌, ◌++◌, map, bytes_eq, refl, ap, sym, ◌∙◌, subst, inl, inr}
+use Rattle.std.proofs.Common.{◌≡◌, Bool, true, false, true≢false, ◌||◌, List, [], ◌∷◌, ◌++◌, map, bytes_eq, refl, ap, sym, ◌∙◌, subst, inl, inr}
 use Rattle.std.proofs.lemmas.List.{map-append}
 use Rattle.std.specs.List.{AllByRecursion, AllZip}
 use Rattle.plan_ir.proofs.gql_graph_laws.TextSteps.{same_self, same_text}
@@ -8,7 +8,7 @@ use Rattle.plan_ir.specs.NormalMeaning.{Plan, collect_plan, plan_says}
 use Rattle.plan_ir.specs.declared.expanded.Expanded.{Expanded}
 use Rattle.plan_ir.specs.schema_rules.Checked.{IsSound}
 use Rattle.plan_ir.specs.schema_rules.Rules.{is_object}
-use Rattle.plan_ir.specs.schema_tables.Types.{Text, Defs, base_of, is_composite, possible}
+use Rattle.plan_ir.specs.schema_tables.Types.{Text, Defs, possible}
 use Rattle.plan_ir.specs.schema_types.Environments.{Values}
 use Rattle.serde_json.specs.Data as J
 use Rattle.plan_ir.proofs.store_model_laws.AlikeSays.{response_alike}

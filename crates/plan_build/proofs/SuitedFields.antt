@@ -5,7 +5,7 @@ use Rattle.plan_ir.specs.gql_ast.Value.{Val}
 use Rattle.plan_ir.proofs.gql_graph_laws.TextSteps.{same_text}
 use Rattle.plan_ir.specs.gql_plain.Order.{has_text}
 use Rattle.plan_ir.specs.gql_plain.declared.ids.Conn.{Conn}
-use Rattle.plan_build.proofs.Covariance.{Within, base_on, covariant, narrow_object, narrow_within, object_alone}
+use Rattle.plan_build.proofs.Covariance.{Within, base_on, covariant, narrow_object, narrow_within}
 use Rattle.plan_build.proofs.CovarianceRules.{SchemaMeets}
 use Rattle.plan_build.proofs.SuitedRules.{IsConnectionType}
 use Rattle.plan_build.specs.Suited.{FieldSuits, Suited}

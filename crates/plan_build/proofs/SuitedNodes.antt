@@ -1,10 +1,9 @@
 -- What selections that meet the rules become is suited, through all spreads.
 use Rattle.std.proofs.Common.{◌≡◌, ℕ, zero, suc, ◌+◌, Bool, true, false, cond, List, [], ◌∷◌, Option, Some, None, is_some, bytes_eq, refl, ap, sym, subst}
-use Rattle.std.specs.List.{AllByRecursion, list_all}
+use Rattle.std.specs.List.{AllByRecursion}
 use Rattle.plan_ir.specs.gql_ast.Sels as sels
 use Rattle.plan_ir.specs.gql_ast.Sels.{Sels}
 use Rattle.plan_ir.specs.gql_ast.declared.directive.Directive.{Directive}
-use Rattle.plan_ir.specs.gql_plain.Order.{has_text}
 use Rattle.plan_build.proofs.Covariance.{Within, base_on}
 use Rattle.plan_build.proofs.CovarianceRules.{SchemaMeets}
 use Rattle.plan_build.proofs.SuitedAdditions.{additions_suit, inside_on, nodes_appended}
@@ -16,7 +15,7 @@ use Rattle.plan_ir.specs.Expansion.{Project, enter_with, expansion, expansion_wi
 use Rattle.plan_ir.specs.Nodes.{Nodes, end, nodes_append}
 use Rattle.plan_ir.specs.Substitution.{Scope, scope_at_spread, substitute_in}
 use Rattle.plan_ir.specs.relay_dirs.Connections.{connection_among}
-use Rattle.plan_ir.specs.schema_tables.Types.{Text, Defs, possible}
+use Rattle.plan_ir.specs.schema_tables.Types.{Text}
 use Rattle.plan_ir.specs.schema_trees.Located.{directives_nodes}
 use Rattle.plan_ir.specs.schema_types.NameRules.{fragment_named}
 use Rattle.plan_ir.specs.schema_types.Sites.{FragmentAt, arguments_nodes, below, head_nodes, optional_name_nodes, selections_nodes}

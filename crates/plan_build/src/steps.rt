@@ -1,5 +1,5 @@
 //! The steps that come of nodes, where the objects are of known types.
-ghost use Rattle.std.specs.Prelude.{◌≡◌, ◌++◌, [], ◌∷◌, None, Some, false, true, map, codes, bytes_eq, IfOk, OnOk};
+ghost use Rattle.std.specs.Prelude.{◌≡◌, ◌&&◌, [], ◌∷◌, None, Some, false, true, map, codes, bytes_eq, IfOk, OnOk};
 ghost use Rattle.plan_ir.specs.gql_ast.TypeView.{ty_of};
 ghost use Rattle.plan_ir.specs.NodesView.{node_of};
 ghost use Rattle.plan_ir.specs.Normal.{normal_append, done, guarded};
@@ -316,9 +316,16 @@ fn put_class<'a>(
     let conditions = Conditions::new(alloc);
     let step = behind(Some(types), conditions, inside);
     let leads = schema.is_composite(class.target.base);
-    let again = before && leads;
+    let again = are_both(before, leads);
     steps.push_again(step, again)?;
     Ok(leads)
+}
+
+/// Whether both hold.
+fn are_both(first: bool, second: bool) -> bool
+    ensures { result ≡ (first && second) }
+{
+    first && second
 }
 
 /// Puts the step of a field that leads to this target.

@@ -1,6 +1,7 @@
 -- Single steps in order of their keys are in order where the plan has an order that they were taken from.
 use denote.Ref.{Bor}
-use Rattle.std.proofs.Common.{◌≡◌, ◌↔◌, ◌⊎◌, inl, inr, Bool, true, false, true≢false, ◌&&◌, ◌||◌, codes, List, [], ◌∷◌, map, nat_cmp, refl, sym, ap, subst, ◌∙◌}
+use Rattle.std.proofs.Common.{◌≡◌, ◌↔◌, ◌⊎◌, inl, inr, Bool, true, false, true≢false, ◌&&◌, ◌||◌, codes, List, [], ◌∷◌, map, length, nat_cmp, refl, sym, ap, subst, ◌∙◌, arith}
+use Rattle.std.proofs.lemmas.List.Folds.{list_all-map}
 use Rattle.std.specs.Cmp.Lexicographic.{slice_cmp}
 use Rattle.std.specs.List.{AllByRecursion, list_all}
 use Rattle.std.specs.List.Sorted.{IsPermutation, IsSortedByKey}
@@ -64,6 +65,16 @@ apart_here steps e = on (one_of_two (is_none (fragments steps)) (list_all stands
     on : (is_none (fragments steps) ≡ true) ⊎ (list_all stands_apart (responses steps) ≡ true) → (fragments steps ≡ []) ⊎ AllByRecursion IsApart (responses steps)
     on (inl none) = inl (nothing_there (fragments steps) none)
     on (inr all) = inr (all_apart (responses steps) all)
+
+-- where there is no pointer, and where there is one
+pub apart_free : (xs ys : List (Bor Text)) → length xs ≡ 0 → true ≡ (is_none (map (λ t. t.now) xs) || list_all stands_apart (map (λ t. t.now) ys))
+apart_free [] ys e = refl
+apart_free (x ∷ xs) ys e = absurd (omega arith)
+
+pub apart_each : (xs ys : List (Bor Text)) (answer : Bool) → (length xs ≡ 0 → ⊥) → answer ≡ list_all (λ t. stands_apart t.now) ys
+    → answer ≡ (is_none (map (λ t. t.now) xs) || list_all stands_apart (map (λ t. t.now) ys))
+apart_each [] ys answer some e = absurd (some refl)
+apart_each (x ∷ xs) ys answer some e = e ∙ sym (list_all-map stands_apart (λ (t : Bor Text). t.now) ys)
 
 in_order_so : (steps : Reader) → DoNotFall (responses steps) → DoNotFall (fragments steps) → keys_have_order steps ≡ true → IsInOrder steps
 in_order_so steps keys spread e =

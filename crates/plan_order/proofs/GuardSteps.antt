@@ -1,21 +1,24 @@
 -- Whether guards stand around steps, one step after another.
-use Rattle.std.proofs.Common.{◌≡◌, ℕ, ◌+◌, ◌<◌, Bool, true, false, ◌&&◌, List, [], ◌∷◌, Some, None, drop, length, get_or, refl, ap, sym, ◌∙◌}
-use Rattle.std.proofs.lemmas.List.{drop_more}
+use Rattle.std.proofs.Common.{◌≡◌, ℕ, ◌+◌, ◌<◌, ◌≤◌, Bool, true, false, ◌&&◌, List, Some, None, drop, length, get_or, refl, ap, sym, ◌∙◌}
+use Rattle.std.proofs.lemmas.List.{drop_all, drop_more}
+use Rattle.plan_ir.specs.Reader as r
 use Rattle.plan_ir.specs.Reader.{Reader}
 use Rattle.plan_ir.specs.ReaderView.{step_before, step_of, steps_of}
 use Rattle.plan_ir.specs.declared.reader.ReaderStep.{ReaderStep}
 use Rattle.plan_ir.specs.declared.reader.ReaderStep.TheVariants as N
 use Rattle.plan_order.specs.HasOrder.{has_single_guards, is_unguarded}
 
-and_true : (b : Bool) → b ≡ (b && true)
-and_true true = refl
-and_true false = refl
+and_swap : (a b : Bool) → (a && b) ≡ (b && a)
+and_swap true true = refl
+and_swap true false = refl
+and_swap false true = refl
+and_swap false false = refl
 
 pub single_step : (x : ReaderStep) (s : Reader) → has_single_guards (step_before x s) ≡ (has_single_guards (step_of x) && has_single_guards s)
 single_step (N.Typename n) s = refl
 single_step (N.Leaf n name xs) s = refl
 single_step (N.Object n name xs m ts is o c child) s = refl
-single_step (N.Guarded g child) s = ap (λ b. b && has_single_guards s) (and_true (is_unguarded child.steps))
+single_step (N.Guarded g child) s = and_swap (has_single_guards s) (is_unguarded child.steps)
 single_step (N.Pointer f xs None) s = refl
 single_step (N.Pointer f xs (Some child)) s = refl
 
@@ -44,3 +47,7 @@ module _ (p : Reader → Bool) (law : (x : ReaderStep) (s : Reader) → p (step_
   -- a step of which it does not
   pub left_here : (xs : List ReaderStep) (i : ℕ) (x : ReaderStep) (whole : Bool) → i < length xs → x ≡ get_or xs i x → p (step_of x) ≡ false → p (steps_of (drop i xs)) ≡ whole → false ≡ whole
   left_here xs i x whole h is e w = sym (here xs i x false h is e) ∙ w
+
+  -- no step is left
+  pub left_end : (xs : List ReaderStep) (i : ℕ) (whole : Bool) → length xs ≤ i → p r.done ≡ true → p (steps_of (drop i xs)) ≡ whole → true ≡ whole
+  left_end xs i whole h nothing w = sym (ap (λ (ys : List ReaderStep). p (steps_of ys)) (drop_all i xs h) ∙ nothing) ∙ w

@@ -35,7 +35,7 @@ has_single_guards r.done = true
 has_single_guards (r.typename n rest) = has_single_guards rest
 has_single_guards (r.leaf n name xs rest) = has_single_guards rest
 has_single_guards (r.object n name xs m ts is o c child rest) = has_single_guards rest
-has_single_guards (r.guarded g child rest) = is_unguarded child && has_single_guards rest
+has_single_guards (r.guarded g child rest) = has_single_guards rest && is_unguarded child
 has_single_guards (r.pointer f xs rest) = has_single_guards rest
 has_single_guards (r.pointer_inline f xs child rest) = has_single_guards rest
 

@@ -7,7 +7,7 @@ use Rattle.plan_ir.specs.NodesView.{node_of}
 use Rattle.plan_ir.specs.Normal.{Normal, normal_append}
 use Rattle.plan_ir.specs.gql_ast.TypeView.{ty_of}
 use Rattle.plan_ir.specs.schema_tables.Types.{Text, base_of, is_composite, possible}
-use Rattle.plan_build.specs.Classes.{Target, one_target}
+use Rattle.plan_build.specs.Classes.{one_target}
 use Rattle.plan_build.specs.AroundView.{types_of}
 use Rattle.plan_build.specs.ClassView.{field_view, target_view}
 use Rattle.plan_build.specs.Steps.{are_within, steps_of, target_step, types_at}

@@ -1,12 +1,11 @@
 -- What is put and what is left are the whole; what stands below a node is less deep than it.
-use Rattle.std.proofs.Common.{◌≡◌, ◌+◌, ◌*◌, map, drop}
+use Rattle.std.proofs.Common.{◌≡◌, ◌+◌, ◌*◌, drop}
 use Rattle.plan_ir.specs.Nodes.{set_depth}
 use Rattle.plan_ir.specs.NodesView.{node_of, nodes_of}
 use Rattle.plan_ir.specs.Normal.{normal_append}
 use Rattle.plan_build.specs.AroundView.{IsOfComposite, types_of}
-use Rattle.plan_build.specs.ClassView.{class_view, field_view}
 use Rattle.plan_build.specs.KeptView.{IsRight}
-use Rattle.plan_build.specs.Steps.{guarded_classes, steps_of, target_step}
+use Rattle.plan_build.specs.Steps.{steps_of}
 use Rattle.plan_build.proofs.steps.+steps.Given as goal
 
 abbrev pub decreases-make_steps : goal.decreases-make_steps

@@ -1,9 +1,8 @@
 -- A step that leads to objects leads to what stands below the field.
-use Rattle.std.proofs.Common.{◌≡◌, true, Some, ap, sym, ◌∙◌}
+use Rattle.std.proofs.Common.{◌≡◌, ap, sym, ◌∙◌}
 use Rattle.std.proofs.lemmas.Bool.{and_parts}
 use Rattle.plan_ir.proofs.NormalLeadLaws.{last_lead_put}
 use Rattle.plan_ir.specs.Normal.{Normal, normal_append}
-use Rattle.plan_ir.specs.NormalLeads.{lead_of}
 use Rattle.plan_ir.specs.NormalView.{step_of}
 use Rattle.plan_ir.specs.schema_tables.Types.{is_composite}
 use Rattle.plan_build.proofs.CodeSteps.{class_lead}
@@ -13,7 +12,7 @@ use Rattle.plan_build.proofs.steps.put_class.Goals as goal
 
 pub push_again-requires : goal.push_again-requires
 push_again-requires c = λ again.
-    let both = and_parts c.args.before c.is_composite-leads.result again in
+    let both = and_parts c.args.before c.is_composite-leads.result (sym c.are_both-again.ensures ∙ again) in
     let step = target_step c.args.schema.now (field_view c.args.field.now) c.args.child.now (target_view c.args.class.now.target) in
     let inside : c.in_ok-inside.inside ≡ step = c.in_ok-inside.ensures ∙ c.in_ok-put_target.ensures.put ∙ ap (λ (s : Normal). normal_append s step) c.new-inside.ensures in
     c.requires.before both.0

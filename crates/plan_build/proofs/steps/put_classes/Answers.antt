@@ -1,11 +1,14 @@
 -- One more class, and all of them.
-use Rattle.std.proofs.Common.{ap, sym, ◌∙◌, arith}
+use Rattle.std.proofs.Common.{true≢false, refl, ap, sym, ◌∙◌, arith}
 use Rattle.plan_ir.specs.Normal.{Normal, normal_append}
 use Rattle.plan_build.specs.Classes.{Target}
 use Rattle.plan_build.specs.ClassView.{field_view}
 use Rattle.plan_build.specs.Steps.{target_step}
 use Rattle.plan_build.proofs.CodeSteps.{classes_end, classes_next, many_classes}
 use Rattle.plan_build.proofs.steps.put_classes.Goals as goal
+
+pub classes-init : goal.classes-init
+classes-init c = (refl, c.requires, λ e. absurd (true≢false (sym e)))
 
 pub put_class-requires : goal.put_class-requires
 put_class-requires c = record { right = c.classes.invariant.1; before = c.classes.invariant.2 }

@@ -1,5 +1,5 @@
 -- Texts in order rise just where none stands twice.
-use Rattle.std.proofs.Common.{◌≡◌, ◌↔◌, true, map, ap, subst, ◌∙◌}
+use Rattle.std.proofs.Common.{◌≡◌, ◌↔◌, true, map, subst}
 use Rattle.plan_ir.specs.gql_plain.Order.{AreInOrder}
 use Rattle.plan_order.proofs.FoundOrders.{rise_distinct}
 use Rattle.plan_order.proofs.keys.are_distinct.Goals as goal

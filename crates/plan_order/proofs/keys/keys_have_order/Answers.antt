@@ -1,5 +1,5 @@
 -- What was noted is what the steps say.
-use Rattle.std.proofs.Common.{◌≡◌, Bool, true, false, ◌&&◌, ◌||◌, map, ap, sym, ◌∙◌, arith}
+use Rattle.std.proofs.Common.{◌≡◌, true, false, ◌&&◌, ◌||◌, map, ap, sym, ◌∙◌, arith}
 use Rattle.std.proofs.lemmas.Grind.{common_steps}
 use Rattle.std.specs.List.{list_all}
 use Rattle.plan_order.proofs.keys.keys_have_order.Goals as goal

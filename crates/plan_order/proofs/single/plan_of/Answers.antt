@@ -13,4 +13,4 @@ pub returns : goal.returns
 returns c =
     let left = c.singles.single-iterator.rest in
     let gone : left.items ≡ [] = none_left left.items (sym left.ok.0 ∙ c.in-None.ensures.steps.0) in
-    plan_whole c.singles.steps (steps_in c.args.singles.items) left.items gone c.singles.invariant
+    c.in_ok-steps.ensures ∙ plan_whole c.singles.steps (steps_in c.args.singles.items) left.items gone c.singles.invariant
