@@ -14,5 +14,6 @@ returns-then-is_empty c =
 
 pub returns : goal.returns
 returns c =
-    apart_each c.args.keys.now.fragments.items c.args.keys.now.responses.items c.are_apart.result (λ e. grind (arith, e, c.is_empty.ensures))
+    let some : length c.args.keys.now.fragments.items ≡ 0 → ⊥ = λ e. grind (arith, e, c.is_empty.ensures) in
+    apart_each c.args.keys.now.fragments.items c.args.keys.now.responses.items c.are_apart.result some
     (c.are_apart.ensures ∙ ap (list_all (λ (t : Bor Text). stands_apart t.now)) c.deref.ensures.value)
