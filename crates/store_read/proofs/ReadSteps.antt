@@ -8,7 +8,7 @@ use Rattle.plan_ir.specs.gql_plain.Tree.{Tree, null}
 use Rattle.plan_ir.specs.Reader.{Reader}
 use Rattle.plan_ir.specs.ReaderMeaning.{ReaderPart, collect_reader, plan_reads, records_below}
 use Rattle.plan_ir.specs.schema_types.Environments.{Values}
-use Rattle.plan_ir.specs.store_model.Walks.{Found, Shown, Trace, field_of, join_traces, mark_members, object_at, or_null, reading, stand_at, standing_of, stood_lost, trace_at, type_of_record, where_possible}
+use Rattle.plan_ir.specs.store_model.Walks.{Found, Shown, Trace, field_of, join_traces, mark_members, missing_trace, object_at, or_null, reading, stand_at, standing_of, stood_lost, trace_at, type_of_record, where_possible}
 use Rattle.store_read.proofs.MetSteps.{met_twice}
 use Rattle.store_read.specs.Caching.{Caching}
 use Rattle.store_read.specs.Meeting.{Meeting, met_onto}
@@ -32,6 +32,11 @@ possible_stood false id r = refl
 module _ (m : Records) (root owner : Text) (types : List Text) (ps : List ReaderPart) (id : Text) where
   abbrev stands : ℕ → Option Slot → Found
   stands n s = stand_at collect_reader (type_of_record root) owner (reads m root owner n) types ps id (standing_of s) (field_of s)
+
+  -- where no record may be stood at
+  pub reads_nothing : (n : ℕ) → n ≡ 0 → reads m root owner n types ps id ≡ (None, stood_lost id)
+  reads_nothing zero e = refl
+  reads_nothing (suc n) e = absurd (omega (arith, e))
 
   pub reads_absent : (n : ℕ) → slots m id ≡ None → reads m root owner n types ps id ≡ (None, stood_lost id)
   reads_absent zero e = refl
@@ -61,6 +66,10 @@ live_looks id r l old mid new is one below =
 
 pub live_met : (id : Text) (r l : Found) (m n k : Meeting) → r ≡ stood_and id l → n ≡ met_onto m (trace_at id) → k ≡ met_onto n l.1 → k ≡ met_onto m r.1
 live_met id r l m n k is first second = met_twice m n k (trace_at id) l.1 first second ∙ ap (λ (x : Found). met_onto m x.1) (sym is)
+
+-- where no record may be stood at, the one that is sought is missing
+pub nothing_met : (id : Text) (r : Found) (m n k : Meeting) → r ≡ (None, stood_lost id) → n ≡ met_onto m (trace_at id) → k ≡ met_onto n missing_trace → k ≡ met_onto m r.1
+nothing_met id r m n k is first second = met_twice m n k (trace_at id) missing_trace first second ∙ ap (λ (x : Found). met_onto m x.1) (sym is)
 
 -- any other one is looked up alone
 pub one_look : (r s : Found) (old mid : ℕ) → r ≡ s → length s.1.seen ≡ 1 → mid ≡ next_count old → mid ≤ old + length r.1.seen

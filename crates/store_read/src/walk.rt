@@ -76,7 +76,7 @@ fn read_live<'p, S: RecordSource>(
     met: &mut Met,
     steps: &mut S::Count,
 ) -> Result<Option<Plain>, NoMemory>
-    requires { 0 < cache.old.levels }
+    requires some { 0 < cache.old.levels }
     ensures shown { IfOk result (λ shown. option_map tree_of shown ≡ (walked.live_read (S.records store.now.source.now) store.now.root.now store.now.owner.now cache.old types.now id.now row.now).0) }
     ensures met { OnOk result (met.new ≡ met_onto met.old (walked.live_read (S.records store.now.source.now) store.now.root.now store.now.owner.now cache.old types.now id.now row.now).1) }
     ensures looks { S.Count.looks steps.new ≤ S.Count.looks steps.old + length (walked.live_read (S.records store.now.source.now) store.now.root.now store.now.owner.now cache.old types.now id.now row.now).1.seen }

@@ -5,7 +5,7 @@ use Rattle.std.specs.List.{last_or}
 use Rattle.std.specs.Str.{bytes_eq}
 use Rattle.plan_ir.proofs.gql_plain_laws.SortedTexts.{has_text-Decides}
 use Rattle.plan_ir.specs.gql_plain.Order.{AreSortedOf, has_text}
-use Rattle.plan_ir.specs.store_model.Walks.{Found, Trace, join_traces, still, trace_at}
+use Rattle.plan_ir.specs.store_model.Walks.{Found, Trace, join_traces, missing_trace, still, stood_lost, trace_at}
 use Rattle.store_read.proofs.ReadSteps.{stood_and}
 use Rattle.store_read.specs.Meeting.{Meeting}
 use Rattle.plan_ir.specs.store_record.Keys.{Text}
@@ -42,6 +42,10 @@ stood_twice m n k s t first second = second ∙ ap (λ x. stood_onto x t) first 
 -- a live record, and then what lies below it
 pub stood_live : (id : Text) (r l : Found) (m n k : Meeting) → r ≡ stood_and id l → n ≡ stood_onto m (trace_at id) → k ≡ stood_onto n l.1 → k ≡ stood_onto m r.1
 stood_live id r l m n k is first second = stood_twice m n k (trace_at id) l.1 first second ∙ ap (λ (x : Found). stood_onto m x.1) (sym is)
+
+-- where no record may be stood at, the one that is sought is missing
+pub stood_nothing : (id : Text) (r : Found) (m n k : Meeting) → r ≡ (None, stood_lost id) → n ≡ stood_onto m (trace_at id) → k ≡ stood_onto n missing_trace → k ≡ stood_onto m r.1
+stood_nothing id r m n k is first second = stood_twice m n k (trace_at id) missing_trace first second ∙ ap (λ (x : Found). stood_onto m x.1) (sym is)
 
 module _ {A : Type 0} (met : A → Trace) (all_met : List A → Trace) (met_cons : (a : A) (bs : List A) → all_met (a ∷ bs) ≡ join_traces (met a) (all_met bs))
     (xs : List A) (at : ℕ) (x : A) (is : drop at xs ≡ x ∷ drop (at + 1) xs) where

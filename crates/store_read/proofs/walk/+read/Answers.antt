@@ -1,6 +1,6 @@
 -- A record by its slot, a record of a type by what the cache has for it, and one group, element or pointer more.
-use Rattle.std.proofs.Common.{rules, ◌≡◌, ◌+◌, ◌<◌, ◌≤◌, ◌++◌, ◌∷◌, [], true, Some, IfOk, OnOk, map, length, get_or, option_map, refl, subst, sym, ap, ◌∙◌, arith}
-use Rattle.std.proofs.lemmas.Result.{on_ok_weaker}
+use Rattle.std.proofs.Common.{rules, ◌≡◌, ◌+◌, ◌<◌, ◌≤◌, ◌++◌, ◌∷◌, [], true, Some, None, IfOk, OnOk, map, length, get_or, option_map, refl, subst, sym, ap, ◌∙◌, arith}
+use Rattle.std.proofs.lemmas.Result.{IfOk-weaker, on_ok_weaker}
 use Rattle.std.specs.FinMap as finmap
 use Rattle.plan_ir.specs.gql_plain.Order.{member_at}
 use Rattle.plan_ir.specs.gql_plain.Shown.{shown_members, tree_of}
@@ -9,7 +9,7 @@ use Rattle.plan_ir.specs.store_model.Walks.{Found, element_at, elements_at, fiel
 use Rattle.plan_ir.specs.store_record.declared.record.Slot.TheVariants.{Alive}
 use Rattle.store_read.proofs.CacheSteps.{right_at, type_within}
 use Rattle.store_read.proofs.LoopSteps.{drop_at, looks_here, looks_next, met_next, shown_next, view_at, view_set}
-use Rattle.store_read.proofs.ReadSteps.{live_looks, live_met, reads_live}
+use Rattle.store_read.proofs.ReadSteps.{live_looks, live_met, nothing_met, reads_live, reads_nothing}
 use Rattle.store_read.proofs.TypeSteps.{group_within, items_within, live_shown, live_stood, live_trace, pointer_within}
 use Rattle.store_read.proofs.walk.+read.Goals as goal
 use Rattle.store_read.specs.CacheView.{group_view, pointer_view}
@@ -209,6 +209,31 @@ read_pointers-returns-in_err-read_pointer-clause-pointers g t c =
 
 -- ---- a record
 
+pub read_record-read_live-requires : goal.read_record-read_live-requires
+read_record-read_live-requires g t c =
+    let some : 0 < c.args.cache.now.levels = grind arith in
+    λ k h. (omega (arith, c.decreases), (h.0, (h.1, some)))
+
+pub read_record-returns-then-cache-eq0-clause-shown : goal.read_record-returns-then-cache-eq0-clause-shown
+read_record-returns-then-cache-eq0-clause-shown g t c =
+    let m = g.S.RecordSource.records c.args.store.now.source.now in
+    let cache = c.args.cache.now in
+    let none : cache.levels ≡ 0 = grind arith in
+    let is = reads_nothing m c.args.store.now.root.now c.args.store.now.owner.now c.args.types.now cache.parts c.args.id.now cache.levels none in
+    subst (λ (r : Found). IfOk c.lost.result (λ shown. option_map tree_of shown ≡ r.0)) (sym is) c.lost.ensures.shown
+
+pub read_record-returns-then-cache-eq0-clause-met : goal.read_record-returns-then-cache-eq0-clause-met
+read_record-returns-then-cache-eq0-clause-met g t c =
+    let m = g.S.RecordSource.records c.args.store.now.source.now in
+    let root = c.args.store.now.root.now in
+    let owner = c.args.store.now.owner.now in
+    let cache = c.args.cache.now in
+    let none : cache.levels ≡ 0 = grind arith in
+    let is = reads_nothing m root owner c.args.types.now cache.parts c.args.id.now cache.levels none in
+    let whole = reads m root owner cache.levels c.args.types.now cache.parts c.args.id.now in
+    let met : c.lost.new.met ≡ met_onto c.args.met.now whole.1 = nothing_met c.args.id.now whole c.args.met.now c.stand.new.self c.lost.new.met is c.in_ok-stand.ensures c.lost.ensures.met in
+    IfOk-weaker c.lost.result (λ shown. option_map tree_of shown ≡ None) (λ _. c.lost.new.met ≡ met_onto c.args.met.now whole.1) (λ _ _. met) c.lost.ensures.shown
+
 pub read_record-returns-in-Some-Alive-clause-shown : goal.read_record-returns-in-Some-Alive-clause-shown
 read_record-returns-in-Some-Alive-clause-shown g t c =
     let m = g.S.RecordSource.records c.args.store.now.source.now in
@@ -243,6 +268,11 @@ read_record-returns-in-Some-Alive-clause-looks g t c =
     live_looks c.args.id.now _ _ _ _ _ is c.get.ensures.looks c.read_live.ensures.looks
 
 -- ---- a live record
+
+pub read_live-place_of-requires-clause-some : goal.read_live-place_of-requires-clause-some
+read_live-place_of-requires-clause-some g t c =
+    let same : c.cache.inside.levels ≡ c.args.cache.now.levels = ap (λ (b : Caching). b.levels) c.cache.view_is in
+    omega (arith, same, c.requires.some)
 
 pub read_live-index_mut-requires : goal.read_live-index_mut-requires
 read_live-index_mut-requires g t c =

@@ -28,10 +28,10 @@ use Rattle.plan_ir.specs.store_record.declared.record.Slot.TheVariants.{Alive}
 use Rattle.store_show.proofs.ShowDepths.{leaf_deep, object_deep, pointer_deep, typename_deep}
 use Rattle.store_show.proofs.ShowItems.{field_stood, field_tokens, field_trace, marks_of, none_met, none_shown, nothing_met, nothing_written, object_items, pointer_stood, pointer_tokens, pointer_trace}
 use Rattle.store_show.proofs.ShowParts.{object_around, one_of_three, possible_shown, three_looks, three_met, three_written, two_of_three}
-use Rattle.store_show.proofs.ShowReads.{walks_live}
+use Rattle.store_show.proofs.ShowReads.{walks_live, walks_nothing}
 use Rattle.store_show.proofs.ShowSteps.{fields_met-append, fields_tokens-append, pointers_met-append, pointers_tokens-append, step_looks, step_looks_here, step_met, step_shown}
 use Rattle.store_show.proofs.ShowTokens.{led_alone, led_member, list_written, member_written, object_written, then_two}
-use Rattle.store_show.proofs.StoodSteps.{stood_live, stood_next}
+use Rattle.store_show.proofs.StoodSteps.{stood_live, stood_next, stood_nothing}
 use Rattle.store_show.specs.Showing.{below, elements_tokens, fields_of, has_pointed, identity, items_at, lead_of, led, members_at, members_met_at, next_at, object_shown_at, pairs_tokens, pointers_at, pointers_met_at, walks}
 use Rattle.store_show.specs.Spans.{span_of}
 use Rattle.store_show.specs.declared.lead.Lead.TheVariants.{Member, Alone}
@@ -402,6 +402,26 @@ show_pointers_of_step-returns-in-Pointer-clause-looks g t c =
     subst (λ n. g.S.Count.Steps.looks c.show_pointer.new.steps ≤ g.S.Count.Steps.looks c.args.steps.now + n) (pointer_stood next T id items p is) c.show_pointer.ensures.looks
 
 -- ---- a record
+
+pub show_record-returns-in_default-clause-shown : goal.show_record-returns-in_default-clause-shown
+show_record-returns-in_default-clause-shown g t c =
+    let m = g.S.RecordSource.records c.args.store.now.source.now in
+    let part = part_at c.args.part in
+    let none : c.args.levels ≡ 0 = grind arith in
+    let is = walks_nothing m c.args.store.now.root.now c.args.store.now.owner.now part.environment c.args.types.now part.steps c.args.id.now c.args.levels none in
+    subst (λ (r : Found). OnOk c.lost.result (c.lost.new.out.tokens ≡ c.args.out.now.tokens ++ led c.args.lead r.0)) (sym is) c.lost.ensures.tokens
+
+pub show_record-returns-in_default-clause-met : goal.show_record-returns-in_default-clause-met
+show_record-returns-in_default-clause-met g t c =
+    let m = g.S.RecordSource.records c.args.store.now.source.now in
+    let root = c.args.store.now.root.now in
+    let owner = c.args.store.now.owner.now in
+    let part = part_at c.args.part in
+    let none : c.args.levels ≡ 0 = grind arith in
+    let is = walks_nothing m root owner part.environment c.args.types.now part.steps c.args.id.now c.args.levels none in
+    let whole = walks m root owner part.environment c.args.levels c.args.types.now part.steps c.args.id.now in
+    let met : c.lost.new.met ≡ stood_onto c.args.met.now whole.1 = stood_nothing c.args.id.now whole c.args.met.now c.stand.new.self c.lost.new.met is c.in_ok-stand.ensures c.lost.ensures.met in
+    on_ok_weaker c.lost.result (λ _. met) c.lost.ensures.tokens
 
 pub show_record-returns-in-Some-Alive-clause-shown : goal.show_record-returns-in-Some-Alive-clause-shown
 show_record-returns-in-Some-Alive-clause-shown g t c =
