@@ -8,7 +8,7 @@ use Rattle.plan_build.proofs.Parts as nodes
 use Rattle.plan_build.specs.NodesMeaning.{ask_of_node}
 use Rattle.plan_build.specs.Steps.{are_within, types_at}
 use Rattle.plan_build.specs.Suited.{type_inside}
-use Rattle.plan_ir.specs.Additions.{additions, type_on, type_or}
+use Rattle.plan_ir.specs.Additions.{additions, type_or}
 use Rattle.plan_ir.specs.Expansion.{Project, expansion, printed_conditions, printed_directives, response_key, selections_from}
 use Rattle.plan_ir.specs.Nodes.{Nodes, end, nodes_append}
 use Rattle.plan_ir.specs.ReaderMeaning.{ReaderPart, scope_in}

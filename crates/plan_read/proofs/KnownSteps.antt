@@ -40,7 +40,6 @@ use Rattle.plan_ir.specs.schema_types.Sites.{FragmentAt, arguments_nodes, below,
 use Rattle.plan_ir.proofs.store_model_laws.SameItems.{AlikeItem, zip_append, zip_either}
 use Rattle.plan_ir.specs.store_model.Items as items
 use Rattle.plan_ir.specs.store_model.Items.{Form, Item}
-use Rattle.plan_ir.specs.store_model.Reaches.{types_of}
 
 -- ---- a field
 

@@ -16,7 +16,7 @@ use Rattle.plan_read.specs.FieldView.{field_view}
 use Rattle.plan_read.specs.Reading.{entering, reading}
 use Rattle.plan_read.specs.ReadyView.{find_in, ready_of}
 use Rattle.plan_read.specs.Steps.{inline_steps, target_step}
-use Rattle.plan_read.specs.WalkView.{below_field, inside_in, steps_in}
+use Rattle.plan_read.specs.WalkView.{below_field, inside_in}
 use Rattle.plan_read.proofs.CodeSteps.{base_below, put_field_selection, put_found, put_inline_selection, put_missing, put_no_object, put_no_type, put_none, put_one_target, steps_end, steps_next}
 use Rattle.plan_expand.proofs.Depths.{selection_below}
 use Rattle.plan_read.proofs.Depths.{spread_depth}
