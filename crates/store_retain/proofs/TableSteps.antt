@@ -6,7 +6,7 @@ use Rattle.plan_ir.specs.gql_ast.Value.{Val}
 use Rattle.plan_ir.specs.gql_plain.declared.ids.Conn.{Conn}
 use Rattle.plan_ir.specs.Normal.{Normal, depth, done, guarded}
 use Rattle.plan_ir.specs.NormalMeaning.{Plan, ask_step, below_step, collect_steps, guard_passes, object_form, type_passes, typename_ask}
-use Rattle.plan_ir.proofs.NormalLeadLaws.{again_at, lead_at, marks_counted}
+use Rattle.plan_ir.proofs.NormalLeadLaws.{again_at, lead_at}
 use Rattle.plan_ir.specs.NormalLeads.{AreAgain, lead_of, leads_of}
 use Rattle.plan_ir.specs.NormalView.{step_before, step_of, steps_of}
 use Rattle.plan_ir.specs.declared.guard.Guard.{Guard}
@@ -248,10 +248,6 @@ steps_end ps on env xs i start now whole h left =
 
 -- ---- what is known of what steps lead to
 
-pub lead_later : (first second : Parts) (env : Values) (k : Option ℕ) (lead : Option Normal) → Begins first second → IsLead first env k lead → IsLead second env k lead
-lead_later first second env None lead grows h = tt
-lead_later first second env (Some k) lead grows h = λ later begins n steps e. h later (begins_then first second later grows begins) n steps e
-
 pub lead_of_part : (ps : Parts) (env : Values) (k : ℕ) (child : Normal) (lead : Option Normal) → lead ≡ Some child → ((later : Parts) → Begins ps later → (n : ℕ) → StandsFor later n k (record { environment = env; steps = child }))
     → IsLead ps env (Some k) lead
 lead_of_part ps env k child lead is stands = λ later begins n steps e.
@@ -265,23 +261,17 @@ lead_again : (ps : Parts) (env : Values) (b : Bool) (last : Option ℕ) (before 
 lead_again ps env true last before here same h = subst (λ q. IsLead ps env last q) (same refl) h
 lead_again ps env false last before here same h = tt
 
-bit_at : (bs : List Bool) (i : ℕ) (b : Bool) → i < length bs → b ≡ get_or bs i b → b ≡ true → get_or bs i false ≡ true
-bit_at [] i b h is e = absurd (omega (arith, h))
-bit_at (d ∷ bs) zero b h is e = sym is ∙ e
-bit_at (d ∷ bs) (suc i) b h is e = bit_at bs i b (omega (arith, h)) is e
-
 lead_here : (xs : List NormalStep) (whole : Normal) (i : ℕ) (x : NormalStep) → i < length xs → x ≡ get_or xs i x → steps_of xs ≡ whole → get_or (leads_of whole) i None ≡ lead_of (step_of x)
 lead_here xs whole i x h is e =
     ap (λ (s : Normal). get_or (leads_of s) i None) (sym e) ∙ lead_at xs i x h ∙ sym (ap (λ (y : NormalStep). lead_of (step_of y)) is)
 
 -- what is known of the step at a place, where it leads to the same as the one before
-pub known_here : (ps : Parts) (env : Values) (xs : List NormalStep) (bs : List Bool) (whole : Normal) (i : ℕ) (x : NormalStep) (b : Bool) (last k : Option ℕ) → i < length xs → x ≡ get_or xs i x → steps_of xs ≡ whole
-    → AreAgain None bs (leads_of whole) → b ≡ get_or bs i b → IsLead ps env last (get_or (None ∷ leads_of whole) i None) → k ≡ cond b last None → IsLead ps env k (lead_of (step_of x))
-known_here ps env xs bs whole i x b last k h is e marks bit known made =
-    let within : i < length bs = omega (arith, h, marks_counted bs xs whole marks e) in
-    let same : b ≡ true → get_or (None ∷ leads_of whole) i None ≡ lead_of (step_of x) =
-    λ yes. again_at None bs (leads_of whole) i marks (bit_at bs i b within bit yes) ∙ lead_here xs whole i x h is e in
-    subst (λ q. IsLead ps env q (lead_of (step_of x))) (sym made) (lead_again ps env b last (get_or (None ∷ leads_of whole) i None) (lead_of (step_of x)) same known)
+pub known_here : (ps : Parts) (env : Values) (xs : List NormalStep) (bs : List Bool) (whole : Normal) (i : ℕ) (x : NormalStep) (last k : Option ℕ) → i < length xs → x ≡ get_or xs i x → steps_of xs ≡ whole
+    → AreAgain None bs (leads_of whole) → IsLead ps env last (get_or (None ∷ leads_of whole) i None) → k ≡ cond (get_or bs i false) last None → IsLead ps env k (lead_of (step_of x))
+known_here ps env xs bs whole i x last k h is e marks known made =
+    let same : get_or bs i false ≡ true → get_or (None ∷ leads_of whole) i None ≡ lead_of (step_of x) =
+    λ yes. again_at None bs (leads_of whole) i marks yes ∙ lead_here xs whole i x h is e in
+    subst (λ q. IsLead ps env q (lead_of (step_of x))) (sym made) (lead_again ps env (get_or bs i false) last (get_or (None ∷ leads_of whole) i None) (lead_of (step_of x)) same known)
 
 pub known_next : (ps : Parts) (env : Values) (xs : List NormalStep) (whole : Normal) (i : ℕ) (x : NormalStep) (k : Option ℕ) → i < length xs → x ≡ get_or xs i x → steps_of xs ≡ whole
     → IsLead ps env k (lead_of (step_of x)) → IsLead ps env k (get_or (None ∷ leads_of whole) (i + 1) None)
@@ -290,5 +280,7 @@ known_next ps env xs whole i x k h is e known =
     subst (λ j. IsLead ps env k (get_or (None ∷ leads_of whole) j None)) one (subst (λ q. IsLead ps env k q) (sym (lead_here xs whole i x h is e)) known)
 
 -- a step alone
-pub lead_alone : (xs : List NormalStep) (x : NormalStep) (whole : Normal) → xs ≡ x ∷ [] → steps_of xs ≡ whole → step_of x ≡ whole
-lead_alone xs x whole one e = sym (ap steps_of one) ∙ e
+pub lead_alone : (xs : List NormalStep) (x : NormalStep) (whole : Normal) → length xs ≡ 1 → x ≡ get_or xs 0 x → steps_of xs ≡ whole → step_of x ≡ whole
+lead_alone [] x whole h is e = absurd (omega (arith, h))
+lead_alone (y ∷ []) x whole h is e = ap (λ (z : NormalStep). step_of z) is ∙ e
+lead_alone (y ∷ z ∷ xs) x whole h is e = absurd (omega (arith, h))

@@ -54,8 +54,8 @@ pub put_steps-put_step-requires : goal.put_steps-put_step-requires
 put_steps-put_step-requires t c =
     let inside : c.steps.at < length c.as_slice-items.result.now = search rules in
     let less : depth (step_of c.index-items-at.result) ≤ depth c.args.steps.now = step_below _ _ c.steps.at c.index-items-at.result inside c.index-items-at.is c.steps.invariant.within in
-    let known = known_here (table_of c.steps.self.parts.items) c.args.env.now.values c.as_slice-items.result.now c.again-again.result.now c.args.steps.now c.steps.at c.index-items-at.result c.index-again-at.result c.steps.last c.known_again-known.result
-    inside c.index-items-at.is c.steps.invariant.within c.steps.invariant.marks c.index-again-at.is c.steps.invariant.last c.known_again-known.ensures in
+    let known = known_here (table_of c.steps.self.parts.items) c.args.env.now.values c.as_slice-items.result.now c.again-again.result.now c.args.steps.now c.steps.at c.index-items-at.result c.steps.last c.known_again-known.result
+    inside c.index-items-at.is c.steps.invariant.within c.steps.invariant.marks c.steps.invariant.last c.known_again-known.ensures in
     (omega arith, (c.steps.invariant.nothing, known))
 
 pub put_steps-steps-preserved : goal.put_steps-steps-preserved
@@ -156,3 +156,27 @@ put_below-returns-in-Some-clause-grows t c = begins_self (table_of c.args.self.n
 pub put_below-returns-in-Some-clause-stands : goal.put_below-returns-in-Some-clause-stands
 put_below-returns-in-Some-clause-stands t c = λ later begins n.
     subst (λ k. IsLead (table_of c.args.self.now.parts.items) c.args.env.now.values k (Some c.args.steps.now)) c.in-Some.is c.requires.known later begins n c.args.steps.now refl
+
+-- ---- what a guard lets
+
+pub put_let-put_step-requires : goal.put_let-put_step-requires
+put_let-put_step-requires t c =
+    let one : length c.as_slice.result.now ≡ 1 = omega arith in
+    let alone : step_of c.step-item.result ≡ c.args.steps.now = lead_alone c.as_slice.result.now c.step-item.result c.args.steps.now one c.step-item.is c.as_slice.ensures in
+    let same : depth (step_of c.step-item.result) ≡ depth c.args.steps.now = ap depth alone in
+    (omega (arith, same), (c.requires.begun, subst (λ s. IsLead (table_of c.args.self.now.parts.items) c.args.env.now.values c.args.known (lead_of s)) (sym alone) c.requires.known))
+
+pub put_let-put_steps-requires : goal.put_let-put_steps-requires
+put_let-put_steps-requires t c = (omega arith, c.requires.begun)
+
+pub put_let-returns-in-len1-clause-adds : goal.put_let-returns-in-len1-clause-adds
+put_let-returns-in-len1-clause-adds t c =
+    let one : length c.as_slice.result.now ≡ 1 = omega arith in
+    let alone : step_of c.step-item.result ≡ c.args.steps.now = lead_alone c.as_slice.result.now c.step-item.result c.args.steps.now one c.step-item.is c.as_slice.ensures in
+    subst (λ s. OnOk c.put_step.result (Adds (table_of c.put_step.new.self.parts.items) (map way_of c.args.trails.now.items) (map way_of c.put_step.new.trails.items) (asked_by c.args.on.now c.args.env.now.values s))) alone c.put_step.ensures.adds
+
+pub put_let-returns-in-len1-clause-lead : goal.put_let-returns-in-len1-clause-lead
+put_let-returns-in-len1-clause-lead t c =
+    let one : length c.as_slice.result.now ≡ 1 = omega arith in
+    let alone : step_of c.step-item.result ≡ c.args.steps.now = lead_alone c.as_slice.result.now c.step-item.result c.args.steps.now one c.step-item.is c.as_slice.ensures in
+    subst (λ s. IfOk c.put_step.result (λ number. IsLead (table_of c.put_step.new.self.parts.items) c.args.env.now.values number (lead_of s))) alone c.put_step.ensures.lead
