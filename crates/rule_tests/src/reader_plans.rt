@@ -77,11 +77,14 @@ fn put_arguments(text: &mut String, arguments: &Arguments) -> Result<(), Fail> {
     if arguments.is_empty() {
         return Ok(());
     }
-    let mut before = "(";
+    text.push_str("(")?;
+    let mut begun = false;
     for argument in &arguments.items {
-        text.push_str(before)?;
+        if begun {
+            text.push_str(",")?;
+        }
         put_argument(text, &argument.name, &argument.value)?;
-        before = ",";
+        begun = true;
     }
     Ok(text.push_str(")")?)
 }
@@ -99,23 +102,28 @@ fn put_object(
     types: &Ids,
     identified: &Ids,
     open_type: bool,
-    key: &str,
+    connection: &Option<Conn>,
 ) -> Result<(), Fail> {
     text.push_str("<")?;
     put_types(text, types, identified)?;
     text.push_str(if open_type { "?>" } else { ">" })?;
-    Ok(text.push_str(key)?)
+    if let Some(connection) = connection {
+        text.push_str(connection.key.as_str())?;
+    }
+    Ok(())
 }
 
 /// Writes a plan.
 #[cycle(plans)]
 fn put_plan(text: &mut String, steps: &ReaderSteps) -> Result<(), Fail> {
     text.push_str("{")?;
-    let mut before = "";
+    let mut begun = false;
     'steps: for step in steps.as_slice() {
-        text.push_str(before)?;
+        if begun {
+            text.push_str(" ")?;
+        }
         put_step(text, step)?;
-        before = " ";
+        begun = true;
     }
     Ok(text.push_str("}")?)
 }
@@ -139,13 +147,9 @@ fn put_step(text: &mut String, step: &ReaderStep) -> Result<(), Fail> {
             child,
             ..
         } => {
-            let key = match connection {
-                Some(connection) => connection.key.as_str(),
-                None => "",
-            };
             text.push_str(response.as_str())?;
             text.push_str(if *many { "*" } else { "" })?;
-            put_object(text, types, identified, *open_type, key)?;
+            put_object(text, types, identified, *open_type, connection)?;
             put_plan(text, &child.steps)
         }
         ReaderStep::Guarded { guard, child } => {
@@ -177,8 +181,13 @@ fn operation_plan(
     if project.operation(name.as_str()).is_none() {
         return Ok(None);
     }
-    let form = Form::Operation;
-    let plan = reader_plan(alloc, project.schema(), project.documents(), name, form)?;
+    let plan = reader_plan(
+        alloc,
+        project.schema(),
+        project.documents(),
+        name,
+        Form::Operation,
+    )?;
     Ok(Some(plan))
 }
 
@@ -192,8 +201,13 @@ fn fragment_plan(
     if project.fragment(name.as_str()).is_none() {
         return Ok(None);
     }
-    let form = Form::Fragment;
-    let plan = reader_plan(alloc, project.schema(), project.documents(), name, form)?;
+    let plan = reader_plan(
+        alloc,
+        project.schema(),
+        project.documents(),
+        name,
+        Form::Fragment,
+    )?;
     Ok(Some(plan))
 }
 

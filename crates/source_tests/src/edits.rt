@@ -116,14 +116,16 @@ fn full<S: RecordSource>(alloc: Global, map: S, steps: &mut S::Count) -> Result<
 /// Writes a list of links between blanks.
 fn put_links(ids: &OptIds, text: &mut String) -> Result<(), NoMemory> {
     text.push('[')?;
-    let mut before = "";
+    let mut begun = false;
     for id in ids.as_slice() {
-        text.push_str(before)?;
+        if begun {
+            text.push(' ')?;
+        }
         match id {
             Some(id) => text.push_str(id.as_str())?,
             None => text.push_str("null")?,
         }
-        before = " ";
+        begun = true;
     }
     Ok(text.push(']')?)
 }
