@@ -9,7 +9,7 @@ use Rattle.plan_ir.specs.Normal.{normal_append}
 use Rattle.plan_ir.specs.NormalLeads.{last_lead, lead_of}
 use Rattle.plan_ir.specs.NormalView.{step_of, steps_of}
 
-pub invariant_of-self-2 : goal.invariant_of-self-3
+pub invariant_of-self-2 : goal.invariant_of-self-2
 invariant_of-self-2 c =
     let xs = c.self.inside.items.items in
     let grown : c.push_reserved.new.self.items ≡ xs ++ c.args.step ∷ [] = c.push_reserved.ensures.items ∙ ap (λ ys. ys ++ c.args.step ∷ []) c.in_ok-reserve.ensures.items in
