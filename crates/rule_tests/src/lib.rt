@@ -17,6 +17,8 @@ mod plans;
 #[cfg(test)]
 mod projects;
 #[cfg(test)]
+mod reader_plans;
+#[cfg(test)]
 mod relay_rows;
 #[cfg(test)]
 mod rows;
