@@ -27,7 +27,7 @@ use Rattle.plan_ir.specs.gql_syntax.Places.{file_place, place_nodes}
 use Rattle.plan_ir.specs.gql_syntax.Texts.{nesting_limit}
 use Rattle.json.proofs.Printed.Utf8.{are_ascii, IsUtf8-are_ascii}
 use Rattle.plan_project.specs.Expansions.{merge_fault, size_rules}
-use Rattle.plan_project.specs.Projects.{document_rules}
+use Rattle.plan_ir.specs.relay_dirs.RelayRules.{document_rules}
 use Rattle.relay_machine.specs.Bulk.{bulk_document, bulk_schema}
 use Rattle.plan_ir.specs.schema_rules.Checked.{IsSound}
 use Rattle.plan_ir.specs.schema_types.DocumentRules.{Meet}

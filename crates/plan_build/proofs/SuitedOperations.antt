@@ -11,12 +11,12 @@ use Rattle.plan_build.proofs.CovarianceRoots.{root_is_object}
 use Rattle.plan_build.proofs.CovarianceRules.{SchemaMeets, sound_meets}
 use Rattle.plan_build.proofs.SuitedNodes.{expanded}
 use Rattle.plan_build.proofs.SuitedRules.{Meets, SiteMeets, all_meet}
-use Rattle.plan_build.specs.Laws.{MeetsRules, OperationsAreSuited, definitions, rules}
+use Rattle.plan_build.specs.Laws.{MeetsRules, OperationsAreSuited, definitions}
 use Rattle.plan_build.specs.Suited.{Suited}
 use Rattle.plan_ir.specs.Expansion.{Project, expansion, is_named, name_or, operation_from, operation_named, project_of, spreads_in}
 use Rattle.plan_ir.specs.Substitution.{operation_scope}
 use Rattle.plan_ir.specs.relay_dirs.Connections.{connections_wrong, type_wrong_at}
-use Rattle.plan_ir.specs.relay_dirs.RelayRules.{relay_rules}
+use Rattle.plan_ir.specs.relay_dirs.RelayRules.{document_rules, relay_rules}
 use Rattle.plan_ir.specs.schema_rules.Checked.{IsSound}
 use Rattle.plan_ir.specs.schema_rules.Rules.{is_object}
 use Rattle.plan_ir.specs.schema_rules.declared.fault.Rule.{Rule}
@@ -150,9 +150,9 @@ record DocumentsMeet (defs : Defs) (ds : List DefinitionAt) : Type 0 where
   arguments : arguments_wrong defs ds ≡ []
   connections : connections_wrong defs ds ≡ []
 
-documents_meet : (defs : Defs) (ds : List DefinitionAt) → first_broken (rules defs ds) ≡ None → DocumentsMeet defs ds
+documents_meet : (defs : Defs) (ds : List DefinitionAt) → first_broken (document_rules defs ds) ≡ None → DocumentsMeet defs ds
 documents_meet defs ds e =
-    let names = all_parts (λ (r : Rule × List ℕ). r.1 ≡ []) (name_rules defs ds) (field_rules defs ds ++ (argument_rules defs ds ++ relay_rules defs ds)) (all_hold (rules defs ds) e) in
+    let names = all_parts (λ (r : Rule × List ℕ). r.1 ≡ []) (name_rules defs ds) (field_rules defs ds ++ (argument_rules defs ds ++ relay_rules defs ds)) (all_hold (document_rules defs ds) e) in
     let fields = all_parts (λ (r : Rule × List ℕ). r.1 ≡ []) (field_rules defs ds) (argument_rules defs ds ++ relay_rules defs ds) names.1 in
     let arguments = all_parts (λ (r : Rule × List ℕ). r.1 ≡ []) (argument_rules defs ds) (relay_rules defs ds) fields.1 in
     record { roots = names.0.1.1.1.1.1.0; defined = fields.0.0; sets = fields.0.1.0; arguments = arguments.0.0; connections = arguments.1.1.1.1.1.1.0 }

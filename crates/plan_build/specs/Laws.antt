@@ -1,5 +1,5 @@
 -- What holds of expanded operations and of their plans.
-use Rattle.std.specs.Prelude.{◌≡◌, ℕ, List, [], ◌∷◌, ◌++◌, Some, None}
+use Rattle.std.specs.Prelude.{◌≡◌, ℕ, List, [], ◌∷◌, Some, None}
 use Rattle.plan_ir.specs.gql_ast.declared.document.Document.{Document}
 use Rattle.plan_ir.specs.gql_ast.declared.place.FilePlace.{FilePlace}
 use Rattle.plan_ir.specs.gql_ast.declared.place.Placed.{Placed}
@@ -13,12 +13,12 @@ use Rattle.plan_ir.specs.Expansion.{Project, operation_named, project_of, whole_
 use Rattle.plan_ir.specs.Normal.{Normal}
 use Rattle.plan_ir.specs.NormalMeaning.{plan_says}
 use Rattle.plan_ir.specs.NormalReach.{plan_reaches}
-use Rattle.plan_ir.specs.relay_dirs.RelayRules.{relay_rules}
+use Rattle.plan_ir.specs.relay_dirs.RelayRules.{document_rules}
 use Rattle.relay_model.specs.Reaches.{operation_reaches}
 use Rattle.relay_model.specs.Responses.{operation_says}
 use Rattle.plan_ir.specs.schema_rules.Checked.{IsSound}
 use Rattle.plan_ir.specs.schema_tables.Types.{Text, Defs}
-use Rattle.plan_ir.specs.schema_types.DocumentRules.{Rules, argument_rules, field_rules, name_rules, trees_of}
+use Rattle.plan_ir.specs.schema_types.DocumentRules.{trees_of}
 use Rattle.plan_ir.specs.schema_types.Environments.{Values}
 use Rattle.plan_ir.specs.schema_types.NameRules.{operations}
 use Rattle.plan_ir.specs.schema_types.Sites.{DefinitionAt, OperationAt, all_definitions}
@@ -30,15 +30,12 @@ abbrev pub DocumentsAreNodes : Type 0
 DocumentsAreNodes = (p : Project) (place : FilePlace) (o : OperationAt) (own : Values) (response : J.Data)
     → operation_says p place o own response ≡ nodes_say p.defs (whole_operation p o).expanded own response
 
--- V1 to V22
-abbrev pub rules : Defs → List DefinitionAt → Rules
-rules defs ds = name_rules defs ds ++ (field_rules defs ds ++ (argument_rules defs ds ++ relay_rules defs ds))
-
+-- all definitions of documents, with the numbers of their nodes
 abbrev pub definitions : Defs → List (Placed Document) → List DefinitionAt
 definitions defs ps = all_definitions defs (trees_of ps)
 
 abbrev pub MeetsRules : Defs → List (Placed Document) → Type 0
-MeetsRules defs ps = first_broken (rules defs (definitions defs ps)) ≡ None
+MeetsRules defs ps = first_broken (document_rules defs (definitions defs ps)) ≡ None
 
 -- the expansion of an operation of documents that meet V1 to V22 is suited
 abbrev pub OperationsAreSuited : Type 0

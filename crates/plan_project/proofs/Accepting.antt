@@ -21,7 +21,8 @@ use Rattle.plan_project.proofs.SoundProjects.{operation_found}
 use Rattle.plan_project.proofs.SpreadChains.{none_each}
 use Rattle.plan_project.specs.Expansions.{differences_at, merge_fault, values_unfit_at, whole_at, whole_of_operation}
 use Rattle.plan_project.specs.Lookups.{fragment_in, operation_in}
-use Rattle.plan_project.specs.Projects.{IsAccepted, IsAcceptedProject, document_rules}
+use Rattle.plan_ir.specs.relay_dirs.RelayRules.{document_rules}
+use Rattle.plan_project.specs.Projects.{IsAccepted, IsAcceptedProject}
 use Rattle.plan_ir.specs.schema_rules.declared.fault.Rule.{Rule}
 use Rattle.plan_ir.specs.schema_tables.Types.{Text, Defs, is_composite, possible, root}
 use Rattle.plan_ir.specs.schema_trees.Located.{Located}

@@ -4,12 +4,12 @@ use Rattle.plan_ir.specs.gql_ast.declared.document.Document.{Document}
 use Rattle.plan_ir.specs.gql_ast.declared.place.Placed.{Placed}
 use Rattle.plan_project.specs.Expansions.{size_rules}
 use Rattle.plan_project.specs.Noting.{IsFaultOfDocuments, IsFaultOfExpansions}
-use Rattle.plan_project.specs.Projects.{document_rules, node_rules}
+use Rattle.plan_project.specs.Projects.{node_rules}
 use Rattle.plan_project.specs.declared.fault.DocumentsFault.{DocumentsFault}
 use Rattle.plan_project.specs.declared.fault.DocumentsFault.TheVariants as D
 use Rattle.plan_ir.specs.gql_graph.Rules.{first_broken}
 use Rattle.plan_ir.proofs.gql_graph_laws.LeastSteps.{first_before, first_after}
-use Rattle.plan_ir.specs.relay_dirs.RelayRules.{relay_rules}
+use Rattle.plan_ir.specs.relay_dirs.RelayRules.{document_rules, relay_rules}
 use Rattle.plan_ir.specs.schema_types.DocumentRules.{Rules, name_rules, field_rules, argument_rules, trees_of, Meet, BreakRule, AreFaulty}
 use Rattle.plan_ir.specs.schema_types.Sites.{DefinitionAt, all_definitions}
 use Rattle.plan_ir.specs.schema_tables.Types.{Defs}

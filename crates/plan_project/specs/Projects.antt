@@ -17,9 +17,9 @@ use Rattle.plan_ir.specs.gql_graph.Rules.{first_broken}
 use Rattle.plan_project.specs.Expansions.{merge_fault, size_rules}
 use Rattle.plan_project.specs.Faults.{fault_at, IsFound}
 use Rattle.plan_project.specs.declared.fault.ProjectFault.{ProjectFault}
-use Rattle.plan_ir.specs.relay_dirs.RelayRules.{relay_rules}
+use Rattle.plan_ir.specs.relay_dirs.RelayRules.{document_rules}
 use Rattle.plan_ir.specs.schema_rules.Checked.{IsSound, first_fault}
-use Rattle.plan_ir.specs.schema_types.DocumentRules.{Rules, name_rules, field_rules, argument_rules, trees_of, places_of, Meet}
+use Rattle.plan_ir.specs.schema_types.DocumentRules.{Rules, trees_of, places_of, Meet}
 use Rattle.plan_ir.specs.schema_types.Sites.{DefinitionAt, all_definitions}
 use Rattle.plan_ir.specs.schema_tables.Types.{Text, Defs}
 use Rattle.plan_ir.specs.schema_rules.declared.fault.Rule.{Rule}
@@ -37,11 +37,7 @@ pub record AreTrees (schema : Text) (texts : List Text) (tree : Placed SchemaTre
   pub schema_is : IsSchema 0 schema tree
   pub documents_are : AreDocuments 1 texts ps
 
--- all rules on documents themselves, in their order
-abbrev pub document_rules : Defs → List DefinitionAt → Rules
-document_rules defs ds = name_rules defs ds ++ (field_rules defs ds ++ (argument_rules defs ds ++ relay_rules defs ds))
-
--- and then those on the sizes of what operations and fragments become
+-- all rules on documents themselves, and then those on the sizes of what operations and fragments become
 abbrev pub node_rules : Defs → List (Placed Document) → Rules
 node_rules defs ps = document_rules defs (all_definitions defs (trees_of ps)) ++ size_rules defs ps
 

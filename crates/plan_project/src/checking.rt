@@ -4,7 +4,7 @@ ghost use Rattle.plan_ir.specs.doc_sites.Definitions.{AreIn};
 ghost use Rattle.plan_ir.specs.gql_graph.Rules.{first_broken};
 ghost use Rattle.plan_project.specs.Expansions.{merge_fault, size_rules};
 ghost use Rattle.plan_project.specs.Noting.{IsFaultOfDocuments};
-ghost use Rattle.plan_project.specs.Projects.{document_rules};
+ghost use Rattle.plan_ir.specs.relay_dirs.RelayRules.{document_rules};
 ghost use Rattle.plan_ir.specs.schema_types.DocumentRules.{Meet, AreFaulty};
 
 use crate::expansions::check_expansions;

@@ -8,11 +8,11 @@ use Rattle.plan_ir.specs.gql_ast.declared.place.Placed.{Placed}
 use Rattle.plan_ir.specs.gql_graph.Rules.{each}
 use Rattle.plan_build.proofs.CovarianceLists.{all_hold, all_joined, all_parts, first_true, none_each, none_first, none_then, right, then_true}
 use Rattle.plan_build.proofs.SuitedNodes.{fragment_holds}
-use Rattle.plan_build.specs.Laws.{MeetsRules, definitions, rules}
+use Rattle.plan_build.specs.Laws.{MeetsRules, definitions}
 use Rattle.plan_ir.specs.Expansion.{project_of}
 use Rattle.plan_read.proofs.KnownDocuments.{AreConstant, HaveConstants, IsConstant}
 use Rattle.plan_ir.specs.relay_dirs.Locals.{Local, as_list, defines_locals, local_at, local_of, locals_at, locals_of}
-use Rattle.plan_ir.specs.relay_dirs.RelayRules.{default_fits, directives_of_fragment, is_good_local, local_wrong, locals_wrong, locals_wrong_in, relay_rules}
+use Rattle.plan_ir.specs.relay_dirs.RelayRules.{document_rules, default_fits, directives_of_fragment, is_good_local, local_wrong, locals_wrong, locals_wrong_in, relay_rules}
 use Rattle.plan_ir.specs.schema_rules.declared.fault.Rule.{Rule}
 use Rattle.plan_ir.specs.schema_tables.Fits.{literal_fits}
 use Rattle.plan_ir.specs.schema_tables.Types.{Defs}
@@ -63,7 +63,7 @@ module _ (defs : Defs) where
 locals_meet : (defs : Defs) (ps : List (Placed Document)) → MeetsRules defs ps → locals_wrong defs (definitions defs ps) ≡ []
 locals_meet defs ps meet =
     let ds : List DefinitionAt = definitions defs ps in
-    let names = all_parts (λ (r : Rule × List ℕ). r.1 ≡ []) (name_rules defs ds) (field_rules defs ds ++ (argument_rules defs ds ++ relay_rules defs ds)) (all_hold (rules defs ds) meet) in
+    let names = all_parts (λ (r : Rule × List ℕ). r.1 ≡ []) (name_rules defs ds) (field_rules defs ds ++ (argument_rules defs ds ++ relay_rules defs ds)) (all_hold (document_rules defs ds) meet) in
     let fields = all_parts (λ (r : Rule × List ℕ). r.1 ≡ []) (field_rules defs ds) (argument_rules defs ds ++ relay_rules defs ds) names.1 in
     (all_parts (λ (r : Rule × List ℕ). r.1 ≡ []) (argument_rules defs ds) (relay_rules defs ds) fields.1).1.0
 

@@ -1,8 +1,8 @@
 -- The rules on the directives after Relay and on aliases, in their order. Each is the list of the places where it does not hold.
-use Rattle.std.specs.Prelude.{ℕ, Bool, true, false, not, ◌&&◌, ◌||◌, cond, List, [], ◌∷◌, codes, Option, Some, None, bytes_eq}
+use Rattle.std.specs.Prelude.{ℕ, Bool, true, false, not, ◌&&◌, ◌||◌, cond, List, [], ◌∷◌, ◌++◌, codes, Option, Some, None, bytes_eq}
 use Rattle.gql_syntax.specs.gql_ast.Value.{Val, truth}
 use Rattle.schema_values.specs.schema_types.ArgumentRules.{is_input_type}
-use Rattle.schema_values.specs.schema_types.DocumentRules.{Rules}
+use Rattle.schema_values.specs.schema_types.DocumentRules.{Rules, argument_rules, field_rules, name_rules}
 use Rattle.schema_values.specs.schema_tables.Fits.{literal_fits}
 use Rattle.schema_values.specs.schema_trees.Located.{Located}
 use Rattle.schema_values.specs.schema_types.NameRules.{sites_of}
@@ -84,3 +84,7 @@ abbrev pub relay_rules : Defs → List DefinitionAt → Rules
 relay_rules defs ds =
     (R.V17, locals_wrong defs ds) ∷ (R.V18, spreads_wrong defs ds) ∷ (R.V19, masks_wrong ds) ∷ (R.V20, aliases_wrong ds)
     ∷ (R.V21, keys_wrong defs ds) ∷ (R.V22, connections_wrong defs ds) ∷ []
+
+-- all rules on documents themselves, in their order: V1 to V22
+abbrev pub document_rules : Defs → List DefinitionAt → Rules
+document_rules defs ds = name_rules defs ds ++ (field_rules defs ds ++ (argument_rules defs ds ++ relay_rules defs ds))

@@ -5,7 +5,7 @@ use Rattle.plan_ir.specs.doc_sites.SitesView.{definition_of}
 use Rattle.plan_project.proofs.RuleLaws.{expansions_faulty, rules_broken}
 use Rattle.plan_project.proofs.checking.check_documents.Goals as goal
 use Rattle.plan_project.specs.Noting.{IsFaultOfDocuments, IsFaultOfExpansions}
-use Rattle.plan_project.specs.Projects.{document_rules}
+use Rattle.plan_ir.specs.relay_dirs.RelayRules.{document_rules}
 use Rattle.plan_project.specs.declared.fault.DocumentsFault.TheVariants as D
 use Rattle.plan_ir.specs.schema_rules.declared.fault.NodeFault.{NodeFault}
 use Rattle.plan_ir.specs.schema_types.DocumentRules.{AreFaulty}
