@@ -1,5 +1,10 @@
 //! The keys that reads look at.
-ghost use Rattle.masked_keys.specs.Laws.{FragmentsLookAtTheirKeys, OperationsLookAtTheirKeys};
+ghost use Rattle.masked_keys.specs.Laws.{
+  FragmentPlansLookAtTheirKeys,
+  FragmentsLookAtTheirKeys,
+  OperationPlansLookAtTheirKeys,
+  OperationsLookAtTheirKeys,
+};
 
 /// Law: each key that the read of an operation looks at is that of a field which stands in the
 /// operation's text, in that of a spread with `@relay(mask: false)`, or in that of an `@inline`
@@ -12,4 +17,14 @@ pub fn operations_look_at_their_keys()
 /// text, and so on in the same way. No text of another fragment counts.
 pub fn fragments_look_at_their_keys()
     ensures { FragmentsLookAtTheirKeys }
+{}
+
+/// Law: a read by the plan of an operation of an accepted project looks at these keys alone.
+pub fn operation_plans_look_at_their_keys()
+    ensures { OperationPlansLookAtTheirKeys }
+{}
+
+/// Law: a read by the plan of a fragment of an accepted project looks at these keys alone.
+pub fn fragment_plans_look_at_their_keys()
+    ensures { FragmentPlansLookAtTheirKeys }
 {}
