@@ -265,5 +265,5 @@ says defs ps a name = on (operation_named (operations (definitions_in defs ps)) 
               (operation_utf8 w.expanded s.name s.variables s.directives s.selections) (shallow_text w s.within fit.shallow),
         )
 
-pub says_named : (defs : Defs) (ps : List (Placed Document)) → IsAcceptedProject defs ps → (name : Text) (text : Option Text) → text ≡ text_named defs ps name → SaysNamed defs ps name text
-says_named defs ps a name text is = subst (λ t. SaysNamed defs ps name t) (sym is) (says defs ps a name)
+pub says_named : (defs : Defs) (ps : List (Placed Document)) → IsAcceptedProject defs ps → (name : Text) (given : Option Text) → given ≡ text_named defs ps name → SaysNamed defs ps name given
+says_named defs ps a name given is = subst (λ g. SaysNamed defs ps name g) (sym is) (says defs ps a name)
