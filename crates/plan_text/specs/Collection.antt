@@ -1,7 +1,7 @@
 -- Collection along the syntax trees of documents (GraphQL, October 2021, section 6.3.2): what selections ask of an object of a type, in an
 -- environment. The whole form enters each spread that applies, and has the fields that are added; the masked form enters those alone that are
 -- not masked, and gives a pointer for each other one.
-use Rattle.std.specs.Prelude.{ℕ, zero, suc, Bool, true, false, ◌||◌, ◌&&◌, cond, List, [], ◌∷◌, ◌++◌, map, codes, Option, Some, None, option_map, bytes_eq}
+use Rattle.std.specs.Prelude.{ℕ, zero, suc, Bool, true, false, ◌||◌, ◌&&◌, cond, List, [], ◌∷◌, ◌++◌, codes, Option, Some, None, option_map, bytes_eq}
 use Rattle.std.specs.List.{filter, list_any}
 use Rattle.plan_ir.specs.gql_ast.Sels as sels
 use Rattle.plan_ir.specs.gql_ast.Sels.{Sels}
@@ -22,7 +22,7 @@ use Rattle.plan_ir.specs.schema_tables.Types.{Text, Defs, base_of, has_id, is_co
 use Rattle.plan_ir.specs.schema_types.Environments.{Values, arguments_in_environment}
 use Rattle.plan_ir.specs.schema_types.NameRules.{fragment_named}
 use Rattle.plan_ir.specs.schema_types.Sites.{DirectiveAt, FragmentAt, OperationAt, field_type}
-use Rattle.plan_ir.specs.store_model.Items.{Ask, Asked, Below, Collect, Connection, Form, Item, Pointer, asked, pointed, typename, leaf, one, many}
+use Rattle.plan_ir.specs.store_model.Items.{Ask, Below, Collect, Connection, Form, Item, asked, pointed, typename, leaf, one, many}
 
 -- ---- what stands under a field of an object type
 

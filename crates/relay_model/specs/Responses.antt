@@ -1,5 +1,5 @@
 -- What a response says to an operation of the documents: its first fault, or its facts and pages.
-use Rattle.std.specs.Prelude.{List, [], ◌∷◌}
+use Rattle.std.specs.Prelude.{[], ◌∷◌}
 use Rattle.plan_ir.specs.gql_ast.declared.place.FilePlace.{FilePlace}
 use Rattle.plan_ir.specs.Expansion.{Project, name_or}
 pub use Rattle.plan_text.specs.Collection.{whole_setting}
