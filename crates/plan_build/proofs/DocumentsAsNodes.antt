@@ -1,20 +1,19 @@
 -- A response says to an operation of the documents what it says to the operation's expansion.
 use Rattle.std.proofs.Common.{◌≡◌, ℕ, zero, suc, true, cond, List, [], ◌∷◌, ◌++◌, refl, sym, ap, subst, ◌∙◌, append_assoc, inl, inr}
 use Rattle.std.specs.List.{AllByRecursion, AllZip}
-use Rattle.plan_ir.specs.gql_ast.Sels as sels
-use Rattle.plan_ir.specs.gql_ast.Sels.{Sels, sels_append}
-use Rattle.plan_ir.specs.gql_ast.declared.directive.Directive.{Directive}
+use Rattle.plan_ir.specs.gql_ast.Sels.{Sels}
 use Rattle.plan_build.proofs.BareNodes.{AreBare}
-use Rattle.plan_build.proofs.ItemsAsNodes.{AlikeItems, Comes, bare_items, items, items_at_spread, setting}
+use Rattle.plan_build.proofs.ItemsAsNodes.{AlikeItems, Comes, bare_items, items}
 use Rattle.plan_build.specs.Laws.{DocumentsAreNodes}
 use Rattle.plan_build.specs.NodesMeaning.{Set, ask_of_node, collect_nodes, collect_nodes_in, nodes_say}
 use Rattle.plan_ir.specs.Expansion.{expansion, name_or, operation_from, spreads_in, whole_operation}
 use Rattle.plan_ir.specs.Nodes.{Nodes, end, field, inline, nodes_append}
 use Rattle.plan_ir.specs.Substitution.{operation_scope}
 use Rattle.relay_model.proofs.plan_text_laws.Collects.{nodes_append-end, sels_append-end}
-use Rattle.relay_model.specs.plan_text.Collecting.{Around, applies, is_left_out, with_additions}
+use Rattle.relay_model.proofs.plan_text_laws.WholeForm.{Around, in-append, items_at_spread, setting}
+use Rattle.relay_model.specs.plan_text.Collecting.{applies, is_left_out, with_additions}
 use Rattle.relay_model.specs.plan_text.Printed.{printed_selections}
-use Rattle.relay_model.specs.Collection.{Part, ask_of, collect, collect_in, collect_with, part_of}
+use Rattle.relay_model.specs.Collection.{Part, collect, collect_in, part_of}
 use Rattle.relay_model.specs.Responses.{operation_says}
 use Rattle.plan_ir.specs.schema_tables.Types.{Text, Defs, root}
 use Rattle.plan_ir.specs.schema_types.Environments.{Values}
@@ -28,27 +27,6 @@ use Rattle.plan_ir.specs.store_model.Reaches.{types_of}
 use Rattle.plan_ir.specs.store_model.Verdicts.{verdict}
 
 -- ---- one set behind another
-
-with-append : (enter : Text → List Directive → List (Item Part)) (defs : Defs) (T : Text) (k : ℕ) (env : Values) (s t : Sels)
-    → collect_with enter defs T k env (sels_append s t) ≡ collect_with enter defs T k env s ++ collect_with enter defs T k env t
-with-append enter defs T k env sels.end t = refl
-with-append enter defs T k env (sels.field a n xs ds s rest) t =
-    let first : List (Item Part) = cond (is_left_out env ds) [] (asked (record { ask = ask_of defs T env a n xs ds; part = record { spreads = k; environment = env; selections = s } }) ∷ []) in
-    ap (λ z. first ++ z) (with-append enter defs T k env rest t)
-    ∙ sym (append_assoc first (collect_with enter defs T k env rest) (collect_with enter defs T k env t))
-with-append enter defs T k env (sels.spread n ds rest) t =
-    let first : List (Item Part) = cond (is_left_out env ds) [] (enter n ds) in
-    ap (λ z. first ++ z) (with-append enter defs T k env rest t)
-    ∙ sym (append_assoc first (collect_with enter defs T k env rest) (collect_with enter defs T k env t))
-with-append enter defs T k env (sels.inline o ds s rest) t =
-    let first : List (Item Part) = cond (is_left_out env ds) [] (cond (applies defs o T) (collect_with enter defs T k env s) []) in
-    ap (λ z. first ++ z) (with-append enter defs T k env rest t)
-    ∙ sym (append_assoc first (collect_with enter defs T k env rest) (collect_with enter defs T k env t))
-
-in-append : (k : ℕ) (w : Around) (T : Text) (env : Values) (s t : Sels)
-    → collect_in k (setting w) T env (sels_append s t) ≡ collect_in k (setting w) T env s ++ collect_in k (setting w) T env t
-in-append zero w T env s t = with-append (items_at_spread zero w T env) w.project.defs T zero env s t
-in-append (suc k) w T env s t = with-append (items_at_spread (suc k) w T env) w.project.defs T (suc k) env s t
 
 nodes-append : (defs : Defs) (T : Text) (env : Values) (s t : Nodes) → collect_nodes_in defs T env (nodes_append s t) ≡ collect_nodes_in defs T env s ++ collect_nodes_in defs T env t
 nodes-append defs T env end t = refl

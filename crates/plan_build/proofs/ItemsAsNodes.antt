@@ -18,43 +18,18 @@ use Rattle.plan_ir.specs.Substitution.{Arguments, Scope, scope_at_spread, substi
 use Rattle.relay_model.proofs.plan_text_laws.AddedFields.{all_added}
 use Rattle.relay_model.proofs.plan_text_laws.Collects.{not_printed}
 use Rattle.relay_model.proofs.plan_text_laws.Evaluating.{Means, means_inside}
-use Rattle.relay_model.specs.plan_text.Collecting.{Around, applies, environment_inside, fragment_selections, is_left_out, with_additions}
+use Rattle.relay_model.proofs.plan_text_laws.WholeForm.{Around, fragment_selections, items_at_spread, items_of_spread, setting, zip_kept, zip_where}
+use Rattle.relay_model.specs.plan_text.Collecting.{applies, environment_inside, is_left_out, with_additions}
 use Rattle.relay_model.specs.plan_text.Printed.{alias_of, printed_arguments, printed_directives, printed_selections}
 use Rattle.plan_ir.specs.relay_dirs.Connections.{connection_among}
-use Rattle.relay_model.specs.Collection.{Part, Setting, ask_of, collect_in, collect_with, connection_asked, enter_where, form_on, spread_items}
-use Rattle.relay_model.specs.Responses.{whole_setting}
+use Rattle.relay_model.specs.Collection.{Part, ask_of, collect_in, collect_with, connection_asked, form_on}
 use Rattle.plan_ir.specs.schema_tables.Types.{Text, base_of}
 use Rattle.plan_ir.specs.schema_trees.Located.{directives_nodes}
 use Rattle.plan_ir.specs.schema_types.Environments.{Values, arguments_in_environment}
 use Rattle.plan_ir.specs.schema_types.NameRules.{fragment_named}
 use Rattle.plan_ir.specs.schema_types.Sites.{FragmentAt, arguments_nodes, below, condition_or, field_type, head_nodes, optional_name_nodes, selections_nodes}
-use Rattle.plan_ir.proofs.store_model_laws.SameItems.{AlikeItem, zip_append}
+use Rattle.plan_ir.proofs.store_model_laws.SameItems.{AlikeItem}
 use Rattle.plan_ir.specs.store_model.Items.{Item, asked}
-
--- what one condition leaves out, and what is behind it
-zip_kept : {X Y : Type 0} (r : X → Y → Type 0) (b c : Bool) → b ≡ c → (xs : List X) (ys : List Y) (more : List X) (others : List Y) → AllZip r xs ys → AllZip r more others
-    → AllZip r (cond b [] xs ++ more) (cond c [] ys ++ others)
-zip_kept r true true e xs ys more others here later = later
-zip_kept r true false e xs ys more others here later = absurd cc
-zip_kept r false true e xs ys more others here later = absurd cc
-zip_kept r false false e xs ys more others here later = zip_append r xs ys more others here later
-
-zip_where : {X Y : Type 0} (r : X → Y → Type 0) (b : Bool) (xs : List X) (ys : List Y) → AllZip r xs ys → AllZip r (cond b xs []) (cond b ys [])
-zip_where r true xs ys h = h
-zip_where r false xs ys h = tt
-
--- by the whole form
-abbrev pub setting : Around → Setting
-setting w = whole_setting w.project w.place w.own
-
--- what a fragment that is spread gives, where so many spreads may be entered inside it
-abbrev pub items_of_spread : (spreads : ℕ) → Around → (object : Text) → Values → List Directive → Option FragmentAt → List (Item Part)
-items_of_spread k w T env ds f = enter_where (spread_items (setting w) k (λ part. collect_in k (setting w) T part.environment part.selections) env ds) w.project.defs T f
-
--- what a spread gives, where it may be one of so many
-abbrev pub items_at_spread : (spreads : ℕ) → Around → (object : Text) → Values → Text → List Directive → List (Item Part)
-items_at_spread zero w T env n ds = []
-items_at_spread (suc k) w T env n ds = items_of_spread k w T env ds (fragment_named w.project.fragments n)
 
 -- what the selections of a fragment that is spread become
 abbrev nodes_inside : (spreads : ℕ) → Around → Scope → List Directive → FragmentAt → Nodes

@@ -3,7 +3,6 @@ use Rattle.std.proofs.Common.{◌≡◌, ℕ, zero, suc, ◌+◌, ◌≤◌, Boo
 use Rattle.plan_ir.specs.gql_ast.Sels as sels
 use Rattle.plan_ir.specs.gql_ast.Sels.{Sels}
 use Rattle.plan_ir.specs.gql_ast.declared.directive.Directive.{Directive}
-use Rattle.plan_build.proofs.ItemsAsNodes.{items_at_spread, items_of_spread, setting}
 use Rattle.plan_build.proofs.ReachDepths.{ItemWithin, walk_enough}
 use Rattle.plan_build.specs.NodesMeaning.{Set, ask_of_node, collect_nodes, collect_nodes_in}
 use Rattle.plan_ir.specs.Nodes as nodes
@@ -12,7 +11,8 @@ use Rattle.plan_ir.specs.Normal as n
 use Rattle.plan_ir.specs.Normal.{Normal}
 use Rattle.plan_ir.specs.NormalMeaning.{Plan, collect_plan, collect_steps, guard_passes}
 use Rattle.plan_ir.specs.NormalReach.{plan_reaches, records_below}
-use Rattle.relay_model.specs.plan_text.Collecting.{Around, applies, environment_inside, fragment_selections, is_left_out}
+use Rattle.relay_model.proofs.plan_text_laws.WholeForm.{Around, fragment_selections, items_at_spread, items_of_spread, setting}
+use Rattle.relay_model.specs.plan_text.Collecting.{applies, environment_inside, is_left_out}
 use Rattle.relay_model.specs.Collection.{Part, ask_of, collect, collect_in, collect_with, selections_of}
 use Rattle.relay_model.specs.Reaches.{part_reaches, whole_depth}
 use Rattle.relay_model.specs.Readings.{depth_inside, depth_with}

@@ -5,7 +5,6 @@ use Rattle.plan_ir.specs.gql_ast.declared.place.FilePlace.{FilePlace}
 use Rattle.plan_ir.proofs.gql_plain_laws.Booleans.{both_ways}
 use Rattle.plan_ir.specs.gql_plain.Order.{has_text}
 use Rattle.plan_build.proofs.DocumentsAsNodes.{AllCome, kept, operation_comes}
-use Rattle.plan_build.proofs.ItemsAsNodes.{setting}
 use Rattle.plan_build.proofs.Meaning.{ArePlans, plans_keep, root_plans}
 use Rattle.plan_build.proofs.PartDepths.{nodes_enough, plan_enough, selections_enough}
 use Rattle.plan_build.proofs.SoundTypes.{are_sound}
@@ -18,7 +17,7 @@ use Rattle.plan_ir.specs.Nodes.{set_depth}
 use Rattle.plan_ir.specs.NormalMeaning.{Plan, collect_plan}
 use Rattle.plan_ir.specs.NormalReach.{plan_reaches, records_below}
 use Rattle.plan_ir.specs.declared.expanded.Expanded.{Expanded}
-use Rattle.relay_model.specs.plan_text.Collecting.{Around}
+use Rattle.relay_model.proofs.plan_text_laws.WholeForm.{Around, setting}
 use Rattle.relay_model.specs.Collection.{Part, collect, part_of}
 use Rattle.relay_model.specs.Reaches.{operation_reaches, whole_depth}
 use Rattle.plan_ir.specs.schema_rules.Checked.{IsSound}

@@ -32,9 +32,11 @@ use Rattle.plan_project.proofs.SoundProjects.{Named, fragments_meet, fragments_s
 use Rattle.plan_project.proofs.SoundTrees.{SoundArguments, SoundDirectives, SoundMembers, SoundValue, SoundValues, SoundVariable}
 use Rattle.plan_project.proofs.SpreadChains.{Meets, all_bounded, all_map, names_of, none_each}
 use Rattle.plan_project.proofs.Utf8Texts.{operation_utf8}
-use Rattle.plan_project.specs.Expansions.{name_node, node_of, size_rules, too_deep, too_many, whole_at, whole_of_operation}
-use Rattle.plan_project.specs.TextLaws.{TextsAreDocuments}
+use Rattle.plan_project.specs.Expansions.{name_node, node_of, size_rules, text_named, too_deep, too_many, whole_at, whole_of_operation}
+use Rattle.plan_project.specs.Projects.{IsAccepted, IsAcceptedProject}
+use Rattle.plan_project.specs.TextLaws.{SaysNamed, TextsAreDocuments}
 use Rattle.plan_read.proofs.plan_text_laws.PrintedForms.{is_one_document}
+use Rattle.plan_read.proofs.plan_text_laws.Saying.{text_says_the_operation}
 use Rattle.plan_read.specs.plan_text.Documents.{FormedExpanded, FormedNodes, SomeNode, document_of}
 use Rattle.plan_read.specs.plan_text.Printed.{printed_operation}
 use Rattle.plan_ir.specs.schema_rules.declared.fault.Rule.{Rule}
@@ -208,8 +210,15 @@ not_too_deep defs ps o n w sizes named is =
     let r = operation_found (IsShallow defs ps) (operations (definitions_in defs ps)) n o (operations_shallow defs ps (definitions_in defs ps) all) named in
     shallow_at defs ps o n w r.1 is r.0
 
-pub texts_are_documents : TextsAreDocuments
-texts_are_documents schema texts defs ps a n w is file =
+-- what an operation of an accepted project becomes is sound and not too deep
+record Fits (p : Project) (o : OperationAt) (n : Text) : Type 0 where
+  pub named : Named o n
+  pub sound : SoundExpanded (whole_operation p o).expanded
+  pub shallow : is_too_deep (whole_operation p o) ≡ false
+
+fits : (schema : Text) (texts : List Text) (defs : Defs) (ps : List (Placed Document)) → IsAccepted schema texts defs ps → (o : OperationAt) (n : Text)
+    → operation_named (operations (definitions_in defs ps)) n ≡ Some o → Fits (project defs ps) o n
+fits schema texts defs ps a o n is =
     let ds : List DefinitionAt = definitions_in defs ps in
     let p : Project = project defs ps in
     let rules = spreads_hold defs ps a.meet in
@@ -217,15 +226,44 @@ texts_are_documents schema texts defs ps a n w is file =
     let names : PossibleNames defs = subst PossibleNames (sym a.says) (possible_names 0 schema a.tree a.trees.schema_is) in
     let sound = fragments_sound defs ds read rules.0 in
     let meet = fragments_meet defs ds read rules.0 rules.1 in
-    let f = found p (operations ds) n w is in
-    let o = operation_found (λ o. ReadOperation defs o × There p names sound meet o) (operations ds) n f.at (operations_there defs ds read rules.0) f.is in
-    let whole = operation_expanded p names sound meet f.at n o.0.0 o.0.1 o.1 in
-    let own : SoundExpanded w.expanded = subst (λ (x : Whole). SoundExpanded x.expanded) f.whole whole in
-    let shallow = not_too_deep defs ps f.at n w a.sizes f.is is in
-    let document = text_is w own shallow file in
+    let there = operation_found (λ o. ReadOperation defs o × There p names sound meet o) (operations ds) n o (operations_there defs ds read rules.0) is in
     record {
-      named = ap (λ (x : Whole). x.expanded.name) (sym f.whole) ∙ name_same f.at.name o.1.located o.1.is ∙ o.1.same;
+      named = there.1;
+      sound = operation_expanded p names sound meet o n there.0.0 there.0.1 there.1;
+      shallow = not_too_deep defs ps o n (whole_operation p o) a.sizes is (ap (option_map (whole_operation p)) is);
+    }
+
+pub texts_are_documents : TextsAreDocuments
+texts_are_documents schema texts defs ps a n w is file =
+    let p : Project = project defs ps in
+    let f = found p (operations (definitions_in defs ps)) n w is in
+    let fit : Fits p f.at n = fits schema texts defs ps a f.at n f.is in
+    let own : SoundExpanded w.expanded = subst (λ (x : Whole). SoundExpanded x.expanded) f.whole fit.sound in
+    let document = text_is w own (subst (λ (x : Whole). is_too_deep x ≡ false) f.whole fit.shallow) file in
+    record {
+      named = ap (λ (x : Whole). x.expanded.name) (sym f.whole) ∙ name_same f.at.name fit.named.located fit.named.is ∙ fit.named.same;
       kind = subst (λ (x : Whole). x.expanded.kind ≡ Some (printed_operation x.expanded).kind) f.whole refl;
       is = document;
       only = λ q d. one_document file (operation_text w.expanded) q (document_of file w.expanded) d document;
     }
+
+-- ---- the text that is given for a name
+
+says : (defs : Defs) (ps : List (Placed Document)) → IsAcceptedProject defs ps → (name : Text) → SaysNamed defs ps name (text_named defs ps name)
+says defs ps a name = on (operation_named (operations (definitions_in defs ps)) name) refl
+  where
+    on : (r : Option OperationAt) → operation_named (operations (definitions_in defs ps)) name ≡ r
+        → SaysNamed defs ps name (option_map (λ (w : Whole). operation_text w.expanded) (option_map (whole_operation (project defs ps)) r))
+    on None e = e
+    on (Some o) e =
+        let fit : Fits (project defs ps) o name = fits a.schema a.texts defs ps a.accepted o name e in
+        let w : Whole = whole_operation (project defs ps) o in
+        let s : SoundExpanded w.expanded = fit.sound in (
+          o,
+          e,
+          text_says_the_operation (project defs ps) o (formed w.expanded s)
+              (operation_utf8 w.expanded s.name s.variables s.directives s.selections) (shallow_text w s.within fit.shallow),
+        )
+
+pub says_named : (defs : Defs) (ps : List (Placed Document)) → IsAcceptedProject defs ps → (name : Text) (given : Option Text) → given ≡ text_named defs ps name → SaysNamed defs ps name given
+says_named defs ps a name given is = subst (λ g. SaysNamed defs ps name g) (sym is) (says defs ps a name)

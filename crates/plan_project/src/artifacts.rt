@@ -2,6 +2,7 @@
 //! own).
 ghost use Rattle.std.specs.Prelude.{◌≡◌, [], get_or, length, IfOk};
 ghost use Rattle.plan_project.specs.Expansions.{line_lists, list_of, text_named};
+ghost use Rattle.plan_project.specs.TextLaws.{SaysNamed};
 
 use crate::project::Project;
 use crate::ready::ReadyProject;
@@ -43,10 +44,15 @@ impl<'p> Artifacts<'p> {
     }
 
     /// The text of the operation of a name, as it is sent; `None` where the project has no operation
-    /// of that name. Its only error is that memory is lacking.
+    /// of that name. It says that operation: who reads it reads the one document of the operation
+    /// printed, and that asks for what the operation and its fragments ask for. Its only error is that
+    /// memory is lacking.
     pub fn text(&self, alloc: Global, name: &Name) -> Result<Option<Words>, NoMemory>
-        ensures { IfOk result (λ text. text ≡ text_named self.now.project.now.0 self.now.project.now.1 name.now) }
+        ensures named { IfOk result (λ text. text ≡ text_named self.now.project.now.0 self.now.project.now.1 name.now) }
+        ensures says { IfOk result (λ text. SaysNamed self.now.project.now.0 self.now.project.now.1 name.now text) }
     {
-        self.ready.text(alloc, name)
+        self.project.is_accepted();
+        let text = self.ready.text(alloc, name)?;
+        Ok(text)
     }
 }

@@ -9,7 +9,9 @@ pub mod OperationRead
 pub mod PrintedForms
 pub mod Quoted
 pub mod ReadBack
+pub mod Saying
 pub mod Sorting
 pub mod Spelling
 pub mod Using
 pub mod ValuesRead
+pub mod WholeForm

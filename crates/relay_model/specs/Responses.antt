@@ -1,17 +1,14 @@
 -- What a response says to an operation of the documents: its first fault, or its facts and pages.
-use Rattle.std.specs.Prelude.{List, [], ◌∷◌, true}
+use Rattle.std.specs.Prelude.{[], ◌∷◌}
 use Rattle.plan_ir.specs.gql_ast.declared.place.FilePlace.{FilePlace}
 use Rattle.plan_ir.specs.Expansion.{Project, name_or}
-use Rattle.relay_model.specs.Collection.{Setting, collect, part_of}
+pub use Rattle.plan_text.specs.Collection.{whole_setting}
+use Rattle.plan_text.specs.Collection.{collect, part_of}
 use Rattle.plan_ir.specs.schema_tables.Types.{root}
 use Rattle.plan_ir.specs.schema_types.Environments.{Values}
 use Rattle.plan_ir.specs.schema_types.Sites.{OperationAt}
 use Rattle.serde_json.specs.Data as J
 use Rattle.plan_ir.specs.store_model.Verdicts.{Verdict, says}
-
--- by the whole form
-abbrev pub whole_setting : Project → FilePlace → Values → Setting
-whole_setting p place own = record { project = p; place = place; own = own; whole = true }
 
 -- under this environment of the operation
 abbrev pub operation_says : Project → FilePlace → OperationAt → Values → J.Data → Verdict

@@ -1,6 +1,6 @@
-//! What documents mean: collection along their syntax trees, what a response says to an operation,
-//! and what reads show (GraphQL, October 2021, section 6.3.2; masks are after Relay). It has no call
-//! that the program makes; its definitions stand in `specs/`.
+//! What documents mean, by the collection that plan_text defines: what a response says to an operation,
+//! what reads show, and what an operation reaches (masks are after Relay). It has no call that the
+//! program makes; its definitions stand in `specs/`.
 #![tactic(auto)]
 
 pub use plan_text::{Artifact, artifact_line, operation_text, parse_document};

@@ -2,4 +2,4 @@ use Rattle.plan_text.proofs.Collects.{text_collects_the_same}
 use Rattle.plan_text.proofs.laws.text_collects_the_same.Goals as goal
 
 pub returns : goal.returns
-returns c = λ w o depth. text_collects_the_same w o depth
+returns c = λ p o place own depth. text_collects_the_same p o place own depth
