@@ -14,14 +14,14 @@ use Rattle.plan_expand.proofs.making.+make.Goals as goal
 pub make_set-put_selection-requires : goal.make_set-put_selection-requires
 make_set-put_selection-requires t c =
     let less = selection_below (spread_depth (λ (r : Ready). r.selections) c.args.walk.spreads (find_in c.args.walk.fragments.now)) _ _ c.selections.selection-index c.selection-item.result (omega arith) c.selection-item.is c.selections.invariant.0 in
-    (omega (arith, less), c.requires.1)
+    (omega (arith, less), c.requires)
 
-pub put_spread-make_spread-requires-in-Some : goal.put_spread-make_spread-requires-in-Some
-put_spread-make_spread-requires-in-Some t c =
+pub put_spread-make_spread-requires : goal.put_spread-make_spread-requires
+put_spread-make_spread-requires t c =
     let some : 0 < c.args.walk.spreads = omega arith in
     let less = entered_deep (λ (r : Ready). r.selections) c.args.walk.spreads (find_in c.args.walk.fragments.now) c.args.name.now (ready_of c.in-Some.fragment.now) some
     (ap (find_in c.args.walk.fragments.now) (sym c.as_str.ensures) ∙ sym c.find.ensures ∙ ap (option_map (λ f. ready_of f.now)) c.in-Some.is) in
-    (omega (arith, less), (c.requires.1, some))
+    (omega (arith, less), (c.requires, some))
 
 pub make_set-selections-preserved : goal.make_set-selections-preserved
 make_set-selections-preserved t c = (
