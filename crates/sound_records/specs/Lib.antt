@@ -1,0 +1,4 @@
+pub mod Giving
+pub mod Laws
+pub mod Saying
+pub mod Sound

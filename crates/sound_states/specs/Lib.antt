@@ -1,0 +1,3 @@
+pub use Rattle.sound_records.specs as sound_records
+pub mod Laws
+pub mod Sound
