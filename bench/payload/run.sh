@@ -53,7 +53,7 @@ if [ -z "$program" ]; then
 
 use gql_ast::{Argument, Arguments, ValueTree};
 use gql_plain::{Ids, NoMemory, Pairs, Words};
-use plan_ir::{NormalPlan, NormalStep, NormalSteps};
+use plan_ir::{NormalList, NormalPlan, NormalStep, NormalSteps};
 use schema_values::Env;
 use serde_json::Value;
 use std::alloc::Global;
@@ -108,40 +108,40 @@ fn users(
 
 /// `id age name`
 fn user_steps(alloc: Global) -> Result<NormalSteps, NoMemory> {
-    let mut steps = NormalSteps::new(alloc);
+    let mut steps = NormalList::new(alloc);
     for name in ["id", "age", "name"] {
         steps.push(leaf(alloc, name, name, None)?)?;
     }
-    Ok(steps)
+    steps.share(alloc)
 }
 
 /// `id`, and `count` aliases of a field, each with an argument of its own or none.
 fn alias_steps(alloc: Global, count: i64, are_many: bool) -> Result<NormalSteps, NoMemory> {
-    let mut steps = NormalSteps::new(alloc);
+    let mut steps = NormalList::new(alloc);
     steps.push(leaf(alloc, "id", "id", None)?)?;
     for number in 0..count {
         let response = format!(in alloc; "a{number}")?;
         let argument = if are_many { Some(number) } else { None };
         steps.push(leaf(alloc, response.as_str(), "name", argument)?)?;
     }
-    Ok(steps)
+    steps.share(alloc)
 }
 
 /// `id friend{id friend{..}}`, so deep.
 fn deep_steps(alloc: Global, depth: u64) -> Result<NormalSteps, NoMemory> {
-    let mut below = NormalSteps::new(alloc);
+    let mut below = NormalSteps::none(alloc)?;
     for _ in 0..depth {
-        let mut steps = NormalSteps::new(alloc);
+        let mut steps = NormalList::new(alloc);
         steps.push(leaf(alloc, "id", "id", None)?)?;
         steps.push(users(alloc, "friend", false, below)?)?;
-        below = steps;
+        below = steps.share(alloc)?;
     }
     Ok(below)
 }
 
 /// The plan of that name.
 fn plan_of(alloc: Global, name: &str, count: i64) -> Result<NormalPlan, NoMemory> {
-    let mut steps = NormalSteps::new(alloc);
+    let mut steps = NormalList::new(alloc);
     match name {
         "deep" => steps.push(users(alloc, "team", true, deep_steps(alloc, 60)?)?)?,
         "aliases" => steps.push(users(alloc, "me", false, alias_steps(alloc, count, true)?)?)?,
@@ -151,7 +151,9 @@ fn plan_of(alloc: Global, name: &str, count: i64) -> Result<NormalPlan, NoMemory
             steps.push(users(alloc, "me", false, user_steps(alloc)?)?)?;
         }
     }
-    Ok(NormalPlan { steps })
+    Ok(NormalPlan {
+        steps: steps.share(alloc)?,
+    })
 }
 
 /// How many facts, the names of types counted.
