@@ -35,6 +35,7 @@ pub(crate) fn slot_by_row(
 fn new_slot(alloc: Global, row: &FactRow) -> Result<Option<Slot>, NoMemory>
     ensures { IfOk result (λ slot. slot ≡ Some (Alive (row_onto row.now (record_of [])))) }
 {
+    in_order(&row.fields);
     let fields = row.fields.copy()?;
     let type_name = row.type_name.copy()?;
     live_slot(alloc, type_name, fields)
