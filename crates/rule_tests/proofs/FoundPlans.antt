@@ -12,9 +12,9 @@ use Rattle.plan_read.specs.Steps.{operation_reader}
 use Rattle.plan_read.specs.plan_expand.Answers.{project}
 
 pub is_there : {X Y : Type 0} (P : X → Y → Type 0) (x : Option X) (y : Option (Bor Y)) (none : Bool) → Agree P x (option_copied y) → is_some y ≡ not none → none ≡ false → is_some x ≡ true
-is_there P None None none agree is no = is ∙ ap not no
-is_there P None (Some y) none agree is no = absurd agree
-is_there P (Some x) y none agree is no = refl
+is_there P None None none agree is full = is ∙ ap not full
+is_there P None (Some y) none agree is full = absurd agree
+is_there P (Some x) y none agree is full = refl
 
 pub operation_has_reader : (defs : Defs) (ps : List (Placed Document)) (n : Text) → is_some (operation_in defs ps n) ≡ true → is_some (reader_in defs ps F.Operation n) ≡ true
 operation_has_reader defs ps n there = on (operation_in defs ps n) there
