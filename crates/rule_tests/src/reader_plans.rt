@@ -7,7 +7,9 @@
 //! its types, `-` and `+` for `@skip` and `@include`, and its steps. A pointer is written as the spread
 //! of its fragment with its arguments, and has the plan of the fragment if that is `@inline`.
 use crate::texts::file;
-use plan_ir::{Arguments, Conn, Form, Guard, Ids, Name, ReaderPlan, ReaderStep, ReaderSteps, ValueTree};
+use plan_ir::{
+    Arguments, Conn, Form, Guard, Ids, Name, ReaderPlan, ReaderStep, ReaderSteps, ValueTree,
+};
 use plan_project::{Project, compile};
 use plan_read::reader_plan;
 use std::alloc::Global;
