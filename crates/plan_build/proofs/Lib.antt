@@ -5,18 +5,22 @@ pub mod ClassLaws
 pub mod CodeSteps
 pub mod ConditionLaws
 pub mod ConditionTrees
+pub mod ConnectedNodes
 pub mod Covariance
 pub mod CovarianceLists
 pub mod CovarianceNames
 pub mod CovarianceRoots
 pub mod CovarianceRules
 pub mod DocumentsAsNodes
+pub mod EachStep
+pub mod FittingSteps
 pub mod Formed
 pub mod Grouped
 pub mod ItemsAsNodes
 pub mod KeptSteps
 pub mod Meaning
 pub mod OrderLaws
+pub mod PagedSteps
 pub mod PartDepths
 pub mod PartLaws
 pub mod Parts
@@ -31,3 +35,4 @@ pub mod SuitedFields
 pub mod SuitedNodes
 pub mod SuitedOperations
 pub mod SuitedRules
+pub mod TypedSteps

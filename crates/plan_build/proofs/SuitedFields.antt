@@ -27,7 +27,7 @@ object_kind None e = e
 object_kind (Some Object) e = refl
 object_kind (Some k) e = absurd (true≢false (sym e))
 
-object_is_composite : (defs : Defs) (t : Text) → is_object defs t ≡ true → is_composite defs t ≡ true
+pub object_is_composite : (defs : Defs) (t : Text) → is_object defs t ≡ true → is_composite defs t ≡ true
 object_is_composite defs t e = object_kind (kind_of defs t) e
 
 -- an object or a list of objects is no leaf
