@@ -11,6 +11,7 @@ pub mod CovarianceNames
 pub mod CovarianceRoots
 pub mod CovarianceRules
 pub mod DocumentsAsNodes
+pub mod FieldsAlike
 pub mod Formed
 pub mod Grouped
 pub mod ItemsAsNodes
@@ -20,6 +21,7 @@ pub mod OrderLaws
 pub mod PartDepths
 pub mod PartLaws
 pub mod Parts
+pub mod PlanLaws
 pub mod ReachDepths
 pub mod Reaches
 pub mod SoundTypes
