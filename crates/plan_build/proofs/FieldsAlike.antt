@@ -1,5 +1,4 @@
 -- The fields of an expanded set are alike where they merge, and where any two that are collected for one object have one form.
-use Rattle.std.proofs.Common.{◌≡◌, []}
 use Rattle.doc_merge.proofs.CollectedLaws.{collected_alike}
 use Rattle.doc_merge.specs.Gathering.{fields_in}
 use Rattle.plan_build.proofs.PartLaws.{one_name_each}

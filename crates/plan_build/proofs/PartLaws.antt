@@ -20,7 +20,7 @@ use Rattle.plan_ir.specs.store_model.Alike.{Among}
 use Rattle.plan_ir.specs.store_model.Items.{Asked, Below, typename, leaf, one, many}
 use Rattle.plan_ir.specs.store_model.Reaches.{types_of}
 use Rattle.doc_merge.proofs.GatherSteps.{rows_before}
-use Rattle.doc_merge.specs.Collected.{AreAlike, Pairwise, is_collected, keys_of, last_field, may_be_on}
+use Rattle.doc_merge.specs.Collected.{AreAlike, Pairwise, last_field, may_be_on}
 use Rattle.doc_merge.specs.Gathering.{fields_of, object_or_none, on_or}
 use Rattle.doc_merge.specs.Merging as merging
 use Rattle.doc_merge.specs.Merging.{Field, Fields, no_fields}

@@ -4,7 +4,6 @@ use Rattle.std.specs.List.{AllByRecursion}
 use Rattle.plan_ir.specs.gql_ast.declared.document.Definition.{Definition}
 use Rattle.plan_ir.specs.gql_ast.declared.document.Definition.TheVariants as D
 use Rattle.plan_ir.specs.gql_ast.declared.document.Document.{Document}
-use Rattle.plan_ir.specs.gql_ast.declared.place.FilePlace.{FilePlace}
 use Rattle.plan_ir.specs.gql_ast.declared.place.Placed.{Placed}
 use Rattle.plan_ir.specs.gql_graph.Rules.{each, first_broken}
 use Rattle.plan_build.proofs.CovarianceLists.{all_each, all_hold, all_joined, all_parts, none_each, right}
@@ -19,7 +18,6 @@ use Rattle.plan_ir.specs.Expansion.{Project, expansion, is_named, name_or, opera
 use Rattle.plan_ir.specs.Substitution.{operation_scope}
 use Rattle.plan_ir.specs.relay_dirs.Connections.{connections_wrong, type_wrong_at}
 use Rattle.plan_ir.specs.relay_dirs.RelayRules.{document_rules, relay_rules}
-use Rattle.plan_ir.specs.schema_rules.Checked.{IsSound}
 use Rattle.plan_ir.specs.schema_rules.Rules.{is_object}
 use Rattle.plan_ir.specs.schema_rules.declared.fault.Rule.{Rule}
 use Rattle.plan_ir.specs.schema_tables.Types.{Text, Defs, root}
@@ -28,7 +26,7 @@ use Rattle.plan_ir.specs.schema_types.ArgumentRules.{arguments_of_call_wrong, ar
 use Rattle.plan_ir.specs.schema_types.DocumentRules.{argument_rules, field_rules, name_rules, trees_of}
 use Rattle.plan_ir.specs.schema_types.FieldRules.{fields_undefined, set_wrong_at, sets_wrong, undefined_at}
 use Rattle.plan_ir.specs.schema_types.NameRules.{fragments, operations, roots_missing, sites_of, without_root}
-use Rattle.plan_ir.specs.schema_types.Sites.{DefinitionAt, FragmentAt, OperationAt, Site, definition_at, definition_nodes, definitions_at, document_nodes, documents_at, fragment, operation, optional_name_nodes, sites, variables_nodes}
+use Rattle.plan_ir.specs.schema_types.Sites.{DefinitionAt, OperationAt, Site, definition_at, definition_nodes, definitions_at, document_nodes, documents_at, fragment, operation, optional_name_nodes, sites, variables_nodes}
 
 -- ---- definitions and their sites
 
