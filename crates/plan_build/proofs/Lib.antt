@@ -13,6 +13,7 @@ pub mod CovarianceRoots
 pub mod CovarianceRules
 pub mod DocumentsAsNodes
 pub mod EachStep
+pub mod FieldsAlike
 pub mod FittingSteps
 pub mod Formed
 pub mod Grouped
@@ -24,6 +25,7 @@ pub mod PagedSteps
 pub mod PartDepths
 pub mod PartLaws
 pub mod Parts
+pub mod PlanLaws
 pub mod ReachDepths
 pub mod Reaches
 pub mod SoundTypes

@@ -4,11 +4,12 @@ use Rattle.std.specs.List.{AllByRecursion}
 use Rattle.plan_ir.specs.gql_ast.Sels as sels
 use Rattle.plan_ir.specs.gql_ast.Sels.{Sels}
 use Rattle.plan_ir.specs.gql_ast.declared.directive.Directive.{Directive}
-use Rattle.plan_build.proofs.Covariance.{Within, base_on}
+use Rattle.plan_build.proofs.Covariance.{Within}
 use Rattle.plan_build.proofs.CovarianceRules.{SchemaMeets}
 use Rattle.plan_build.proofs.SuitedAdditions.{additions_suit, inside_on, nodes_appended}
 use Rattle.plan_build.proofs.SuitedFields.{field_suits}
-use Rattle.plan_build.proofs.SuitedRules.{Meets, below_is}
+use Rattle.plan_build.proofs.SuitedRules.{below_is}
+use Rattle.plan_build.specs.Meeting.{FragmentsMeet, Meets, base_on}
 use Rattle.plan_build.specs.Suited.{Suited, type_inside}
 use Rattle.plan_ir.specs.Additions.{additions}
 use Rattle.plan_ir.specs.Expansion.{Project, enter_with, expansion, expansion_with, selections_from}
@@ -80,10 +81,7 @@ module _ (p : Project) (meets : SchemaMeets p.defs) where
   abbrev entering : ℕ → Scope → Enter
   entering k scope at n ds rest = enter_with (inside k scope ds) p scope at (fragment_named p.fragments n) ds rest
 
-  abbrev FragmentMeets : FragmentAt → Type 0
-  FragmentMeets f = Meets p.defs f.on.name f.selections
-
-  module _ (fragments : AllByRecursion FragmentMeets p.fragments) where
+  module _ (fragments : FragmentsMeet p) where
     -- a spread whose fragment is expanded so
     entered : (k : ℕ) (scope : Scope)
         → ((inner : Scope) (from : ℕ) (around t : Text) (s : Sels) → Within p.defs t around → Meets p.defs around s → Suited p.defs around t (expansion k p inner from (Some around) s))
@@ -94,7 +92,7 @@ module _ (p : Project) (meets : SchemaMeets p.defs) where
         on None d = h
         on (Some f) d = (
           deeper (scope_at_spread scope ds f) (selections_from f) f.on.name (type_inside p.defs t (Some f.on.name)) f.selections (inside_on p.defs t f.on.name)
-              (fragment_holds FragmentMeets p.fragments n f fragments d),
+              (fragments n f d),
           h,
         )
 

@@ -2,7 +2,6 @@
 -- and page information.
 use Rattle.std.proofs.Common.{◌≡◌, ℕ, ◌+◌, Bool, true, false, true≢false, cond, not, ◌&&◌, List, [], ◌∷◌, ◌++◌, codes, Option, Some, None, option_map, is_some, bytes_eq, refl, ap, sym, subst, ◌∙◌}
 use Rattle.std.specs.List.{AllByRecursion}
-use Rattle.doc_merge.specs.Gathering.{on_or}
 use Rattle.plan_ir.specs.gql_ast.Sels as sels
 use Rattle.plan_ir.specs.gql_ast.Sels.{Sels}
 use Rattle.plan_ir.specs.gql_ast.Ty.{Ty}
@@ -13,9 +12,10 @@ use Rattle.plan_ir.specs.gql_ast.declared.member.FieldTree.{FieldTree}
 use Rattle.plan_ir.proofs.gql_graph_laws.TextSteps.{same_text}
 use Rattle.plan_ir.specs.gql_graph.Rules.{each, wrong}
 use Rattle.plan_ir.specs.gql_plain.declared.ids.Conn.{Conn}
-use Rattle.plan_build.proofs.Covariance.{base_on, type_of_field}
+use Rattle.plan_build.proofs.Covariance.{type_of_field}
 use Rattle.plan_build.proofs.CovarianceLists.{all_parts, first_true, none_first, not_so, right, then_true}
 use Rattle.plan_build.proofs.CovarianceRules.{SchemaMeets, no_typename}
+use Rattle.plan_build.specs.Meeting.{FieldMeets, IsConnectionType, Meets, base_on}
 use Rattle.plan_ir.specs.Additions.{type_or}
 use Rattle.plan_ir.specs.relay_dirs.Connections as connections
 use Rattle.plan_ir.specs.relay_dirs.Connections.{are_edges, connection_among, connection_from, field_defined, is_connection, is_connection_name, is_connection_type, is_edge, is_node, is_page, is_page_info, is_page_leaf, is_single, needs_nothing, of_name, type_wrong, type_wrong_at}
@@ -28,29 +28,7 @@ use Rattle.plan_ir.specs.schema_types.FieldRules.{set_is_wrong, set_wrong_at, un
 use Rattle.plan_ir.specs.schema_types.Sites as site
 use Rattle.plan_ir.specs.schema_types.Sites.{Site, arguments_at, arguments_nodes, below, condition_or, directives_at, field_type, head_nodes, is_set, optional_name_nodes, selections_nodes, sites, typename_on}
 
--- ---- what is asked of a field
-
--- the type of a connection
-pub record IsConnectionType (defs : Defs) (t : Text) : Type 0 where
-  pub object : is_object defs t ≡ true
-  pub edge : is_object defs (base_on defs t (codes "edges")) ≡ true
-  pub page : is_object defs (base_on defs t (codes "pageInfo")) ≡ true
-
--- a field on a type, with its arguments, its connection and its selections
-pub record FieldMeets (defs : Defs) (around n : Text) (xs : List (Text × Val)) (c : Option Conn) (s : Sels) : Type 0 where
-  pub there : is_some (field_type defs (Some around) n) ≡ true
-  pub bare : n ≡ codes "__typename" → xs ≡ []
-  pub plain : n ≡ codes "__typename" → c ≡ None
-  pub alone : n ≡ codes "__typename" → s ≡ sels.end
-  pub connection : is_some c ≡ true → IsConnectionType defs (base_on defs around n)
-
--- each field, also of inner sets
-abbrev pub Meets : Defs → (around : Text) → Sels → Type 0
-Meets defs around sels.end = Unit {0}
-Meets defs around (sels.field a n xs ds s rest) =
-    FieldMeets defs around n xs (connection_among ds) s × Meets defs (base_on defs around n) s × Meets defs around rest
-Meets defs around (sels.spread n ds rest) = Meets defs around rest
-Meets defs around (sels.inline o ds s rest) = Meets defs (on_or around o) s × Meets defs around rest
+-- ---- the rules at a site
 
 -- V7, V8, V12 and V22 at a site
 pub record SiteMeets (defs : Defs) (s : Site) : Type 0 where

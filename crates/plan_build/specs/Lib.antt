@@ -6,6 +6,8 @@ pub mod NodesReach
 pub mod Suited
 pub mod Connected
 pub mod NormalTypes
+pub mod Meeting
+pub mod FieldsAlike
 pub mod Plans
 pub mod Laws
 pub mod Conditions

@@ -5,11 +5,8 @@ use Rattle.plan_ir.specs.gql_ast.declared.document.Fragment.{Fragment}
 use Rattle.plan_ir.specs.gql_ast.declared.document.Operation.{Operation}
 use Rattle.plan_ir.specs.gql_ast.declared.place.Placed.{Placed}
 use Rattle.plan_ir.specs.gql_plain.Order.{has_text}
-use Rattle.plan_read.proofs.plan_build_laws.DocumentsAsNodes.{documents_are_nodes}
-use Rattle.plan_read.proofs.plan_build_laws.Reaches.{documents_reach_nodes}
-use Rattle.plan_read.proofs.plan_build_laws.SuitedOperations.{operations_are_suited}
+use Rattle.plan_read.proofs.plan_build_laws.PlanLaws.{plans_mean_documents, plans_reach_documents}
 use Rattle.plan_read.specs.plan_build.Plans.{IsWellFormed, MeansTheSame, ReachesTheSame}
-use Rattle.plan_read.specs.plan_build.Suited.{IsSuited}
 use Rattle.plan_read.specs.plan_expand.Answers.{project, whole_in}
 use Rattle.plan_read.specs.plan_expand.Places.{place_in}
 use Rattle.plan_ir.specs.Expansion.{Whole, name_or, whole_operation}
@@ -50,9 +47,6 @@ module _ (defs : Defs) (ps : List (Placed Document)) (a : IsAcceptedProject defs
   -- ---- operations
 
   module _ (n : Text) (o : OperationAt) (there : operation_in defs ps n ≡ Some o) where
-    suited : IsSuited defs (whole_operation (project defs ps) o).expanded
-    suited = operations_are_suited defs ps (place_in (places_of ps)) n o a.accepted.sound a.accepted.meet there
-
     -- a plan of the operation's expansion means the operation
     normalizes : (c : Compiled) → c.root ≡ name_or (root defs o.kind) → IsWellFormed defs c.normal.value.steps
         → MeansTheSame defs (whole_operation (project defs ps) o).expanded c.normal.value.steps
@@ -61,12 +55,10 @@ module _ (defs : Defs) (ps : List (Placed Document)) (a : IsAcceptedProject defs
       formed = formed (have_names defs ps a);
       says = λ own response.
           ap (λ (r : Text). plan_says r own c.normal.value.steps response) at_root
-          ∙ means a.accepted.sound suited (operation_merges defs ps a n o there) own response
-          ∙ sym (documents_are_nodes (project defs ps) no_place o own response);
+          ∙ plans_mean_documents defs ps (place_in (places_of ps)) no_place n o c.normal.value.steps a.accepted.sound a.accepted.meet there (operation_merges defs ps a n o there) means own response;
       reaches = λ own m id j.
           ap (λ (r : Text). has_text (plan_reaches (type_of_record r) m own c.normal.value.steps (r ∷ []) id) j) at_root
-          ∙ reaches a.accepted.sound suited (operation_merges defs ps a n o there) own m id j
-          ∙ sym (documents_reach_nodes (project defs ps) no_place o own m id j);
+          ∙ plans_reach_documents defs ps (place_in (places_of ps)) no_place n o c.normal.value.steps a.accepted.sound a.accepted.meet there (operation_merges defs ps a n o there) reaches own m id j;
     }
 
   -- what is made of the expansion of the operation of a name

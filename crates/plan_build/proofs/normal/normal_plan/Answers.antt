@@ -28,12 +28,12 @@ returns-clause-fits c = λ sound suited.
     subst (FitsSchema c.args.schema.now c.args.expanded.now.root) (sym c.in_ok-plan.ensures) (plan_fits c.args.schema.now c.args.expanded.now sound suited)
 
 pub returns-clause-means : goal.returns-clause-means
-returns-clause-means c = λ sound suited none own response.
+returns-clause-means c = λ sound suited alike own response.
     ap (λ (steps : Normal). plan_says c.args.expanded.now.root own steps response) c.in_ok-plan.ensures
-    ∙ plan_means c.args.schema.now c.args.expanded.now sound suited none own response
+    ∙ plan_means c.args.schema.now c.args.expanded.now sound suited alike own response
 
 pub returns-clause-reaches : goal.returns-clause-reaches
-returns-clause-reaches c = λ sound suited none own m id j.
+returns-clause-reaches c = λ sound suited alike own m id j.
     let root = c.args.expanded.now.root in
     ap (λ (steps : Normal). has_text (plan_reaches (type_of_record root) m own steps (root ∷ []) id) j) c.in_ok-plan.ensures
-    ∙ plan_reaches_nodes c.args.schema.now c.args.expanded.now sound suited none own m id j
+    ∙ plan_reaches_nodes c.args.schema.now c.args.expanded.now sound suited alike own m id j
