@@ -1,10 +1,7 @@
 -- On an object type the steps of nodes say of fields what the schema says.
 use Rattle.std.proofs.Common.{◌≡◌, Bool, true, false, true≢false, cond, ◌||◌, ◌++◌, List, [], ◌∷◌, codes, Option, Some, None, bytes_eq, refl, ap, sym, subst, ◌∙◌}
 use Rattle.std.specs.List.{AllByRecursion}
-use Rattle.plan_ir.specs.gql_ast.Ty.{Ty}
-use Rattle.plan_ir.specs.gql_ast.Value.{Val}
 use Rattle.plan_ir.specs.gql_plain.Order.{has_text}
-use Rattle.plan_ir.specs.gql_plain.declared.ids.Conn.{Conn}
 use Rattle.plan_ir.specs.Nodes as nodes
 use Rattle.plan_ir.specs.Nodes.{Nodes}
 use Rattle.plan_ir.specs.Normal.{Normal, done, typename, leaf, object, guarded, normal_append}
@@ -26,7 +23,7 @@ use Rattle.plan_build.proofs.StepLaws.{AreSound, inside_type}
 use Rattle.plan_ir.proofs.gql_graph_laws.TextSteps.{same_self}
 use Rattle.plan_build.specs.Classes.{Class, Target, classes_of, target_on}
 use Rattle.plan_build.specs.Conditions.{conditions_of}
-use Rattle.plan_build.specs.NormalTypes.{FitsSchema, IsOfField}
+use Rattle.plan_build.specs.NormalTypes.{FitsSchema}
 use Rattle.plan_build.specs.Steps.{FieldNode, are_within, behind, class_steps, field_steps, guarded_classes, inline_steps, is_one, leaf_step, object_step, on_steps, plan_of, steps_of, target_step, types_at}
 use Rattle.plan_build.specs.Suited.{FieldSuits, IsSuited, Suited, type_inside}
 

@@ -13,6 +13,7 @@ pub mod CovarianceRoots
 pub mod CovarianceRules
 pub mod DocumentsAsNodes
 pub mod EachStep
+pub mod ExpandedNodes
 pub mod FieldsAlike
 pub mod FittingSteps
 pub mod Formed
@@ -25,6 +26,7 @@ pub mod PagedSteps
 pub mod PartDepths
 pub mod PartLaws
 pub mod Parts
+pub mod PlainAdditions
 pub mod PlanLaws
 pub mod ReachDepths
 pub mod Reaches

@@ -1,5 +1,5 @@
 -- The connections of plans have their pages.
-use Rattle.std.proofs.Common.{◌≡◌, Bool, true, false, true≢false, cond, not, ◌&&◌, ◌||◌, List, [], ◌∷◌, codes, Option, Some, None, is_some, bytes_eq, refl, ap, sym, subst, ◌∙◌}
+use Rattle.std.proofs.Common.{◌≡◌, Bool, true, false, true≢false, cond, not, ◌&&◌, List, [], ◌∷◌, codes, Option, Some, None, is_some, bytes_eq, refl, ap, sym, subst, ◌∙◌}
 use Rattle.std.proofs.lemmas.Bool.{and_from, and_parts, or_left, or_right}
 use Rattle.std.specs.List.{list_all}
 use Rattle.plan_ir.specs.gql_ast.Value.{Val}
@@ -18,11 +18,11 @@ use Rattle.plan_ir.specs.schema_rules.Rules.{is_object}
 use Rattle.plan_ir.specs.schema_tables.Types.{Text, Defs, base_of, is_composite, is_empty, possible}
 use Rattle.plan_build.proofs.Covariance.{object_alone}
 use Rattle.plan_build.proofs.CovarianceLists.{passes_all, passes_each}
+use Rattle.plan_build.proofs.CovarianceNames.{object_is_composite}
 use Rattle.plan_build.proofs.CovarianceRules.{sound_meets}
 use Rattle.plan_build.proofs.EachStep.{EachStep, steps_hold}
 use Rattle.plan_build.proofs.Meaning.{only_one, root_has}
 use Rattle.plan_build.proofs.StepLaws.{inside_type}
-use Rattle.plan_build.proofs.SuitedFields.{object_is_composite}
 use Rattle.plan_build.specs.Classes.{Target, target_on}
 use Rattle.plan_build.specs.Conditions.{conditions_of}
 use Rattle.plan_build.specs.Connected.{Connected, FieldConnects, IsConnected, asks_page}

@@ -14,6 +14,7 @@ use Rattle.plan_ir.specs.gql_graph.Rules.{each, wrong}
 use Rattle.plan_ir.specs.gql_plain.declared.ids.Conn.{Conn}
 use Rattle.plan_build.proofs.Covariance.{type_of_field}
 use Rattle.plan_build.proofs.CovarianceLists.{all_parts, first_true, none_first, not_so, right, then_true}
+use Rattle.plan_build.proofs.CovarianceNames.{object_is_composite}
 use Rattle.plan_build.proofs.CovarianceRules.{SchemaMeets, no_typename}
 use Rattle.plan_build.specs.Meeting.{FieldMeets, IsConnectionType, Meets, base_on}
 use Rattle.plan_ir.specs.Additions.{type_or}
@@ -55,6 +56,14 @@ no_selections sels.end e = refl
 no_selections (sels.field a n xs ds s rest) e = absurd (true≢false e)
 no_selections (sels.spread n ds rest) e = absurd (true≢false e)
 no_selections (sels.inline o ds s rest) e = absurd (true≢false e)
+
+-- ---- sets
+
+-- a field of a composite type has selections
+has_selections : (defs : Defs) (o : Option Ty) (has_set : Bool) → is_some o ≡ true → is_composite defs (base_of (type_or o)) ≡ true → set_is_wrong defs o has_set ≡ false → has_set ≡ true
+has_selections defs None has_set i e f = absurd (true≢false (sym i))
+has_selections defs (Some t) true i e f = refl
+has_selections defs (Some t) false i e f = absurd (true≢false (sym e ∙ f))
 
 -- ---- connections
 
@@ -146,13 +155,16 @@ module _ (defs : Defs) (meets : SchemaMeets defs) where
     plain = λ same. none_there (connection_among ds) (λ i. not_typename around n (connected i) same);
     alone = λ same. no_selections s
         (no_set defs (is_composite defs around) (is_set s) (subst (λ (m : Text). is_some (field_type defs (Some around) m) ≡ true) same there)
-        (subst (λ (m : Text). set_is_wrong defs (field_type defs (Some around) m) (is_set s) ≡ false) same
-        (not_so (set_is_wrong defs (field_type defs (Some around) n) (is_set s)) (from + 1 + optional_name_nodes a) h.set)));
-    connection = λ i. connection_of_field around n (differs (bytes_eq n (codes "__typename")) refl (connected i)) (connected i);
+        (subst (λ (m : Text). set_is_wrong defs (field_type defs (Some around) m) (is_set s) ≡ false) same set));
+    connection = type;
+    filled = λ i. has_selections defs (field_type defs (Some around) n) (is_set s) there (object_is_composite defs (base_on defs around n) (type i).object) set;
   }
     where
       there : is_some (field_type defs (Some around) n) ≡ true
       there = right (is_some (field_type defs (Some around) n)) (from + 1 + optional_name_nodes a) h.defined
+
+      set : set_is_wrong defs (field_type defs (Some around) n) (is_set s) ≡ false
+      set = not_so (set_is_wrong defs (field_type defs (Some around) n) (is_set s)) (from + 1 + optional_name_nodes a) h.set
 
       connected : is_some (connection_among ds) ≡ true → is_connection defs (field_defined defs (Some around) n) ≡ true
       connected i = connection_right defs (field_defined defs (Some around) n) (from + head_nodes a + arguments_nodes xs) ds h.connection i
@@ -164,6 +176,9 @@ module _ (defs : Defs) (meets : SchemaMeets defs) where
       differs : (b : Bool) → bytes_eq n (codes "__typename") ≡ b → is_connection defs (field_defined defs (Some around) n) ≡ true → bytes_eq n (codes "__typename") ≡ false
       differs true e i = absurd (not_typename around n i (same_text n (codes "__typename") e))
       differs false e i = e
+
+      type : is_some (connection_among ds) ≡ true → IsConnectionType defs (base_on defs around n)
+      type i = connection_of_field around n (differs (bytes_eq n (codes "__typename")) refl (connected i)) (connected i)
 
   -- all sites of a set with this type around it
   pub all_meet : (from : ℕ) (around : Text) (s : Sels) → AllByRecursion (SiteMeets defs) (sites defs from (Some around) s) → Meets defs around s

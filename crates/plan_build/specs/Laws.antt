@@ -9,6 +9,7 @@ use Rattle.doc_merge.specs.Collected.{AreAlike, Pairwise}
 use Rattle.doc_merge.specs.Faults.{field_differences}
 use Rattle.doc_merge.specs.Gathering.{fields_in}
 use Rattle.doc_merge.specs.Paths.{paths}
+use Rattle.plan_build.specs.Connected.{IsConnected}
 use Rattle.plan_build.specs.FieldsAlike.{FieldsAreAlike}
 use Rattle.plan_build.specs.Meeting.{FragmentsMeet, OperationMeetsRules}
 use Rattle.plan_build.specs.NodesMeaning.{nodes_say}
@@ -49,6 +50,10 @@ FieldsOfOneFormAreAlike = (defs : Defs) (e : Expanded) → Pairwise AreAlike (pa
 -- the expansion of an operation that meets the rules that it needs is suited
 abbrev pub OperationsThatMeetAreSuited : Type 0
 OperationsThatMeetAreSuited = (p : Project) (o : OperationAt) → IsSound p.defs → OperationMeetsRules p o → IsSuited p.defs (whole_operation p o).expanded
+
+-- and its connections ask for their pages
+abbrev pub OperationsThatMeetAreConnected : Type 0
+OperationsThatMeetAreConnected = (p : Project) (o : OperationAt) → IsSound p.defs → OperationMeetsRules p o → IsConnected p.defs (whole_operation p o).expanded
 
 -- where it is suited and its fields are alike, each response says to its plan what it says to the operation
 abbrev pub PlansMeanSuitedOperations : Type 0

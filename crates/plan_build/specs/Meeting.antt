@@ -12,7 +12,7 @@ use Rattle.plan_ir.specs.relay_dirs.Connections.{connection_among}
 use Rattle.plan_ir.specs.schema_rules.Rules.{is_object}
 use Rattle.plan_ir.specs.schema_tables.Types.{Text, Defs, base_of, root}
 use Rattle.plan_ir.specs.schema_types.NameRules.{fragment_named}
-use Rattle.plan_ir.specs.schema_types.Sites.{FragmentAt, OperationAt, field_type}
+use Rattle.plan_ir.specs.schema_types.Sites.{FragmentAt, OperationAt, field_type, is_set}
 
 -- ---- fields
 
@@ -33,6 +33,7 @@ pub record FieldMeets (defs : Defs) (around n : Text) (xs : List (Text × Val)) 
   pub plain : n ≡ codes "__typename" → c ≡ None
   pub alone : n ≡ codes "__typename" → s ≡ sels.end
   pub connection : is_some c ≡ true → IsConnectionType defs (base_on defs around n)
+  pub filled : is_some c ≡ true → is_set s ≡ true
 
 -- each field, also of inner sets
 abbrev pub Meets : Defs → (around : Text) → Sels → Type 0

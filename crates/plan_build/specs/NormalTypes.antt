@@ -1,5 +1,5 @@
 -- What the steps of a plan say of types and of connections: in every plan, and of the fields of a schema.
-use Rattle.std.specs.Prelude.{◌≡◌, Bool, true, false, not, ◌&&◌, ◌||◌, List, [], ◌∷◌, codes, Option, Some, None, bytes_eq}
+use Rattle.std.specs.Prelude.{◌≡◌, Bool, true, false, not, ◌&&◌, ◌||◌, List, codes, Option, Some, None, bytes_eq}
 use Rattle.std.specs.List.{filter}
 use Rattle.plan_ir.specs.gql_plain.Order.{has_text}
 use Rattle.plan_ir.specs.gql_plain.declared.ids.Conn.{Conn}

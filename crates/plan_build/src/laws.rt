@@ -6,6 +6,7 @@ ghost use Rattle.plan_build.specs.Laws.{
   MergingFieldsAreAlike,
   OperationsAreSuited,
   OperationsOfDocumentsMeet,
+  OperationsThatMeetAreConnected,
   OperationsThatMeetAreSuited,
   PlansMeanDocuments,
   PlansMeanSuitedOperations,
@@ -34,6 +35,12 @@ pub fn fields_of_one_form_are_alike()
 /// need not stand in a document; the fragments that its spreads find meet them too.
 pub fn operations_that_meet_are_suited()
     ensures { OperationsThatMeetAreSuited }
+{}
+
+/// Law: each connection of the expansion of an operation that meets the rules that it needs leads to
+/// one object type, and asks for its page information.
+pub fn operations_that_meet_are_connected()
+    ensures { OperationsThatMeetAreConnected }
 {}
 
 /// Law: each response says to the plan of an operation whose expansion is suited, and whose fields are
