@@ -39,4 +39,5 @@ pub mod SuitedFields
 pub mod SuitedNodes
 pub mod SuitedOperations
 pub mod SuitedRules
+pub mod TypeRows
 pub mod TypedSteps
