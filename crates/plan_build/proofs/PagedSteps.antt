@@ -179,7 +179,7 @@ module _ (defs : Defs) (sound : IsSound defs) where
 
   -- the one type around an operation
   root_within : (root T : Text) → is_object defs root ≡ true → has_text (root ∷ []) T ≡ true → has_text (possible defs root) T ≡ true
-  root_within root T object k = ap (has_text (possible defs root)) (only_one root T k) ∙ root_has defs sound root object
+  root_within root T o k = ap (has_text (possible defs root)) (only_one root T k) ∙ root_has defs sound root o
 
   pub plan_paged : (e : Expanded) → IsConnected defs e → has_pages (plan_of defs e) ≡ true
   plan_paged e h =
