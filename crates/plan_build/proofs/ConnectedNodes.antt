@@ -52,7 +52,7 @@ module _ (defs : Defs) (meets : SchemaMeets defs) where
       below,
       later,
     );
-    added = λ c of s p connected. plain_connects defs of (additions defs c of s p) (plain_additions defs p c of s);
+    added = λ c of s p connected. plain_connects defs (additions defs c of s p) of (plain_additions defs p c of s);
     inside = λ around t o ds s p rest h k. (h, k);
   }
 
