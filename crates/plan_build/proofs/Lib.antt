@@ -17,6 +17,7 @@ pub mod Grouped
 pub mod ItemsAsNodes
 pub mod KeptSteps
 pub mod Meaning
+pub mod MeetingRows
 pub mod OrderLaws
 pub mod PartDepths
 pub mod PartLaws
