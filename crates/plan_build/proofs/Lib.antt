@@ -21,6 +21,7 @@ pub mod Grouped
 pub mod ItemsAsNodes
 pub mod KeptSteps
 pub mod Meaning
+pub mod MeetingRows
 pub mod OrderLaws
 pub mod PagedSteps
 pub mod PartDepths
