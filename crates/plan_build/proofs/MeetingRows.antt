@@ -69,12 +69,12 @@ made = operation_at defs 1 (record {
 })
 
 F_meets : FragmentMeets defs F
-F_meets = (record { there = refl; bare = λ same. refl; plain = λ same. refl; alone = λ same. refl; connection = λ i. absurd (true≢false (sym i)) }, tt, tt)
+F_meets = (record { there = refl; bare = λ same. refl; plain = λ same. refl; alone = λ same. refl; connection = λ i. absurd (true≢false (sym i)); filled = λ i. absurd (true≢false (sym i)) }, tt, tt)
 
 pub made_operation_meets : OperationMeetsRules project made
 made_operation_meets = record {
   there = refl;
-  selections = (record { there = refl; bare = λ same. cc; plain = λ same. refl; alone = λ same. cc; connection = λ i. absurd (true≢false (sym i)) }, tt, tt);
+  selections = (record { there = refl; bare = λ same. cc; plain = λ same. refl; alone = λ same. cc; connection = λ i. absurd (true≢false (sym i)); filled = λ i. absurd (true≢false (sym i)) }, tt, tt);
   fragments = λ n f found. fragment_holds (FragmentMeets defs) (F ∷ []) n f (F_meets, tt) found;
 }
 
