@@ -28,7 +28,7 @@ connected_appended defs t (inline o ds s p rest) b h k = (h.0, connected_appende
 
 module _ (defs : Defs) (meets : SchemaMeets defs) where
   -- a connection that the rules allow, on a type that may be no more than the type around it
-  field_connects : (around t n : Text) (xs : List (Text × Val)) (c : Option Conn) (s : Sels) (set : Nodes) (p : FilePlace) → Within defs t around → FieldMeets defs around n xs c s
+  pub field_connects : (around t n : Text) (xs : List (Text × Val)) (c : Option Conn) (s : Sels) (set : Nodes) (p : FilePlace) → Within defs t around → FieldMeets defs around n xs c s
       → is_some c ≡ true → FieldConnects defs t n (base_on defs around n) (whole_set defs around n c s set p)
   field_connects around t n xs c s set p within h i =
       let type = h.connection i in

@@ -64,7 +64,7 @@ then_paged (guarded g child rest) b e f =
 -- ---- the step for the page information
 
 -- an object type is not abstract
-not_open : (defs : Defs) (t : Text) → is_object defs t ≡ true → not (is_abstract defs t) ≡ true
+pub not_open : (defs : Defs) (t : Text) → is_object defs t ≡ true → not (is_abstract defs t) ≡ true
 not_open defs t o = (λ i. not (is_composite defs t && not (o i))) ∙ ap not (and_false (is_composite defs t))
 
 module _ (defs : Defs) (of : Text) (page : is_object defs (base_of (type_on defs of (codes "pageInfo"))) ≡ true) where

@@ -38,7 +38,7 @@ module _ (defs : Defs) (names : HaveNames defs) (sound : IsSound defs) where
   one_alone t o = ap is_one (object_alone defs (sound_meets defs sound) t o)
 
   -- a composite type is abstract, or it is one object type
-  open_or_one : (t : Text) → is_composite defs t ≡ true → (is_abstract defs t || is_one (possible defs t)) ≡ true
+  pub open_or_one : (t : Text) → is_composite defs t ≡ true → (is_abstract defs t || is_one (possible defs t)) ≡ true
   open_or_one t e = on (is_object defs t) refl where
     on : (b : Bool) → is_object defs t ≡ b → (is_abstract defs t || is_one (possible defs t)) ≡ true
     on true o = or_right (is_abstract defs t) (is_one (possible defs t)) (one_alone t o)
@@ -53,7 +53,7 @@ module _ (defs : Defs) (names : HaveNames defs) (sound : IsSound defs) where
         (and_from (is_typed child) true h refl)
     on false e = refl
 
-  names_at : (t : Text) → are_names (types_at defs t) ≡ true
+  pub names_at : (t : Text) → are_names (types_at defs t) ≡ true
   names_at t = on (is_composite defs t) where
     on : (b : Bool) → are_names (cond b (possible defs t) []) ≡ true
     on true = names t

@@ -9,13 +9,17 @@ use Rattle.plan_ir.specs.ReaderMeaning.{plan_reads}
 use Rattle.plan_ir.specs.declared.expanded.Expanded.{Expanded}
 use Rattle.plan_ir.specs.declared.form.Form.{Form}
 use Rattle.plan_ir.specs.declared.form.Form.TheVariants as F
-use Rattle.plan_project.proofs.Accepting.{fragment_is_on_composite, fragment_merges, operation_merges}
+use Rattle.plan_project.proofs.Accepting.{fragment_is_on_composite, fragment_merges, have_names, operation_merges}
 use Rattle.plan_project.specs.Lookups.{ReadsFragment, ReadsOperation, fragment_in, operation_in}
 use Rattle.plan_project.specs.Projects.{IsAcceptedProject}
 use Rattle.plan_project.specs.declared.operations.Compiled.{Compiled}
 use Rattle.plan_project.specs.declared.operations.CompiledFragment.{CompiledFragment}
 use Rattle.plan_read.proofs.ReaderLaws.{readers_mean_fragments, readers_mean_operations}
+use Rattle.plan_read.proofs.TypedReaders.{fragment_readers_are_typed, operation_readers_are_typed}
+use Rattle.plan_read.proofs.plan_build_laws.SuitedOperations.{fragments_of_documents_meet, operations_of_documents_meet}
 use Rattle.plan_read.specs.Plans.{reader_in}
+use Rattle.plan_read.specs.ReaderTypes as reader_types
+use Rattle.plan_read.specs.plan_build.Meeting.{FragmentsMeet}
 use Rattle.plan_read.specs.Premises.{IsComposite, IsOnComposite}
 use Rattle.plan_read.specs.Steps.{fragment_reader, operation_reader}
 use Rattle.plan_read.specs.relay_model.Readings.{with_marked}
@@ -62,6 +66,10 @@ module _ (defs : Defs) (ps : List (Placed Document)) where
         let steps : c.reader.value.steps ≡ operation_reader p o = cc is_planned in
         let typed : c.types ≡ name_or (root defs o.kind) ∷ [] = types ∙ ap (λ (r : Text). r ∷ []) at_root in
         record {
+          typed =
+              ap reader_types.is_typed steps
+              ∙ operation_readers_are_typed p o (have_names defs ps a) a.accepted.sound
+              (operations_of_documents_meet defs ps (place_in (places_of ps)) n o a.accepted.sound a.accepted.meet there);
           reads = λ own owner m id.
               (λ i. plan_reads (type_of_record (at_root i)) owner m own (steps i) (typed i) id)
               ∙ readers_mean_operations defs ps (place_in (places_of ps)) n o a.accepted.sound a.accepted.meet there (operation_merges defs ps a n o there) own owner m id;
@@ -73,7 +81,11 @@ module _ (defs : Defs) (ps : List (Placed Document)) where
         let p : Project = project defs ps in
         let is_planned : Some c.reader.value.steps ≡ Some (fragment_reader p f) = planned ∙ ap (option_map (fragment_reader p)) there in
         let steps : c.reader.value.steps ≡ fragment_reader p f = cc is_planned in
+        let all : FragmentsMeet p = fragments_of_documents_meet defs ps (place_in (places_of ps)) a.accepted.sound a.accepted.meet in
         record {
+          typed =
+              ap reader_types.is_typed steps
+              ∙ fragment_readers_are_typed p f (have_names defs ps a) a.accepted.sound (record { selections = all n f there; fragments = all });
           reads = λ operation_type own scope locals owner m id.
               (λ i. plan_reads (type_of_record operation_type) owner m (with_marked own scope) (steps i) (types i) id)
               ∙ readers_mean_fragments defs ps (place_in (places_of ps)) n f a.accepted.sound a.accepted.meet there (fragment_merges defs ps a n f there) operation_type own scope locals owner m id;

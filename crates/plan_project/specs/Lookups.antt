@@ -12,6 +12,7 @@ use Rattle.plan_ir.specs.ReaderMeaning.{plan_reads}
 use Rattle.plan_project.specs.declared.operations.Compiled.{Compiled}
 use Rattle.plan_project.specs.declared.operations.CompiledFragment.{CompiledFragment}
 use Rattle.plan_read.specs.Laws.{AreLocals}
+use Rattle.plan_read.specs.ReaderTypes as reader_types
 use Rattle.plan_ir.specs.relay_dirs.Locals.{locals_of}
 use Rattle.plan_ir.specs.relay_dirs.View.{directives_of_all, local_view}
 use Rattle.plan_read.specs.relay_model.Reaches.{operation_reaches}
@@ -78,13 +79,15 @@ pub record KeepsFragment (defs : Defs) (n : Text) (f : FragmentAt) (c : Compiled
 
 -- ---- reading
 
--- for every map, owner and id, under each environment, the plan reads what the operation along the documents shows in the masked form
+-- the plan is typed; for every map, owner and id, under each environment, it reads what the operation along the documents shows in the masked form
 pub record ReadsOperation (defs : Defs) (ps : List (Placed Document)) (o : OperationAt) (c : Compiled) : Type 0 where
+  pub typed : reader_types.is_typed c.reader.value.steps ≡ true
   pub reads : (own : Values) (owner : Text) (m : Slots) (id : Text)
       → plan_reads (type_of_record c.root) owner m own c.reader.value.steps c.types id ≡ operation_reads (project defs ps) o own owner m id
 
 -- the same of a fragment, under an operation of any root type, for all values of its local variables
 pub record ReadsFragment (defs : Defs) (ps : List (Placed Document)) (f : FragmentAt) (c : CompiledFragment) : Type 0 where
+  pub typed : reader_types.is_typed c.reader.value.steps ≡ true
   pub reads : (operation_type : Text) (own scope : Values) → AreLocals f scope → (owner : Text) (m : Slots) (id : Text)
       → plan_reads (type_of_record operation_type) owner m (with_marked own scope) c.reader.value.steps c.types id
       ≡ fragment_reads (project defs ps) f operation_type own scope owner m id

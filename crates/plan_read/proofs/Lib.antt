@@ -18,4 +18,5 @@ pub mod PlanDepth
 pub mod ReaderItems
 pub mod ReaderLaws
 pub mod SuitedFragments
+pub mod TypedReaders
 pub mod Zips

@@ -7,6 +7,7 @@ ghost use Rattle.plan_read.specs.Laws.{
   ReadersMeanSuitedFragments,
   ReadersMeanSuitedOperations,
 };
+ghost use Rattle.plan_read.specs.ReaderTypes.{FragmentReadersAreTyped, OperationReadersAreTyped};
 
 /// Law: the expansion of a fragment that meets the rules that it needs is suited, also where the
 /// fragment's type is abstract. The fragment need not stand in a document; the fragments that its
@@ -47,4 +48,16 @@ pub fn readers_mean_operations()
 /// variables.
 pub fn readers_mean_fragments()
     ensures { ReadersMeanFragments }
+{}
+
+/// Law: the plan by which an operation is read is typed: the types of its steps and guards are Names,
+/// and a step whose type is not open has exactly one, as that of a connection. The operation meets the
+/// rules that it needs.
+pub fn operation_readers_are_typed()
+    ensures { OperationReadersAreTyped }
+{}
+
+/// Law: so is the plan by which a fragment that meets the rules that it needs is read.
+pub fn fragment_readers_are_typed()
+    ensures { FragmentReadersAreTyped }
 {}
