@@ -1,5 +1,5 @@
 -- What is kept of the operations and the fragments of an accepted project is what the documents have.
-use Rattle.std.proofs.Common.{◌≡◌, ◌≤◌, ℕ, ◌+◌, Bool, true, cond, List, [], ◌∷◌, length, map, take, Option, Some, None, option_map, is_some, refl, ap, sym, subst, ◌∙◌}
+use Rattle.std.proofs.Common.{◌≡◌, ◌≤◌, ℕ, ◌+◌, true, cond, List, [], ◌∷◌, length, map, take, Option, Some, None, option_map, refl, ap, sym, subst, ◌∙◌}
 use Rattle.plan_ir.specs.gql_ast.declared.document.Document.{Document}
 use Rattle.plan_ir.specs.gql_ast.declared.document.Fragment.{Fragment}
 use Rattle.plan_ir.specs.gql_ast.declared.document.Operation.{Operation}
@@ -16,7 +16,7 @@ use Rattle.plan_read.specs.plan_expand.Answers.{project, whole_in}
 use Rattle.plan_read.specs.plan_expand.Places.{place_in}
 use Rattle.plan_ir.specs.Expansion.{Whole, name_or, whole_operation}
 use Rattle.plan_ir.specs.Normal.{Normal}
-use Rattle.plan_ir.specs.NormalMeaning.{is_formed, plan_says}
+use Rattle.plan_ir.specs.NormalMeaning.{plan_says}
 use Rattle.plan_ir.specs.NormalReach.{plan_reaches}
 use Rattle.plan_ir.specs.declared.expanded.Expanded.{Expanded}
 use Rattle.plan_ir.specs.declared.form.Form.TheVariants as F
@@ -34,12 +34,9 @@ use Rattle.plan_read.specs.Plans.{reader_in}
 use Rattle.plan_ir.specs.relay_dirs.Locals.{locals_of}
 use Rattle.plan_ir.specs.relay_dirs.View.{local_view}
 use Rattle.plan_read.specs.relay_model.Readings.{no_place}
-use Rattle.plan_read.specs.relay_model.Responses.{operation_says}
 use Rattle.plan_ir.specs.schema_tables.Types.{Text, Defs, is_composite, possible, root}
 use Rattle.plan_ir.specs.schema_types.DocumentRules.{places_of}
-use Rattle.plan_ir.specs.schema_types.Environments.{Values}
 use Rattle.plan_ir.specs.schema_types.Sites.{FragmentAt, OperationAt}
-use Rattle.serde_json.specs.Data as J
 use Rattle.plan_ir.specs.store_model.Walks.{type_of_record}
 
 -- what holds of both, where both are there
