@@ -7,28 +7,18 @@ use Rattle.plan_ir.specs.gql_plain.Order.{has_text}
 use Rattle.plan_ir.specs.gql_plain.declared.ids.Conn.{Conn}
 use Rattle.plan_build.proofs.Covariance.{Within, base_on, covariant, narrow_object, narrow_within}
 use Rattle.plan_build.proofs.CovarianceRules.{SchemaMeets}
-use Rattle.plan_build.proofs.SuitedRules.{IsConnectionType}
+use Rattle.plan_build.proofs.SuitedRules.{IsConnectionType, object_is_composite}
 use Rattle.plan_build.specs.Suited.{FieldSuits, Suited}
 use Rattle.plan_ir.specs.Additions.{type_on, type_or}
 use Rattle.plan_ir.specs.Nodes.{Nodes, end}
 use Rattle.relay_model.specs.Collection.{below_type, form_of_type, form_on}
 use Rattle.plan_ir.specs.schema_rules.Rules.{is_narrower_name, is_object}
 use Rattle.plan_ir.specs.schema_tables.Fits.{is_list_type}
-use Rattle.plan_ir.specs.schema_tables.Types.{Text, Defs, base_of, is_composite, is_composite_kind, is_kind, is_object_kind, kind_of, possible}
-use Rattle.plan_ir.specs.schema_tables.declared.kind.TypeKind.{TypeKind}
-use Rattle.plan_ir.specs.schema_tables.declared.kind.TypeKind.TheVariants.{Object}
+use Rattle.plan_ir.specs.schema_tables.Types.{Text, Defs, base_of, is_composite, possible}
 use Rattle.plan_ir.specs.schema_types.Sites.{field_type, typename_on}
 use Rattle.plan_ir.specs.store_model.Items.{Below, leaf, many, one, typename}
 
 -- ---- forms
-
-object_kind : (o : Option TypeKind) → is_kind is_object_kind o ≡ true → is_kind is_composite_kind o ≡ true
-object_kind None e = e
-object_kind (Some Object) e = refl
-object_kind (Some k) e = absurd (true≢false (sym e))
-
-object_is_composite : (defs : Defs) (t : Text) → is_object defs t ≡ true → is_composite defs t ≡ true
-object_is_composite defs t e = object_kind (kind_of defs t) e
 
 -- an object or a list of objects is no leaf
 no_leaf : (b : Bool) (x y : Below) → cond b (many x) (one y) ≡ leaf → ⊥

@@ -1,5 +1,5 @@
 -- The expansion of an operation of documents that meet the rules is suited.
-use Rattle.std.proofs.Common.{◌≡◌, ℕ, ◌+◌, Bool, true, false, true≢false, cond, List, [], ◌∷◌, ◌++◌, Option, Some, None, is_some, refl, sym, subst}
+use Rattle.std.proofs.Common.{◌≡◌, ℕ, ◌+◌, Bool, true, false, true≢false, cond, List, [], ◌∷◌, ◌++◌, Option, Some, None, is_some, refl, ap, sym, subst, ◌∙◌}
 use Rattle.std.specs.List.{AllByRecursion}
 use Rattle.plan_ir.specs.gql_ast.declared.document.Definition.{Definition}
 use Rattle.plan_ir.specs.gql_ast.declared.document.Definition.TheVariants as D
@@ -132,13 +132,15 @@ root_there : (defs : Defs) (o : OperationAt) (l : Option Located) → is_some l 
 root_there defs o None i e = absurd (true≢false (sym i))
 root_there defs o (Some l) i e = right (is_some (root defs o.kind)) l.at e
 
--- an operation with its root type
-at_root : (p : Project) (meets : SchemaMeets p.defs) → AllByRecursion (FragmentMeets p.defs) p.fragments → (o : OperationAt) → OperationMeets p.defs o
-    → (x : Option Text) → root p.defs o.kind ≡ x → is_some x ≡ true
-    → (is_object p.defs (name_or x) ≡ true) × Suited p.defs (name_or x) (name_or x) (expansion (spreads_in p) p operation_scope (operation_from o) x o.selections)
-at_root p meets fs o h None e i = absurd (true≢false (sym i))
-at_root p meets fs o h (Some r) e i =
-    (root_is_object p.defs meets o.kind r e, expanded p meets fs (spreads_in p) operation_scope (operation_from o) r r o.selections (λ T k. k) (h r e))
+-- an operation has a root type, and its set meets the rules there
+pub record MeetsAtRoot (defs : Defs) (o : OperationAt) : Type 0 where
+  pub type : Text
+  pub is : root defs o.kind ≡ Some type
+  pub meets : Meets defs type o.selections
+
+at_root : (defs : Defs) (o : OperationAt) → OperationMeets defs o → (x : Option Text) → root defs o.kind ≡ x → is_some x ≡ true → MeetsAtRoot defs o
+at_root defs o h None e i = absurd (true≢false (sym i))
+at_root defs o h (Some r) e i = record { type = r; is = e; meets = h r e }
 
 -- ---- the law
 
@@ -171,14 +173,26 @@ pub fragments_of_documents : (defs : Defs) (ps : List (Placed Document)) → IsS
 fragments_of_documents defs ps sound meet =
     fragments_meet defs (sound_meets defs sound) (definitions defs ps) (all_have_sites defs 0 (trees_of ps)) (sets_meet defs ps meet)
 
-pub operations_are_suited : OperationsAreSuited
-operations_are_suited defs ps place name o sound meet found =
+-- the operation of a name
+pub operation_of_documents : (defs : Defs) (ps : List (Placed Document)) (name : Text) (o : OperationAt) → IsSound defs → MeetsRules defs ps
+    → operation_named (operations (definitions defs ps)) name ≡ Some o → MeetsAtRoot defs o
+operation_of_documents defs ps name o sound meet found =
     let ds : List DefinitionAt = definitions defs ps in
-    let schema = sound_meets defs sound in
     let documents = documents_meet defs ds meet in
-    let sets = operations_meet defs schema ds (all_have_sites defs 0 (trees_of ps)) (sets_meet defs ps meet) in
+    let sets = operations_meet defs (sound_meets defs sound) ds (all_have_sites defs 0 (trees_of ps)) (sets_meet defs ps meet) in
     let here = operation_holds (OperationMeets defs) (operations ds) name o sets found in
     let rooted = operation_holds (λ (x : OperationAt). without_root defs x x.name ≡ []) (operations ds) name o
     (none_each (λ (x : OperationAt). without_root defs x x.name) (operations ds) documents.roots) found in
-    let r = at_root (project_of defs place ds) schema (fragments_of_documents defs ps sound meet) o here.0 (root defs o.kind) refl (root_there defs o o.name here.1 rooted.0) in
-    record { root = r.0; selections = r.1 }
+    at_root defs o here.0 (root defs o.kind) refl (root_there defs o o.name here.1 rooted.0)
+
+pub operations_are_suited : OperationsAreSuited
+operations_are_suited defs ps place name o sound meet found =
+    let p : Project = project_of defs place (definitions defs ps) in
+    let schema = sound_meets defs sound in
+    let r = operation_of_documents defs ps name o sound meet found in
+    record {
+      root = ap (λ (x : Option Text). is_object defs (name_or x)) r.is ∙ root_is_object defs schema o.kind r.type r.is;
+      selections =
+          subst (λ (x : Option Text). Suited defs (name_or x) (name_or x) (expansion (spreads_in p) p operation_scope (operation_from o) x o.selections)) (sym r.is)
+          (expanded p schema (fragments_of_documents defs ps sound meet) (spreads_in p) operation_scope (operation_from o) r.type r.type o.selections (λ T k. k) r.meets);
+    }

@@ -1,5 +1,5 @@
--- What the rules on documents say of each field, by the type around it: it is there, the type name has nothing, and a connection's type has edges
--- and page information.
+-- What the rules on documents say of each field, by the type around it: it is there, the type name has nothing, and a connection has a set, and a
+-- type with edges and page information.
 use Rattle.std.proofs.Common.{◌≡◌, ℕ, ◌+◌, Bool, true, false, true≢false, cond, not, ◌&&◌, List, [], ◌∷◌, ◌++◌, codes, Option, Some, None, option_map, is_some, bytes_eq, refl, ap, sym, subst, ◌∙◌}
 use Rattle.std.specs.List.{AllByRecursion}
 use Rattle.doc_merge.specs.Gathering.{on_or}
@@ -20,8 +20,10 @@ use Rattle.plan_ir.specs.Additions.{type_or}
 use Rattle.plan_ir.specs.relay_dirs.Connections as connections
 use Rattle.plan_ir.specs.relay_dirs.Connections.{are_edges, connection_among, connection_from, field_defined, is_connection, is_connection_name, is_connection_type, is_edge, is_node, is_page, is_page_info, is_page_leaf, is_single, needs_nothing, of_name, type_wrong, type_wrong_at}
 use Rattle.plan_ir.specs.schema_rules.Rules.{is_object, repeated_names}
-use Rattle.plan_ir.specs.schema_tables.Types.{Text, Defs, base_of, field_def, field_on, is_composite}
+use Rattle.plan_ir.specs.schema_tables.Types.{Text, Defs, base_of, field_def, field_on, is_composite, is_composite_kind, is_kind, is_object_kind, kind_of}
 use Rattle.plan_ir.specs.schema_tables.Views.{FieldDef}
+use Rattle.plan_ir.specs.schema_tables.declared.kind.TypeKind.{TypeKind}
+use Rattle.plan_ir.specs.schema_tables.declared.kind.TypeKind.TheVariants.{Object}
 use Rattle.plan_ir.specs.schema_trees.Located.{directives_nodes}
 use Rattle.plan_ir.specs.schema_types.ArgumentRules.{argument_names, arguments_of_call_wrong, calls_at, field_takes, inputs, not_taken}
 use Rattle.plan_ir.specs.schema_types.FieldRules.{set_is_wrong, set_wrong_at, undefined_at}
@@ -43,6 +45,7 @@ pub record FieldMeets (defs : Defs) (around n : Text) (xs : List (Text × Val)) 
   pub plain : n ≡ codes "__typename" → c ≡ None
   pub alone : n ≡ codes "__typename" → s ≡ sels.end
   pub connection : is_some c ≡ true → IsConnectionType defs (base_on defs around n)
+  pub filled : is_some c ≡ true → is_set s ≡ true
 
 -- each field, also of inner sets
 abbrev pub Meets : Defs → (around : Text) → Sels → Type 0
@@ -71,6 +74,20 @@ no_set : (defs : Defs) (composite has_set : Bool) → is_some (typename_on compo
 no_set defs true true e f = absurd (true≢false f)
 no_set defs true false e f = refl
 no_set defs false has_set e f = absurd (true≢false (sym e))
+
+object_kind : (o : Option TypeKind) → is_kind is_object_kind o ≡ true → is_kind is_composite_kind o ≡ true
+object_kind None e = e
+object_kind (Some Object) e = refl
+object_kind (Some k) e = absurd (true≢false (sym e))
+
+pub object_is_composite : (defs : Defs) (t : Text) → is_object defs t ≡ true → is_composite defs t ≡ true
+object_is_composite defs t e = object_kind (kind_of defs t) e
+
+-- an object has a set
+has_selections : (defs : Defs) (t : Option Ty) (has_set : Bool) → is_some t ≡ true → is_object defs (base_of (type_or t)) ≡ true → set_is_wrong defs t has_set ≡ false → has_set ≡ true
+has_selections defs None has_set i o e = absurd (true≢false (sym i))
+has_selections defs (Some t) true i o e = refl
+has_selections defs (Some t) false i o e = absurd (true≢false (sym (object_is_composite defs (base_of t) o) ∙ e))
 
 no_selections : (s : Sels) → is_set s ≡ false → s ≡ sels.end
 no_selections sels.end e = refl
@@ -168,9 +185,9 @@ module _ (defs : Defs) (meets : SchemaMeets defs) where
     plain = λ same. none_there (connection_among ds) (λ i. not_typename around n (connected i) same);
     alone = λ same. no_selections s
         (no_set defs (is_composite defs around) (is_set s) (subst (λ (m : Text). is_some (field_type defs (Some around) m) ≡ true) same there)
-        (subst (λ (m : Text). set_is_wrong defs (field_type defs (Some around) m) (is_set s) ≡ false) same
-        (not_so (set_is_wrong defs (field_type defs (Some around) n) (is_set s)) (from + 1 + optional_name_nodes a) h.set)));
-    connection = λ i. connection_of_field around n (differs (bytes_eq n (codes "__typename")) refl (connected i)) (connected i);
+        (subst (λ (m : Text). set_is_wrong defs (field_type defs (Some around) m) (is_set s) ≡ false) same set));
+    connection = typed;
+    filled = λ i. has_selections defs (field_type defs (Some around) n) (is_set s) there (typed i).object set;
   }
     where
       there : is_some (field_type defs (Some around) n) ≡ true
@@ -179,6 +196,9 @@ module _ (defs : Defs) (meets : SchemaMeets defs) where
       connected : is_some (connection_among ds) ≡ true → is_connection defs (field_defined defs (Some around) n) ≡ true
       connected i = connection_right defs (field_defined defs (Some around) n) (from + head_nodes a + arguments_nodes xs) ds h.connection i
 
+      set : set_is_wrong defs (field_type defs (Some around) n) (is_set s) ≡ false
+      set = not_so (set_is_wrong defs (field_type defs (Some around) n) (is_set s)) (from + 1 + optional_name_nodes a) h.set
+
       none_there : (c : Option Conn) → (is_some c ≡ true → ⊥) → c ≡ None
       none_there None f = refl
       none_there (Some c) f = absurd (f refl)
@@ -186,6 +206,9 @@ module _ (defs : Defs) (meets : SchemaMeets defs) where
       differs : (b : Bool) → bytes_eq n (codes "__typename") ≡ b → is_connection defs (field_defined defs (Some around) n) ≡ true → bytes_eq n (codes "__typename") ≡ false
       differs true e i = absurd (not_typename around n i (same_text n (codes "__typename") e))
       differs false e i = e
+
+      typed : is_some (connection_among ds) ≡ true → IsConnectionType defs (base_on defs around n)
+      typed i = connection_of_field around n (differs (bytes_eq n (codes "__typename")) refl (connected i)) (connected i)
 
   -- all sites of a set with this type around it
   pub all_meet : (from : ℕ) (around : Text) (s : Sels) → AllByRecursion (SiteMeets defs) (sites defs from (Some around) s) → Meets defs around s

@@ -1,0 +1,108 @@
+-- What is known of the fields that parts give on an object type, and of their groups: each connection leads to the type of one, and its set asks
+-- for the page information.
+use Rattle.std.proofs.Common.{◌≡◌, true, cond, List, [], ◌∷◌, ◌++◌, map, codes, Option, Some, None, option_map, is_some, refl, ap, sym, subst, ◌∙◌, inl, inr}
+use Rattle.std.specs.List.{AllByRecursion}
+use Rattle.plan_ir.specs.gql_ast.declared.directive.Directive.{Directive}
+use Rattle.plan_ir.specs.gql_plain.Order.{has_text}
+use Rattle.plan_ir.specs.gql_plain.declared.ids.Conn.{Conn}
+use Rattle.plan_build.proofs.Grouped.{groups_seen, seen_group}
+use Rattle.plan_build.proofs.PartLaws.{Holds, Merge, among_left, among_right, each_append, each_if, each_left}
+use Rattle.plan_build.proofs.Parts.{Part, as_set, child, gather, gather_all, gather_in, node_items, set_of}
+use Rattle.plan_build.proofs.StepLaws.{inside_type}
+use Rattle.plan_build.specs.NodesMeaning.{Set, ask_of_node, collect_nodes}
+use Rattle.plan_build.specs.Suited.{type_inside}
+use Rattle.plan_ir.specs.Nodes as nodes
+use Rattle.plan_ir.specs.Nodes.{Nodes}
+use Rattle.plan_ir.specs.schema_tables.Types.{Text, Defs, base_of, possible}
+use Rattle.plan_ir.specs.schema_types.Environments.{Values}
+use Rattle.plan_ir.specs.store_model.Alike.{Among}
+use Rattle.plan_ir.specs.store_model.Items.{Asked, Group, collect_all, grouped_onto, groups_at, groups_of}
+use Rattle.relay_machine.specs.relay_model.Collection.{connection_asked}
+use Rattle.relay_machine.specs.relay_model.plan_text.Collecting.{applies, is_left_out}
+use Rattle.sound_answers.proofs.Pages.{HasPageInfo, IsPaged, Paged}
+
+-- ---- parts
+
+abbrev pub PartPaged : Defs → Part → Type 0
+PartPaged defs p = Paged defs p.type p.set.nodes
+
+-- sets that are those of parts, of which all is known on an object type
+pub record KnownAt (defs : Defs) (T : Text) (fs : List Set) : Type 0 where
+  pub parts : List Part
+  pub sets : fs ≡ map set_of parts
+  pub holds : AllByRecursion (Holds defs T) parts
+  pub merge : Merge defs parts
+  pub paged : AllByRecursion (PartPaged defs) parts
+
+-- their groups are those of the fields that the parts give
+pub groups_are : (defs : Defs) (T : Text) (fs : List Set) (k : KnownAt defs T fs)
+    → groups_at (collect_nodes defs) T fs ≡ map (seen_group as_set) (grouped_onto [] (gather_all defs T k.parts))
+groups_are defs T fs k =
+    ap groups_of (ap (collect_all (collect_nodes defs) T) k.sets ∙ node_items defs T k.parts) ∙ groups_seen as_set (gather_all defs T k.parts)
+
+-- ---- fields
+
+-- a field that is gathered on an object type, and what stands below it
+pub record FieldPaged (defs : Defs) (T : Text) (a : Asked Part) : Type 0 where
+  pub page : is_some a.ask.connection ≡ true → IsPaged defs T a.ask.name a.part.set.nodes
+  pub below : PartPaged defs a.part
+
+is_connection : (c : Option Conn) → is_some (option_map connection_asked c) ≡ true → is_some c ≡ true
+is_connection None i = i
+is_connection (Some c) i = refl
+
+module _ (defs : Defs) (T : Text) where
+  gathered_paged : (env : Values) (t : Text) (s : Nodes) → has_text (possible defs t) T ≡ true → Paged defs t s → AllByRecursion (FieldPaged defs T) (gather_in defs T env s)
+  gathered_paged env t nodes.end there h = tt
+  gathered_paged env t (nodes.field r n xs ds c of s p rest) there h =
+      let one : Asked Part = record { ask = ask_of_node defs T env r n xs c; part = child defs env of s } in
+      each_append (FieldPaged defs T) (cond (is_left_out env ds) [] (one ∷ [])) (gather_in defs T env rest)
+      (each_left (FieldPaged defs T) (is_left_out env ds) (one ∷ []) (record { page = λ i. h.0 T there (is_connection c i); below = h.1 }, tt))
+      (gathered_paged env t rest there h.2)
+  gathered_paged env t (nodes.inline o ds s p rest) there h =
+      each_append (FieldPaged defs T) (cond (is_left_out env ds) [] (cond (applies defs o T) (gather_in defs T env s) [])) (gather_in defs T env rest)
+      (each_left (FieldPaged defs T) (is_left_out env ds) (cond (applies defs o T) (gather_in defs T env s) [])
+      (each_if (FieldPaged defs T) (applies defs o T) (gather_in defs T env s) (λ it. gathered_paged env (type_inside defs t o) s (inside_type defs t o T there it) h.0)))
+      (gathered_paged env t rest there h.1)
+
+  pub all_paged : (ps : List Part) → AllByRecursion (Holds defs T) ps → AllByRecursion (PartPaged defs) ps → AllByRecursion (FieldPaged defs T) (gather_all defs T ps)
+  all_paged [] h k = tt
+  all_paged (p ∷ ps) h k =
+      each_append (FieldPaged defs T) (gather defs T p) (gather_all defs T ps) (gathered_paged p.set.environment p.type p.set.nodes h.0.there k.0) (all_paged ps h.1 k.1)
+
+  -- ---- the page information
+
+  -- a field of its response key and its name
+  pub record HasInfo (us : List (Asked Part)) : Type 0 where
+    pub field : Asked Part
+    pub there : Among field us
+    pub response : field.ask.response ≡ codes "pageInfo"
+    pub name : field.ask.name ≡ codes "pageInfo"
+
+  later : (us vs : List (Asked Part)) → HasInfo vs → HasInfo (us ++ vs)
+  later us vs i = record { field = i.field; there = among_right i.field us vs i.there; response = i.response; name = i.name }
+
+  earlier : (us vs : List (Asked Part)) → HasInfo us → HasInfo (us ++ vs)
+  earlier us vs i = record { field = i.field; there = among_left i.field us vs i.there; response = i.response; name = i.name }
+
+  info_gathered : (env : Values) (s : Nodes) → HasPageInfo s → HasInfo (gather_in defs T env s)
+  info_gathered env nodes.end h = absurd h
+  info_gathered env (nodes.field r n xs ds c of s p rest) (inl h) =
+      let one : Asked Part = record { ask = ask_of_node defs T env r n xs c; part = child defs env of s } in
+      earlier (cond (is_left_out env ds) [] (one ∷ [])) (gather_in defs T env rest) (record {
+        field = one;
+        there = subst (λ (ws : List Directive). Among one (cond (is_left_out env ws) [] (one ∷ []))) (sym h.2) (inl refl);
+        response = h.0;
+        name = h.1;
+      })
+  info_gathered env (nodes.field r n xs ds c of s p rest) (inr h) =
+      later (cond (is_left_out env ds) [] (record { ask = ask_of_node defs T env r n xs c; part = child defs env of s } ∷ [])) (gather_in defs T env rest) (info_gathered env rest h)
+  info_gathered env (nodes.inline o ds s p rest) h =
+      later (cond (is_left_out env ds) [] (cond (applies defs o T) (gather_in defs T env s) [])) (gather_in defs T env rest) (info_gathered env rest h)
+
+  -- where one of the parts asks for it
+  pub info_among : (ps : List Part) (p : Part) → Among p ps → HasPageInfo p.set.nodes → HasInfo (gather_all defs T ps)
+  info_among [] p there h = absurd there
+  info_among (q ∷ ps) p (inl e) h =
+      earlier (gather defs T q) (gather_all defs T ps) (info_gathered q.set.environment q.set.nodes (subst (λ (w : Part). HasPageInfo w.set.nodes) (sym e) h))
+  info_among (q ∷ ps) p (inr there) h = later (gather defs T q) (gather_all defs T ps) (info_among ps p there h)

@@ -1,0 +1,4 @@
+pub mod Pages
+pub mod Gathered
+pub mod Typed
+pub mod Accepted
