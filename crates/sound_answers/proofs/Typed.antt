@@ -23,7 +23,7 @@ use Rattle.plan_ir.proofs.store_model_laws.Least.{each_from, in_first}
 use Rattle.plan_ir.proofs.store_model_laws.Seated.{SeatedIn, Seated, group_for, grouped_seats, of_among}
 use Rattle.plan_ir.proofs.store_model_laws.Valid.{Fits, onto_fits}
 use Rattle.plan_ir.specs.store_model.Alike.{Among}
-use Rattle.plan_ir.specs.store_model.Items.{Ask, Asked, Below, Connection, Form, Group, Item, asked, asked_of, asks, grouped_onto, groups_at, key_of, leaf, many, members, one, parts, typename}
+use Rattle.plan_ir.specs.store_model.Items.{Ask, Asked, Below, Connection, Form, Group, asked, asked_of, asks, grouped_onto, groups_at, key_of, leaf, many, members, one, parts, typename}
 use Rattle.plan_ir.specs.store_model.Reaches.{types_of}
 use Rattle.plan_ir.specs.store_model.Says.{first_of, handles, info_in, info_of, some_text}
 use Rattle.plan_ir.specs.store_record.Keys.{Arguments, field_key, handle_key, without_nulls}
