@@ -169,6 +169,7 @@ module _ (defs : Defs) (sound : IsSound defs) where
         info : is_object defs (info_in (groups_at (collect_nodes defs) type inner)) ≡ true
 
       page_of : (key : Text) → has_text (handles (asks (seen_group as_set g))) key ≡ true → HasPage
+      unfolding known_below
       page_of key h =
           let a = asker (λ (m : Asked Part). Fact m × (m.ask.response ≡ first.ask.response)) (members g) key fits
           (sym (ap (λ (as' : List Ask). has_text (handles as') key) (asks_seen as_set (members g))) ∙ h) in
