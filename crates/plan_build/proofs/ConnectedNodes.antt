@@ -48,11 +48,11 @@ module _ (defs : Defs) (meets : SchemaMeets defs) where
     nothing = λ around t. tt;
     appended = λ around t a b h k. connected_appended defs t a b h k;
     asked = λ around t r n xs ys ds c s set p rest within met bare ends below later. (
-        λ i. field_connects around t n xs c s set p within met i,
-        below,
-        later,
-      );
-    added = λ c of s p connected. plain_connects defs of (additions defs c of s p) (plain_additions defs p c of s);
+      λ i. field_connects around t n xs c s set p within met i,
+      below,
+      later,
+    );
+    added = λ c of s p connected. plain_connects defs (additions defs c of s p) of (plain_additions defs p c of s);
     inside = λ around t o ds s p rest h k. (h, k);
   }
 

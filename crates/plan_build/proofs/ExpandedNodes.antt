@@ -1,5 +1,5 @@
 -- What holds of the nodes that a field of documents becomes holds of all nodes that selections become, through all spreads.
-use Rattle.std.proofs.Common.{◌≡◌, ℕ, zero, suc, ◌+◌, true, List, [], Option, Some, None, is_some, refl, ap, sym, subst}
+use Rattle.std.proofs.Common.{◌≡◌, ℕ, zero, suc, ◌+◌, Bool, true, List, [], Option, Some, None, is_some, refl, ap, sym, subst}
 use Rattle.doc_merge.specs.Gathering.{on_or}
 use Rattle.plan_ir.specs.gql_ast.Sels as sels
 use Rattle.plan_ir.specs.gql_ast.Sels.{Sels}

@@ -29,13 +29,13 @@ use Rattle.plan_build.specs.Suited.{FieldSuits, IsSuited, Suited, type_inside}
 
 -- ---- what forms say
 
-is_many : Form → Bool
+abbrev is_many : Form → Bool
 is_many items.typename = false
 is_many items.leaf = false
 is_many (items.one b) = false
 is_many (items.many b) = true
 
-is_record : Form → Bool
+abbrev is_record : Form → Bool
 is_record items.typename = false
 is_record items.leaf = false
 is_record (items.one b) = true
@@ -44,7 +44,7 @@ is_record (items.many b) = true
 abbrev nothing_below : Below
 nothing_below = record { types = []; identified = []; open_type = false }
 
-what_below : Form → Below
+abbrev what_below : Form → Below
 what_below items.typename = nothing_below
 what_below items.leaf = nothing_below
 what_below (items.one b) = b

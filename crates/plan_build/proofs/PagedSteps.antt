@@ -168,7 +168,7 @@ module _ (defs : Defs) (sound : IsSound defs) where
     named = λ r. refl;
     step = λ ts r n xs ds c of s p rest at T here off h.
         target_paged (record { response = r; name = n; arguments = xs; connection = c }) (steps_of defs (types_at defs (base_of of)) s) (target_on defs T n)
-            (its_page at.around T n (base_of of) c s at.connected.0 (at.within T here)) h;
+        (its_page at.around T n (base_of of) c s at.connected.0 (at.within T here)) h;
     below = λ ts r n xs ds c of s p rest at. below_paged (base_of of) s at.connected.1;
     next = λ ts r n xs ds c of s p rest at. record { around = at.around; within = at.within; connected = at.connected.2 };
     same = λ ts ds s p rest at. record { around = at.around; within = at.within; connected = at.connected.0 };

@@ -7,10 +7,11 @@ use Rattle.plan_ir.specs.gql_ast.Ty.{Ty}
 use Rattle.plan_ir.specs.gql_ast.declared.place.FilePlace.{FilePlace}
 use Rattle.plan_ir.specs.Additions.{additions, bare_field, connection_additions, edges_field, has_bare, id_additions, id_field, ids_on, is_abstract, leaf_on, node_field, or_typename, page_info_field, record_additions, type_on, typename_additions, typename_field}
 use Rattle.plan_ir.specs.Nodes.{Nodes, end, field, inline, nodes_append}
-use Rattle.plan_ir.specs.schema_tables.Types.{Text, Defs, has_id, is_empty, possible}
+use Rattle.plan_ir.specs.schema_tables.Types.{Text, Defs, base_of, has_id, is_empty, possible}
 use Rattle.plan_ir.specs.schema_types.Sites.{is_set}
 use Rattle.plan_build.specs.Connected.{Connected, asks_page}
 use Rattle.plan_build.specs.Meeting.{base_on}
+use Rattle.plan_build.specs.Suited.{type_inside}
 
 -- no field is a connection, also of inner sets
 abbrev pub is_plain : Nodes → Bool
@@ -22,15 +23,15 @@ no_connection : (b : Bool) → not b ≡ true → b ≡ true → ⊥
 no_connection true e f = true≢false (sym e)
 no_connection false e f = true≢false (sym f)
 
-pub plain_connects : (defs : Defs) (t : Text) (s : Nodes) → is_plain s ≡ true → Connected defs t s
-plain_connects defs t end e = tt
-plain_connects defs t (field r n xs ds c of s p rest) e =
+pub plain_connects : (defs : Defs) (s : Nodes) (t : Text) → is_plain s ≡ true → Connected defs t s
+plain_connects defs end t e = tt
+plain_connects defs (field r n xs ds c of s p rest) t e =
     let first = and_parts (not (is_some c)) (is_plain s && is_plain rest) e in
     let more = and_parts (is_plain s) (is_plain rest) first.1 in
-    (λ i. absurd (no_connection (is_some c) first.0 i), plain_connects defs _ s more.0, plain_connects defs t rest more.1)
-plain_connects defs t (inline o ds s p rest) e =
+    (λ i. absurd (no_connection (is_some c) first.0 i), plain_connects defs s (base_of of) more.0, plain_connects defs rest t more.1)
+plain_connects defs (inline o ds s p rest) t e =
     let more = and_parts (is_plain s) (is_plain rest) e in
-    (plain_connects defs _ s more.0, plain_connects defs t rest more.1)
+    (plain_connects defs s (type_inside defs t o) more.0, plain_connects defs rest t more.1)
 
 -- ---- what is added is plain
 

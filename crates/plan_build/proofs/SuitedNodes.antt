@@ -29,12 +29,12 @@ each_suited defs meets = record {
   nothing = λ around t. tt;
   appended = nodes_appended defs;
   asked = λ around t r n xs ys ds c s set p rest within field bare ends inside later. (
-      λ T k. (field_suits defs meets around t n ys c (whole_set defs around n c s set p) within
-          (record { there = field.there; bare = λ same. bare (field.bare same); plain = field.plain; connection = field.connection })
-          (λ same. ends (field.alone same)) inside T k).0,
-      inside,
-      later,
-    );
+    λ T k. (field_suits defs meets around t n ys c (whole_set defs around n c s set p) within
+        (record { there = field.there; bare = λ same. bare (field.bare same); plain = field.plain; connection = field.connection })
+        (λ same. ends (field.alone same)) inside T k).0,
+    inside,
+    later,
+  );
   added = λ c of s p connected. additions_suit defs p meets c of of s connected (λ T k. k);
   inside = λ around t o ds s p rest h k. (h, k);
 }

@@ -1,6 +1,6 @@
 -- What plans ask of an operation or a fragment: of V6, V7, V8, V12 and V22, what its own fields need, and those of the fragments that its
 -- spreads find. Those of documents that meet V1 to V22 meet it, and so may an operation that stands in no document.
-use Rattle.std.specs.Prelude.{◌≡◌, true, List, codes, Option, None, Some, is_some}
+use Rattle.std.specs.Prelude.{◌≡◌, true, List, [], codes, Option, None, Some, is_some}
 use Rattle.doc_merge.specs.Gathering.{on_or}
 use Rattle.plan_ir.specs.gql_ast.Sels as sels
 use Rattle.plan_ir.specs.gql_ast.Sels.{Sels}
