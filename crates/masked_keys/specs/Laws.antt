@@ -13,10 +13,13 @@ use Rattle.plan_ir.specs.schema_types.Environments.{Values}
 use Rattle.plan_ir.specs.schema_types.NameRules.{fragment_named, fragments, operations}
 use Rattle.plan_ir.specs.schema_types.Sites.{FragmentAt, OperationAt}
 use Rattle.plan_ir.specs.store_model.Walks.{Found, Slots, type_of_record}
+use Rattle.plan_read.specs.Constants.{AreConstant}
 use Rattle.plan_read.specs.Laws.{AreLocals}
 use Rattle.plan_read.specs.Steps.{fragment_reader, operation_reader}
 use Rattle.plan_read.specs.doc_merge.Faults.{field_differences}
+use Rattle.plan_read.specs.plan_build.FieldsAlike.{FieldsAreAlike}
 use Rattle.plan_read.specs.plan_build.Laws.{MeetsRules, definitions}
+use Rattle.plan_read.specs.plan_build.Suited.{IsSuited, Suited}
 use Rattle.relay_model.specs.Readings.{fragment_reads, operation_reads, shadowed_by, with_marked}
 
 -- what is looked at stands in the text of an operation
@@ -38,7 +41,22 @@ abbrev pub FragmentsLookAtTheirKeys : Type 0
 FragmentsLookAtTheirKeys = (p : Project) (f : FragmentAt) (operation_type : Text) (own scope : Values) (owner : Text) (m : Slots) (id : Text)
     → LooksAtFragment p f own scope (fragment_reads p f operation_type own scope owner m id)
 
--- and so does a read by the plan of an operation, under a sound schema and documents that meet V1 to V22, where the operation's fields merge
+-- and so does a read by the plan of an operation, under a sound schema and fragments of which local variables have constant defaults, where the
+-- operation's expansion is suited and its fields are alike
+abbrev pub SuitedOperationPlansLookAtTheirKeys : Type 0
+SuitedOperationPlansLookAtTheirKeys = (p : Project) (o : OperationAt)
+    → IsSound p.defs → AreConstant p → IsSuited p.defs (whole_operation p o).expanded → FieldsAreAlike p.defs (whole_operation p o).expanded
+    → (own : Values) (owner : Text) (m : Slots) (id : Text)
+    → LooksAtOperation p o own (plan_reads (type_of_record (name_or (root p.defs o.kind))) owner m own (operation_reader p o) (name_or (root p.defs o.kind) ∷ []) id)
+
+-- and one by the plan of a fragment
+abbrev pub SuitedFragmentPlansLookAtTheirKeys : Type 0
+SuitedFragmentPlansLookAtTheirKeys = (p : Project) (f : FragmentAt)
+    → IsSound p.defs → AreConstant p → Suited p.defs f.on.name f.on.name (whole_fragment p f).expanded.selections → FieldsAreAlike p.defs (whole_fragment p f).expanded
+    → (operation_type : Text) (own scope : Values) → AreLocals f scope → (owner : Text) (m : Slots) (id : Text)
+    → LooksAtFragment p f own scope (plan_reads (type_of_record operation_type) owner m (with_marked own scope) (fragment_reader p f) (possible p.defs f.on.name) id)
+
+-- of documents that meet V1 to V22 a read by the plan of an operation does so, where the operation's fields merge
 abbrev pub OperationPlansLookAtTheirKeys : Type 0
 OperationPlansLookAtTheirKeys = (defs : Defs) (ps : List (Placed Document)) (place : ℕ → FilePlace) (name : Text) (o : OperationAt)
     → IsSound defs → MeetsRules defs ps → operation_named (operations (definitions defs ps)) name ≡ Some o

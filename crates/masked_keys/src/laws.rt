@@ -4,6 +4,8 @@ ghost use Rattle.masked_keys.specs.Laws.{
   FragmentsLookAtTheirKeys,
   OperationPlansLookAtTheirKeys,
   OperationsLookAtTheirKeys,
+  SuitedFragmentPlansLookAtTheirKeys,
+  SuitedOperationPlansLookAtTheirKeys,
 };
 
 /// Law: each key that the read of an operation looks at is that of a field which stands in the
@@ -17,6 +19,18 @@ pub fn operations_look_at_their_keys()
 /// text, and so on in the same way. No text of another fragment counts.
 pub fn fragments_look_at_their_keys()
     ensures { FragmentsLookAtTheirKeys }
+{}
+
+/// Law: a read by the plan of an operation whose expansion is suited, and whose fields are alike, looks
+/// at these keys alone. Local variables of fragments have constant defaults.
+pub fn suited_operation_plans_look_at_their_keys()
+    ensures { SuitedOperationPlansLookAtTheirKeys }
+{}
+
+/// Law: a read by the plan of a fragment whose expansion is suited, and whose fields are alike, looks at
+/// these keys alone. Local variables of fragments have constant defaults.
+pub fn suited_fragment_plans_look_at_their_keys()
+    ensures { SuitedFragmentPlansLookAtTheirKeys }
 {}
 
 /// Law: a read by the plan of an operation of an accepted project looks at these keys alone.

@@ -67,7 +67,7 @@ held T c = cond (has_text c.types T) (c.target ∷ []) []
 abbrev pub found : Text → List Class → List Target
 found T cs = each (held T) cs
 
-has_push : (xs : List Text) (X T : Text) → has_text (xs ++ X ∷ []) T ≡ (has_text xs T || bytes_eq X T)
+pub has_push : (xs : List Text) (X T : Text) → has_text (xs ++ X ∷ []) T ≡ (has_text xs T || bytes_eq X T)
 has_push [] X T = or_false (bytes_eq X T)
 has_push (x ∷ xs) X T = ap (λ (b : Bool). bytes_eq x T || b) (has_push xs X T) ∙ or_assoc (bytes_eq x T) (has_text xs T) (bytes_eq X T) where
   or_assoc : (a b c : Bool) → (a || (b || c)) ≡ ((a || b) || c)

@@ -14,6 +14,7 @@ use Rattle.plan_ir.specs.gql_plain.Order.{has_text}
 use Rattle.plan_build.proofs.CovarianceLists.{first_true, in_filter, left_by, sorted_alone, then_true}
 use Rattle.plan_build.proofs.CovarianceNames.{no_union, not_both, object_there}
 use Rattle.plan_build.proofs.CovarianceRules.{Narrower, SchemaMeets, implemented, narrower_base, narrower_field, narrower_itself}
+use Rattle.plan_build.specs.Meeting.{base_on}
 use Rattle.plan_ir.specs.Additions.{type_on, type_or}
 use Rattle.plan_ir.proofs.schema_rules_laws.InheritedSteps.{none_such, stands_in}
 use Rattle.plan_ir.specs.schema_rules.Rules.{is_interface, is_narrower_name, is_object}
@@ -33,10 +34,6 @@ possible_is defs t T h =
 
 possible_from : (defs : Defs) (t T : Text) → has_text (objects defs) T ≡ true → applies defs T t ≡ true → has_text (possible defs t) T ≡ true
 possible_from defs t T h e = has_text-sorted_texts (filter (λ o. applies defs o t) (objects defs)) T ∙ left_by (λ o. applies defs o t) (objects defs) T h e
-
--- the name of a field's type, inside all lists and non-null forms
-abbrev pub base_on : Defs → (of name : Text) → Text
-base_on defs T n = base_of (type_on defs T n)
 
 -- how an object type applies
 by_applying : {P : Type 0} (defs : Defs) (T t : Text) → applies defs T t ≡ true → (T ≡ t → P) → (implements defs T t ≡ true → P) → (has_text (union_members_named (type_named defs t)) T ≡ true → P) → P

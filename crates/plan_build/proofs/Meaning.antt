@@ -17,18 +17,16 @@ use Rattle.plan_ir.specs.store_model.Alike.{Among, AlikeGroup, AlikePointer, Kee
 use Rattle.plan_ir.specs.store_model.Items.{Ask, Asked, Form, Group, typename, leaf, one, many, members, parts, collect_all, groups_at, groups_of, grouped_onto, pointers, pointers_on}
 use Rattle.plan_ir.specs.store_model.Reaches.{types_of}
 use Rattle.plan_ir.specs.store_model.Verdicts.{verdict}
-use Rattle.doc_merge.proofs.CollectedLaws.{collected_alike}
-use Rattle.doc_merge.specs.Faults.{field_differences}
-use Rattle.doc_merge.specs.Gathering.{fields_in}
 use Rattle.doc_merge.specs.Paths.{paths}
 use Rattle.plan_build.proofs.Covariance.{object_alone}
 use Rattle.plan_build.proofs.CovarianceRules.{sound_meets}
 use Rattle.plan_build.proofs.Grouped.{Below, alike_groups, each_map, each_so, groups_seen, no_pointers, seen, seen_group}
 use Rattle.plan_build.proofs.OrderLaws.{differ_one}
-use Rattle.plan_build.proofs.PartLaws.{GatheredFrom, Holds, Merge, all_from, fields, names_below, one_form, one_name_each}
+use Rattle.plan_build.proofs.PartLaws.{GatheredFrom, Holds, Merge, all_from, fields, names_below, one_form}
 use Rattle.plan_build.proofs.Parts.{Part, as_plan, as_set, gather, gather_all, node_item, node_items, plan_below, planned, set_of, step_item}
 use Rattle.plan_build.proofs.SoundTypes.{are_sound}
 use Rattle.plan_build.proofs.StepLaws.{AreSound, step_items}
+use Rattle.plan_build.specs.FieldsAlike.{FieldsAreAlike}
 use Rattle.plan_build.specs.NodesMeaning.{Set, collect_nodes, nodes_say}
 use Rattle.plan_build.specs.Steps.{plan_of}
 use Rattle.plan_build.specs.Suited.{IsSuited}
@@ -149,12 +147,11 @@ plans_keep defs sound T types fs gs own h =
 abbrev pub root_part : Values → Expanded → (types : List Text) → Part
 root_part own e ts = record { set = record { environment = own; nodes = e.selections }; types = ts; around = e.root; type = e.root }
 
-pub merge_root : (defs : Defs) (own : Values) (e : Expanded) (ts : List Text) → field_differences defs e ≡ [] → Merge defs (root_part own e ts ∷ [])
-merge_root defs own e ts none p q (inl f) (inl g) s u h k =
-    one_name_each (fields_in defs e) (collected_alike (fields_in defs e) none) s u
-    (subst (λ (w : Part). Among s (paths (fields defs w))) (sym f) h) (subst (λ (w : Part). Among u (paths (fields defs w))) (sym g) k)
-merge_root defs own e ts none p q (inl f) (inr g) s u h k = absurd g
-merge_root defs own e ts none p q (inr f) g s u h k = absurd f
+pub merge_root : (defs : Defs) (own : Values) (e : Expanded) (ts : List Text) → FieldsAreAlike defs e → Merge defs (root_part own e ts ∷ [])
+merge_root defs own e ts alike p q (inl f) (inl g) s u h k =
+    alike s u (subst (λ (w : Part). Among s (paths (fields defs w))) (sym f) h) (subst (λ (w : Part). Among u (paths (fields defs w))) (sym g) k)
+merge_root defs own e ts alike p q (inl f) (inr g) s u h k = absurd g
+merge_root defs own e ts alike p q (inr f) g s u h k = absurd f
 
 pub root_has : (defs : Defs) → IsSound defs → (t : Text) → is_object defs t ≡ true → has_text (possible defs t) t ≡ true
 root_has defs sound t e = ap (λ (ts : List Text). has_text ts t) (object_alone defs (sound_meets defs sound) t e) ∙ ap (λ (b : Bool). b || false) (same_self t)
@@ -171,18 +168,18 @@ root_holds defs own e sound suited T h =
       alone = λ b. is;
     }
 
-pub root_plans : (defs : Defs) (own : Values) (e : Expanded) → IsSound defs → IsSuited defs e → field_differences defs e ≡ []
+pub root_plans : (defs : Defs) (own : Values) (e : Expanded) → IsSound defs → IsSuited defs e → FieldsAreAlike defs e
     → ArePlans defs (e.root ∷ []) (record { environment = own; nodes = e.selections } ∷ []) (record { environment = own; steps = plan_of defs e } ∷ [])
-root_plans defs own e sound suited none T h = record {
+root_plans defs own e sound suited alike T h = record {
   parts = root_part own e (e.root ∷ []) ∷ [];
   sets = refl;
   plans = refl;
   holds = (root_holds defs own e sound suited T h, tt);
-  merge = merge_root defs own e (e.root ∷ []) none;
+  merge = merge_root defs own e (e.root ∷ []) alike;
 }
 
-pub plan_means : (defs : Defs) (e : Expanded) → IsSound defs → IsSuited defs e → field_differences defs e ≡ [] → (own : Values) (response : J.Data)
+pub plan_means : (defs : Defs) (e : Expanded) → IsSound defs → IsSuited defs e → FieldsAreAlike defs e → (own : Values) (response : J.Data)
     → plan_says e.root own (plan_of defs e) response ≡ nodes_say defs e own response
-plan_means defs e sound suited none own response =
+plan_means defs e sound suited alike own response =
     sym (ap verdict (response_alike (ArePlans defs) (collect_nodes defs) collect_plan (plans_keep defs (are_sound defs sound)) e.root
-    (record { environment = own; nodes = e.selections } ∷ []) (record { environment = own; steps = plan_of defs e } ∷ []) (root_plans defs own e sound suited none) response))
+    (record { environment = own; nodes = e.selections } ∷ []) (record { environment = own; steps = plan_of defs e } ∷ []) (root_plans defs own e sound suited alike) response))

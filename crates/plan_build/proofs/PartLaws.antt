@@ -20,7 +20,7 @@ use Rattle.plan_ir.specs.store_model.Alike.{Among}
 use Rattle.plan_ir.specs.store_model.Items.{Asked, Below, typename, leaf, one, many}
 use Rattle.plan_ir.specs.store_model.Reaches.{types_of}
 use Rattle.doc_merge.proofs.GatherSteps.{rows_before}
-use Rattle.doc_merge.specs.Collected.{AreAlike, Pairwise, is_collected, keys_of, last_field, may_be_on}
+use Rattle.doc_merge.specs.Collected.{AreAlike, Pairwise, last_field, may_be_on}
 use Rattle.doc_merge.specs.Gathering.{fields_of, object_or_none, on_or}
 use Rattle.doc_merge.specs.Merging as merging
 use Rattle.doc_merge.specs.Merging.{Field, Fields, no_fields}
@@ -31,6 +31,7 @@ use Rattle.plan_build.proofs.Grouped.{each_so}
 use Rattle.plan_build.proofs.OrderLaws.{differ_possible}
 use Rattle.plan_build.proofs.Parts.{Part, child, gather, gather_all, gather_in}
 use Rattle.plan_build.proofs.StepLaws.{AreSound, inside_type}
+use Rattle.plan_build.specs.FieldsAlike.{HaveOneName}
 use Rattle.plan_build.specs.NodesMeaning.{ask_of_node}
 use Rattle.plan_build.specs.Steps.{types_at}
 use Rattle.plan_build.specs.Suited.{FieldSuits, Suited, type_inside}
@@ -199,11 +200,8 @@ row_under a below (merging.field b inner next) (inr h) s there = inr (among_righ
 
 -- ---- parts whose fields merge: those collected for the same objects under the same keys have one name
 
-abbrev pub OneName : Path → Path → Type 0
-OneName s u = (objects : List Text) → is_collected objects s ≡ true → is_collected objects u ≡ true → keys_of s ≡ keys_of u → (last_field s).signature.name ≡ (last_field u).signature.name
-
 abbrev pub Merge : Defs → List Part → Type 0
-Merge defs ps = (p q : Part) → Among p ps → Among q ps → (s u : Path) → Among s (paths (fields defs p)) → Among u (paths (fields defs q)) → OneName s u
+Merge defs ps = (p q : Part) → Among p ps → Among q ps → (s u : Path) → Among s (paths (fields defs p)) → Among u (paths (fields defs q)) → HaveOneName s u
 
 pub record GatheredFrom (defs : Defs) (T : Text) (ps : List Part) (a : Asked Part) : Type 0 where
   pub part : Part
@@ -242,7 +240,7 @@ module _ (defs : Defs) (T : Text) (ps : List Part) (merge : Merge defs ps) (a b 
   both_true false y e f = absurd (true≢false (sym e))
 
   -- and so has what stands below them
-  pub names_below : (s u : Path) → Among s (paths (fields defs a.part)) → Among u (paths (fields defs b.part)) → OneName s u
+  pub names_below : (s u : Path) → Among s (paths (fields defs a.part)) → Among u (paths (fields defs b.part)) → HaveOneName s u
   names_below s u there back objects f k e =
       merge g.part h.part g.among h.among (under g.gathered.field s) (under h.gathered.field u)
       (row_under g.gathered.field (fields defs a.part) (fields defs g.part) g.gathered.row s there) (row_under h.gathered.field (fields defs b.part) (fields defs h.part) h.gathered.row u back)
@@ -266,12 +264,12 @@ first_so : (a b : Bool) → (a && b) ≡ true → a ≡ true
 first_so true b e = refl
 first_so false b e = absurd (true≢false (sym e))
 
-name_of_alike : (s u : Path) → AreAlike s u → OneName s u
+name_of_alike : (s u : Path) → AreAlike s u → HaveOneName s u
 name_of_alike s u alike objects f g e = same_text _ _ (first_so _ _ (alike objects f g e).signature)
 
-pub one_name_each : (fs : Fields) → Pairwise AreAlike (paths fs) → (s u : Path) → Among s (paths fs) → Among u (paths fs) → OneName s u
+pub one_name_each : (fs : Fields) → Pairwise AreAlike (paths fs) → (s u : Path) → Among s (paths fs) → Among u (paths fs) → HaveOneName s u
 one_name_each fs all s u h k = on (pairs_of AreAlike s u (paths fs) all h k) where
-  on : (s ≡ u) ⊎ ((AreAlike s u) ⊎ (AreAlike u s)) → OneName s u
+  on : (s ≡ u) ⊎ ((AreAlike s u) ⊎ (AreAlike u s)) → HaveOneName s u
   on (inl e) = λ objects f g q. ap (λ (w : Path). (last_field w).signature.name) e
   on (inr (inl a)) = name_of_alike s u a
   on (inr (inr a)) = λ objects f g q. sym (name_of_alike u s a objects g f (sym q))

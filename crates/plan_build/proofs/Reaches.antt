@@ -1,6 +1,5 @@
 -- The steps of an expanded operation, its nodes and the documents reach the same ids.
 use Rattle.std.proofs.Common.{◌≡◌, ℕ, ◌+◌, ◌≤◌, List, [], ◌∷◌, max, ap, sym, ◌∙◌, arith}
-use Rattle.doc_merge.specs.Faults.{field_differences}
 use Rattle.plan_ir.specs.gql_ast.declared.place.FilePlace.{FilePlace}
 use Rattle.plan_ir.proofs.gql_plain_laws.Booleans.{both_ways}
 use Rattle.plan_ir.specs.gql_plain.Order.{has_text}
@@ -8,6 +7,7 @@ use Rattle.plan_build.proofs.DocumentsAsNodes.{AllCome, kept, operation_comes}
 use Rattle.plan_build.proofs.Meaning.{ArePlans, plans_keep, root_plans}
 use Rattle.plan_build.proofs.PartDepths.{nodes_enough, plan_enough, selections_enough}
 use Rattle.plan_build.proofs.SoundTypes.{are_sound}
+use Rattle.plan_build.specs.FieldsAlike.{FieldsAreAlike}
 use Rattle.plan_build.specs.NodesMeaning.{Set, collect_nodes}
 use Rattle.plan_build.specs.NodesReach.{nodes_reach}
 use Rattle.plan_build.specs.Steps.{plan_of}
@@ -51,16 +51,16 @@ alike_reach r collect gather keeps typed m depth types fs gs id h j =
 
 -- ---- steps and nodes
 
-pub plan_reaches_nodes : (defs : Defs) (e : Expanded) → IsSound defs → IsSuited defs e → field_differences defs e ≡ [] → (own : Values) (m : Slots) (id j : Text)
+pub plan_reaches_nodes : (defs : Defs) (e : Expanded) → IsSound defs → IsSuited defs e → FieldsAreAlike defs e → (own : Values) (m : Slots) (id j : Text)
     → has_text (plan_reaches (type_of_record e.root) m own (plan_of defs e) (e.root ∷ []) id) j ≡ has_text (nodes_reach defs e own m id) j
-plan_reaches_nodes defs e sound suited none own m id j =
+plan_reaches_nodes defs e sound suited alike own m id j =
     let typed : Text → Text = type_of_record e.root in
     let types : List Text = e.root ∷ [] in
     let nodes : Set = record { environment = own; nodes = e.selections } in
     let steps : Plan = record { environment = own; steps = plan_of defs e } in
     let depth : ℕ = max (records_below (plan_of defs e)) (set_depth e.selections) + 1 in
     ap (λ ids. has_text ids j) (sym (plan_enough typed m depth types own (plan_of defs e) id (first_fits (records_below (plan_of defs e)) (set_depth e.selections))))
-    ∙ sym (alike_reach (ArePlans defs) (collect_nodes defs) collect_plan (plans_keep defs (are_sound defs sound)) typed m depth types (nodes ∷ []) (steps ∷ []) id (root_plans defs own e sound suited none) j)
+    ∙ sym (alike_reach (ArePlans defs) (collect_nodes defs) collect_plan (plans_keep defs (are_sound defs sound)) typed m depth types (nodes ∷ []) (steps ∷ []) id (root_plans defs own e sound suited alike) j)
     ∙ ap (λ ids. has_text ids j) (nodes_enough defs typed m depth types nodes id (second_fits (records_below (plan_of defs e)) (set_depth e.selections)))
 
 -- ---- nodes and documents

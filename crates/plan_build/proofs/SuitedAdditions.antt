@@ -10,10 +10,10 @@ use Rattle.plan_ir.specs.gql_ast.declared.member.FieldTree.{FieldTree}
 use Rattle.plan_ir.specs.gql_ast.declared.place.FilePlace.{FilePlace}
 use Rattle.plan_ir.proofs.gql_graph_laws.TextSteps.{same_text}
 use Rattle.plan_ir.specs.gql_plain.Order.{has_text}
-use Rattle.plan_build.proofs.Covariance.{Within, base_on, covariant, narrow_within, possible_in_object}
+use Rattle.plan_build.proofs.Covariance.{Within, covariant, narrow_within, possible_in_object}
 use Rattle.plan_build.proofs.CovarianceLists.{first_true, passes_each}
 use Rattle.plan_build.proofs.CovarianceRules.{SchemaMeets}
-use Rattle.plan_build.proofs.SuitedRules.{IsConnectionType}
+use Rattle.plan_build.specs.Meeting.{IsConnectionType, base_on}
 use Rattle.plan_build.specs.Suited.{FieldSuits, Suited, type_inside}
 use Rattle.plan_ir.specs.Additions.{additions, bare_field, connection_additions, edges_field, has_bare, id_additions, id_field, ids_on, is_abstract, leaf_on, node_field, or_typename, page_info_field, record_additions, type_on, type_or, typename_additions, typename_field}
 use Rattle.plan_ir.specs.Nodes.{Nodes, end, field, inline, nodes_append}

@@ -5,9 +5,10 @@ use Rattle.plan_ir.specs.gql_ast.Value.{Val}
 use Rattle.plan_ir.proofs.gql_graph_laws.TextSteps.{same_text}
 use Rattle.plan_ir.specs.gql_plain.Order.{has_text}
 use Rattle.plan_ir.specs.gql_plain.declared.ids.Conn.{Conn}
-use Rattle.plan_build.proofs.Covariance.{Within, base_on, covariant, narrow_object, narrow_within}
+use Rattle.plan_build.proofs.Covariance.{Within, covariant, narrow_object, narrow_within}
+use Rattle.plan_build.proofs.CovarianceNames.{object_is_composite}
 use Rattle.plan_build.proofs.CovarianceRules.{SchemaMeets}
-use Rattle.plan_build.proofs.SuitedRules.{IsConnectionType, object_is_composite}
+use Rattle.plan_build.specs.Meeting.{IsConnectionType, base_on}
 use Rattle.plan_build.specs.Suited.{FieldSuits, Suited}
 use Rattle.plan_ir.specs.Additions.{type_on, type_or}
 use Rattle.plan_ir.specs.Nodes.{Nodes, end}

@@ -1,5 +1,5 @@
--- The expansion of an operation of documents that meet the rules is suited.
-use Rattle.std.proofs.Common.{◌≡◌, ℕ, ◌+◌, Bool, true, false, true≢false, cond, List, [], ◌∷◌, ◌++◌, Option, Some, None, is_some, refl, ap, sym, subst, ◌∙◌}
+-- The expansion of an operation that meets the rules that it needs is suited; those of documents that meet the rules do.
+use Rattle.std.proofs.Common.{◌≡◌, ℕ, ◌+◌, Bool, true, false, true≢false, cond, List, [], ◌∷◌, ◌++◌, Option, Some, None, is_some, refl, sym, subst}
 use Rattle.std.specs.List.{AllByRecursion}
 use Rattle.plan_ir.specs.gql_ast.declared.document.Definition.{Definition}
 use Rattle.plan_ir.specs.gql_ast.declared.document.Definition.TheVariants as D
@@ -9,15 +9,15 @@ use Rattle.plan_ir.specs.gql_graph.Rules.{each, first_broken}
 use Rattle.plan_build.proofs.CovarianceLists.{all_each, all_hold, all_joined, all_parts, none_each, right}
 use Rattle.plan_build.proofs.CovarianceRoots.{root_is_object}
 use Rattle.plan_build.proofs.CovarianceRules.{SchemaMeets, sound_meets}
-use Rattle.plan_build.proofs.SuitedNodes.{expanded}
-use Rattle.plan_build.proofs.SuitedRules.{Meets, SiteMeets, all_meet}
-use Rattle.plan_build.specs.Laws.{MeetsRules, OperationsAreSuited, definitions}
+use Rattle.plan_build.proofs.SuitedNodes.{expanded, fragment_holds}
+use Rattle.plan_build.proofs.SuitedRules.{SiteMeets, all_meet}
+use Rattle.plan_build.specs.Laws.{FragmentsOfDocumentsMeet, MeetsRules, OperationsAreSuited, OperationsOfDocumentsMeet, OperationsThatMeetAreSuited, definitions}
+use Rattle.plan_build.specs.Meeting.{FragmentMeets, FragmentsMeet, Meets}
 use Rattle.plan_build.specs.Suited.{Suited}
 use Rattle.plan_ir.specs.Expansion.{Project, expansion, is_named, name_or, operation_from, operation_named, project_of, spreads_in}
 use Rattle.plan_ir.specs.Substitution.{operation_scope}
 use Rattle.plan_ir.specs.relay_dirs.Connections.{connections_wrong, type_wrong_at}
 use Rattle.plan_ir.specs.relay_dirs.RelayRules.{document_rules, relay_rules}
-use Rattle.plan_ir.specs.schema_rules.Checked.{IsSound}
 use Rattle.plan_ir.specs.schema_rules.Rules.{is_object}
 use Rattle.plan_ir.specs.schema_rules.declared.fault.Rule.{Rule}
 use Rattle.plan_ir.specs.schema_tables.Types.{Text, Defs, root}
@@ -26,7 +26,7 @@ use Rattle.plan_ir.specs.schema_types.ArgumentRules.{arguments_of_call_wrong, ar
 use Rattle.plan_ir.specs.schema_types.DocumentRules.{argument_rules, field_rules, name_rules, trees_of}
 use Rattle.plan_ir.specs.schema_types.FieldRules.{fields_undefined, set_wrong_at, sets_wrong, undefined_at}
 use Rattle.plan_ir.specs.schema_types.NameRules.{fragments, operations, roots_missing, sites_of, without_root}
-use Rattle.plan_ir.specs.schema_types.Sites.{DefinitionAt, FragmentAt, OperationAt, Site, definition_at, definition_nodes, definitions_at, document_nodes, documents_at, fragment, operation, optional_name_nodes, sites, variables_nodes}
+use Rattle.plan_ir.specs.schema_types.Sites.{DefinitionAt, OperationAt, Site, definition_at, definition_nodes, definitions_at, document_nodes, documents_at, fragment, operation, optional_name_nodes, sites, variables_nodes}
 
 -- ---- definitions and their sites
 
@@ -85,9 +85,6 @@ definitions_meet defs (d ∷ ds) h i j k =
 
 -- ---- fragments and operations
 
-abbrev FragmentMeets : Defs → FragmentAt → Type 0
-FragmentMeets defs f = Meets defs f.on.name f.selections
-
 -- the set of an operation whose kind has a root type
 abbrev OperationMeets : Defs → OperationAt → Type 0
 OperationMeets defs o = (r : Text) → root defs o.kind ≡ Some r → Meets defs r o.selections
@@ -132,17 +129,26 @@ root_there : (defs : Defs) (o : OperationAt) (l : Option Located) → is_some l 
 root_there defs o None i e = absurd (true≢false (sym i))
 root_there defs o (Some l) i e = right (is_some (root defs o.kind)) l.at e
 
--- an operation has a root type, and its set meets the rules there
-pub record MeetsAtRoot (defs : Defs) (o : OperationAt) : Type 0 where
-  pub type : Text
-  pub is : root defs o.kind ≡ Some type
-  pub meets : Meets defs type o.selections
+set_at_root : (defs : Defs) (o : OperationAt) → OperationMeets defs o → (x : Option Text) → root defs o.kind ≡ x → is_some x ≡ true → Meets defs (name_or x) o.selections
+set_at_root defs o h None e i = absurd (true≢false (sym i))
+set_at_root defs o h (Some r) e i = h r e
 
-at_root : (defs : Defs) (o : OperationAt) → OperationMeets defs o → (x : Option Text) → root defs o.kind ≡ x → is_some x ≡ true → MeetsAtRoot defs o
-at_root defs o h None e i = absurd (true≢false (sym i))
-at_root defs o h (Some r) e i = record { type = r; is = e; meets = h r e }
+-- ---- an operation that meets the rules that it needs
 
--- ---- the law
+-- with its root type
+at_root : (p : Project) (meets : SchemaMeets p.defs) → FragmentsMeet p → (o : OperationAt)
+    → (x : Option Text) → root p.defs o.kind ≡ x → is_some x ≡ true → Meets p.defs (name_or x) o.selections
+    → (is_object p.defs (name_or x) ≡ true) × Suited p.defs (name_or x) (name_or x) (expansion (spreads_in p) p operation_scope (operation_from o) x o.selections)
+at_root p meets fs o None e i h = absurd (true≢false (sym i))
+at_root p meets fs o (Some r) e i h =
+    (root_is_object p.defs meets o.kind r e, expanded p meets fs (spreads_in p) operation_scope (operation_from o) r r o.selections (λ T k. k) h)
+
+pub operations_that_meet_are_suited : OperationsThatMeetAreSuited
+operations_that_meet_are_suited p o sound meets =
+    let r = at_root p (sound_meets p.defs sound) meets.fragments o (root p.defs o.kind) refl meets.there meets.selections in
+    record { root = r.0; selections = r.1 }
+
+-- ---- documents that meet the rules
 
 -- V6, V7, V8, V12 and V22
 record DocumentsMeet (defs : Defs) (ds : List DefinitionAt) : Type 0 where
@@ -167,32 +173,22 @@ sets_meet defs ps meet =
     definitions_meet defs ds (none_each (λ d. each (undefined_at defs) (sites_of d)) ds documents.defined) (none_each (λ d. each (set_wrong_at defs) (sites_of d)) ds documents.sets)
     (none_each (λ d. each arguments_of_call_wrong (calls_of defs d)) ds documents.arguments) (none_each (λ d. each (type_wrong_at defs) (sites_of d)) ds documents.connections)
 
--- the set of each fragment
-pub fragments_of_documents : (defs : Defs) (ps : List (Placed Document)) → IsSound defs → MeetsRules defs ps
-    → AllByRecursion (λ (f : FragmentAt). Meets defs f.on.name f.selections) (fragments (definitions defs ps))
-fragments_of_documents defs ps sound meet =
-    fragments_meet defs (sound_meets defs sound) (definitions defs ps) (all_have_sites defs 0 (trees_of ps)) (sets_meet defs ps meet)
+pub fragments_of_documents_meet : FragmentsOfDocumentsMeet
+fragments_of_documents_meet defs ps place sound meet n f found =
+    let ds : List DefinitionAt = definitions defs ps in
+    fragment_holds (FragmentMeets defs) (fragments ds) n f (fragments_meet defs (sound_meets defs sound) ds (all_have_sites defs 0 (trees_of ps)) (sets_meet defs ps meet)) found
 
--- the operation of a name
-pub operation_of_documents : (defs : Defs) (ps : List (Placed Document)) (name : Text) (o : OperationAt) → IsSound defs → MeetsRules defs ps
-    → operation_named (operations (definitions defs ps)) name ≡ Some o → MeetsAtRoot defs o
-operation_of_documents defs ps name o sound meet found =
+pub operations_of_documents_meet : OperationsOfDocumentsMeet
+operations_of_documents_meet defs ps place name o sound meet found =
     let ds : List DefinitionAt = definitions defs ps in
     let documents = documents_meet defs ds meet in
     let sets = operations_meet defs (sound_meets defs sound) ds (all_have_sites defs 0 (trees_of ps)) (sets_meet defs ps meet) in
     let here = operation_holds (OperationMeets defs) (operations ds) name o sets found in
     let rooted = operation_holds (λ (x : OperationAt). without_root defs x x.name ≡ []) (operations ds) name o
     (none_each (λ (x : OperationAt). without_root defs x x.name) (operations ds) documents.roots) found in
-    at_root defs o here.0 (root defs o.kind) refl (root_there defs o o.name here.1 rooted.0)
+    let there : is_some (root defs o.kind) ≡ true = root_there defs o o.name here.1 rooted.0 in
+    record { there = there; selections = set_at_root defs o here.0 (root defs o.kind) refl there; fragments = fragments_of_documents_meet defs ps place sound meet }
 
 pub operations_are_suited : OperationsAreSuited
 operations_are_suited defs ps place name o sound meet found =
-    let p : Project = project_of defs place (definitions defs ps) in
-    let schema = sound_meets defs sound in
-    let r = operation_of_documents defs ps name o sound meet found in
-    record {
-      root = ap (λ (x : Option Text). is_object defs (name_or x)) r.is ∙ root_is_object defs schema o.kind r.type r.is;
-      selections =
-          subst (λ (x : Option Text). Suited defs (name_or x) (name_or x) (expansion (spreads_in p) p operation_scope (operation_from o) x o.selections)) (sym r.is)
-          (expanded p schema (fragments_of_documents defs ps sound meet) (spreads_in p) operation_scope (operation_from o) r.type r.type o.selections (λ T k. k) r.meets);
-    }
+    operations_that_meet_are_suited (project_of defs place (definitions defs ps)) o sound (operations_of_documents_meet defs ps place name o sound meet found)

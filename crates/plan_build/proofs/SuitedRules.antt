@@ -1,8 +1,7 @@
--- What the rules on documents say of each field, by the type around it: it is there, the type name has nothing, and a connection has a set, and a
--- type with edges and page information.
+-- What the rules on documents say of each field, by the type around it: it is there, the type name has nothing, and a connection's type has edges
+-- and page information.
 use Rattle.std.proofs.Common.{◌≡◌, ℕ, ◌+◌, Bool, true, false, true≢false, cond, not, ◌&&◌, List, [], ◌∷◌, ◌++◌, codes, Option, Some, None, option_map, is_some, bytes_eq, refl, ap, sym, subst, ◌∙◌}
 use Rattle.std.specs.List.{AllByRecursion}
-use Rattle.doc_merge.specs.Gathering.{on_or}
 use Rattle.plan_ir.specs.gql_ast.Sels as sels
 use Rattle.plan_ir.specs.gql_ast.Sels.{Sels}
 use Rattle.plan_ir.specs.gql_ast.Ty.{Ty}
@@ -13,47 +12,24 @@ use Rattle.plan_ir.specs.gql_ast.declared.member.FieldTree.{FieldTree}
 use Rattle.plan_ir.proofs.gql_graph_laws.TextSteps.{same_text}
 use Rattle.plan_ir.specs.gql_graph.Rules.{each, wrong}
 use Rattle.plan_ir.specs.gql_plain.declared.ids.Conn.{Conn}
-use Rattle.plan_build.proofs.Covariance.{base_on, type_of_field}
+use Rattle.plan_build.proofs.Covariance.{type_of_field}
 use Rattle.plan_build.proofs.CovarianceLists.{all_parts, first_true, none_first, not_so, right, then_true}
+use Rattle.plan_build.proofs.CovarianceNames.{object_is_composite}
 use Rattle.plan_build.proofs.CovarianceRules.{SchemaMeets, no_typename}
+use Rattle.plan_build.specs.Meeting.{FieldMeets, IsConnectionType, Meets, base_on}
 use Rattle.plan_ir.specs.Additions.{type_or}
 use Rattle.plan_ir.specs.relay_dirs.Connections as connections
 use Rattle.plan_ir.specs.relay_dirs.Connections.{are_edges, connection_among, connection_from, field_defined, is_connection, is_connection_name, is_connection_type, is_edge, is_node, is_page, is_page_info, is_page_leaf, is_single, needs_nothing, of_name, type_wrong, type_wrong_at}
 use Rattle.plan_ir.specs.schema_rules.Rules.{is_object, repeated_names}
-use Rattle.plan_ir.specs.schema_tables.Types.{Text, Defs, base_of, field_def, field_on, is_composite, is_composite_kind, is_kind, is_object_kind, kind_of}
+use Rattle.plan_ir.specs.schema_tables.Types.{Text, Defs, base_of, field_def, field_on, is_composite}
 use Rattle.plan_ir.specs.schema_tables.Views.{FieldDef}
-use Rattle.plan_ir.specs.schema_tables.declared.kind.TypeKind.{TypeKind}
-use Rattle.plan_ir.specs.schema_tables.declared.kind.TypeKind.TheVariants.{Object}
 use Rattle.plan_ir.specs.schema_trees.Located.{directives_nodes}
 use Rattle.plan_ir.specs.schema_types.ArgumentRules.{argument_names, arguments_of_call_wrong, calls_at, field_takes, inputs, not_taken}
 use Rattle.plan_ir.specs.schema_types.FieldRules.{set_is_wrong, set_wrong_at, undefined_at}
 use Rattle.plan_ir.specs.schema_types.Sites as site
 use Rattle.plan_ir.specs.schema_types.Sites.{Site, arguments_at, arguments_nodes, below, condition_or, directives_at, field_type, head_nodes, is_set, optional_name_nodes, selections_nodes, sites, typename_on}
 
--- ---- what is asked of a field
-
--- the type of a connection
-pub record IsConnectionType (defs : Defs) (t : Text) : Type 0 where
-  pub object : is_object defs t ≡ true
-  pub edge : is_object defs (base_on defs t (codes "edges")) ≡ true
-  pub page : is_object defs (base_on defs t (codes "pageInfo")) ≡ true
-
--- a field on a type, with its arguments, its connection and its selections
-pub record FieldMeets (defs : Defs) (around n : Text) (xs : List (Text × Val)) (c : Option Conn) (s : Sels) : Type 0 where
-  pub there : is_some (field_type defs (Some around) n) ≡ true
-  pub bare : n ≡ codes "__typename" → xs ≡ []
-  pub plain : n ≡ codes "__typename" → c ≡ None
-  pub alone : n ≡ codes "__typename" → s ≡ sels.end
-  pub connection : is_some c ≡ true → IsConnectionType defs (base_on defs around n)
-  pub filled : is_some c ≡ true → is_set s ≡ true
-
--- each field, also of inner sets
-abbrev pub Meets : Defs → (around : Text) → Sels → Type 0
-Meets defs around sels.end = Unit {0}
-Meets defs around (sels.field a n xs ds s rest) =
-    FieldMeets defs around n xs (connection_among ds) s × Meets defs (base_on defs around n) s × Meets defs around rest
-Meets defs around (sels.spread n ds rest) = Meets defs around rest
-Meets defs around (sels.inline o ds s rest) = Meets defs (on_or around o) s × Meets defs around rest
+-- ---- the rules at a site
 
 -- V7, V8, V12 and V22 at a site
 pub record SiteMeets (defs : Defs) (s : Site) : Type 0 where
@@ -75,25 +51,19 @@ no_set defs true true e f = absurd (true≢false f)
 no_set defs true false e f = refl
 no_set defs false has_set e f = absurd (true≢false (sym e))
 
-object_kind : (o : Option TypeKind) → is_kind is_object_kind o ≡ true → is_kind is_composite_kind o ≡ true
-object_kind None e = e
-object_kind (Some Object) e = refl
-object_kind (Some k) e = absurd (true≢false (sym e))
-
-pub object_is_composite : (defs : Defs) (t : Text) → is_object defs t ≡ true → is_composite defs t ≡ true
-object_is_composite defs t e = object_kind (kind_of defs t) e
-
--- an object has a set
-has_selections : (defs : Defs) (t : Option Ty) (has_set : Bool) → is_some t ≡ true → is_object defs (base_of (type_or t)) ≡ true → set_is_wrong defs t has_set ≡ false → has_set ≡ true
-has_selections defs None has_set i o e = absurd (true≢false (sym i))
-has_selections defs (Some t) true i o e = refl
-has_selections defs (Some t) false i o e = absurd (true≢false (sym (object_is_composite defs (base_of t) o) ∙ e))
-
 no_selections : (s : Sels) → is_set s ≡ false → s ≡ sels.end
 no_selections sels.end e = refl
 no_selections (sels.field a n xs ds s rest) e = absurd (true≢false e)
 no_selections (sels.spread n ds rest) e = absurd (true≢false e)
 no_selections (sels.inline o ds s rest) e = absurd (true≢false e)
+
+-- ---- sets
+
+-- a field of a composite type has selections
+has_selections : (defs : Defs) (o : Option Ty) (has_set : Bool) → is_some o ≡ true → is_composite defs (base_of (type_or o)) ≡ true → set_is_wrong defs o has_set ≡ false → has_set ≡ true
+has_selections defs None has_set i e f = absurd (true≢false (sym i))
+has_selections defs (Some t) true i e f = refl
+has_selections defs (Some t) false i e f = absurd (true≢false (sym e ∙ f))
 
 -- ---- connections
 
@@ -186,18 +156,18 @@ module _ (defs : Defs) (meets : SchemaMeets defs) where
     alone = λ same. no_selections s
         (no_set defs (is_composite defs around) (is_set s) (subst (λ (m : Text). is_some (field_type defs (Some around) m) ≡ true) same there)
         (subst (λ (m : Text). set_is_wrong defs (field_type defs (Some around) m) (is_set s) ≡ false) same set));
-    connection = typed;
-    filled = λ i. has_selections defs (field_type defs (Some around) n) (is_set s) there (typed i).object set;
+    connection = type;
+    filled = λ i. has_selections defs (field_type defs (Some around) n) (is_set s) there (object_is_composite defs (base_on defs around n) (type i).object) set;
   }
     where
       there : is_some (field_type defs (Some around) n) ≡ true
       there = right (is_some (field_type defs (Some around) n)) (from + 1 + optional_name_nodes a) h.defined
 
-      connected : is_some (connection_among ds) ≡ true → is_connection defs (field_defined defs (Some around) n) ≡ true
-      connected i = connection_right defs (field_defined defs (Some around) n) (from + head_nodes a + arguments_nodes xs) ds h.connection i
-
       set : set_is_wrong defs (field_type defs (Some around) n) (is_set s) ≡ false
       set = not_so (set_is_wrong defs (field_type defs (Some around) n) (is_set s)) (from + 1 + optional_name_nodes a) h.set
+
+      connected : is_some (connection_among ds) ≡ true → is_connection defs (field_defined defs (Some around) n) ≡ true
+      connected i = connection_right defs (field_defined defs (Some around) n) (from + head_nodes a + arguments_nodes xs) ds h.connection i
 
       none_there : (c : Option Conn) → (is_some c ≡ true → ⊥) → c ≡ None
       none_there None f = refl
@@ -207,8 +177,8 @@ module _ (defs : Defs) (meets : SchemaMeets defs) where
       differs true e i = absurd (not_typename around n i (same_text n (codes "__typename") e))
       differs false e i = e
 
-      typed : is_some (connection_among ds) ≡ true → IsConnectionType defs (base_on defs around n)
-      typed i = connection_of_field around n (differs (bytes_eq n (codes "__typename")) refl (connected i)) (connected i)
+      type : is_some (connection_among ds) ≡ true → IsConnectionType defs (base_on defs around n)
+      type i = connection_of_field around n (differs (bytes_eq n (codes "__typename")) refl (connected i)) (connected i)
 
   -- all sites of a set with this type around it
   pub all_meet : (from : ℕ) (around : Text) (s : Sels) → AllByRecursion (SiteMeets defs) (sites defs from (Some around) s) → Meets defs around s

@@ -4,6 +4,10 @@ pub use Rattle.relay_model.specs as relay_model
 pub mod NodesMeaning
 pub mod NodesReach
 pub mod Suited
+pub mod Connected
+pub mod NormalTypes
+pub mod Meeting
+pub mod FieldsAlike
 pub mod Plans
 pub mod Laws
 pub mod Conditions

@@ -1,6 +1,6 @@
 //! The plan by which the responses to an operation are normalized.
 ghost use Rattle.std.specs.Prelude.{◌≡◌, [], ◌∷◌, IfOk};
-ghost use Rattle.plan_build.specs.Plans.{IsWellFormed, MeansTheSame, ReachesTheSame};
+ghost use Rattle.plan_build.specs.Plans.{IsFitting, IsPaged, IsTyped, IsWellFormed, MeansTheSame, ReachesTheSame};
 ghost use Rattle.plan_build.specs.Steps.{plan_of};
 
 use crate::around::Around;
@@ -43,6 +43,9 @@ pub fn normal_plan(
     expanded: &Expanded,
 ) -> Result<NormalPlan, NoMemory>
     ensures formed { IfOk result (λ plan. IsWellFormed schema.now plan.steps) }
+    ensures typed { IfOk result (λ plan. IsTyped schema.now expanded.now plan.steps) }
+    ensures paged { IfOk result (λ plan. IsPaged schema.now expanded.now plan.steps) }
+    ensures fits { IfOk result (λ plan. IsFitting schema.now expanded.now plan.steps) }
     ensures means { IfOk result (λ plan. MeansTheSame schema.now expanded.now plan.steps) }
     ensures reaches { IfOk result (λ plan. ReachesTheSame schema.now expanded.now plan.steps) }
 {

@@ -5,14 +5,17 @@ use Rattle.plan_ir.specs.gql_ast.declared.document.Fragment.{Fragment}
 use Rattle.plan_ir.specs.gql_ast.declared.document.Operation.{Operation}
 use Rattle.plan_ir.specs.gql_ast.declared.place.Placed.{Placed}
 use Rattle.plan_ir.specs.gql_plain.Order.{has_text}
-use Rattle.plan_read.proofs.plan_build_laws.DocumentsAsNodes.{documents_are_nodes}
-use Rattle.plan_read.proofs.plan_build_laws.Reaches.{documents_reach_nodes}
-use Rattle.plan_read.proofs.plan_build_laws.SuitedOperations.{operations_are_suited}
-use Rattle.plan_read.specs.plan_build.Plans.{IsWellFormed, MeansTheSame, ReachesTheSame}
+use Rattle.plan_read.proofs.plan_build_laws.PlanLaws.{plans_mean_documents, plans_reach_documents}
+use Rattle.plan_read.proofs.plan_build_laws.ConnectedNodes.{operations_that_meet_are_connected}
+use Rattle.plan_read.proofs.plan_build_laws.SuitedOperations.{operations_are_suited, operations_of_documents_meet}
+use Rattle.plan_read.specs.plan_build.Connected.{IsConnected}
+use Rattle.plan_read.specs.plan_build.NormalTypes.{FitsSchema}
+use Rattle.plan_read.specs.plan_build.Plans.{IsFitting, IsPaged, IsTyped, IsWellFormed, MeansTheSame, ReachesTheSame}
 use Rattle.plan_read.specs.plan_build.Suited.{IsSuited}
 use Rattle.plan_read.specs.plan_expand.Answers.{project, whole_in}
 use Rattle.plan_read.specs.plan_expand.Places.{place_in}
 use Rattle.plan_ir.specs.Expansion.{Whole, name_or, whole_operation}
+use Rattle.plan_ir.specs.Normal.{Normal}
 use Rattle.plan_ir.specs.NormalMeaning.{is_formed, plan_says}
 use Rattle.plan_ir.specs.NormalReach.{plan_reaches}
 use Rattle.plan_ir.specs.declared.expanded.Expanded.{Expanded}
@@ -46,6 +49,15 @@ agree_so P Q f None (Some y) h = absurd h
 agree_so P Q f (Some x) None h = absurd h
 agree_so P Q f (Some x) (Some y) h = f x y h
 
+-- all that is said of the plan of an expanded operation
+pub record IsPlanOf (defs : Defs) (e : Expanded) (plan : Normal) : Type 0 where
+  pub formed : IsWellFormed defs plan
+  pub typed : IsTyped defs e plan
+  pub paged : IsPaged defs e plan
+  pub fits : IsFitting defs e plan
+  pub means : MeansTheSame defs e plan
+  pub reaches : ReachesTheSame defs e plan
+
 module _ (defs : Defs) (ps : List (Placed Document)) (a : IsAcceptedProject defs ps) where
   -- ---- operations
 
@@ -53,27 +65,31 @@ module _ (defs : Defs) (ps : List (Placed Document)) (a : IsAcceptedProject defs
     suited : IsSuited defs (whole_operation (project defs ps) o).expanded
     suited = operations_are_suited defs ps (place_in (places_of ps)) n o a.accepted.sound a.accepted.meet there
 
+    connected : IsConnected defs (whole_operation (project defs ps) o).expanded
+    connected =
+        operations_that_meet_are_connected (project defs ps) o a.accepted.sound
+        (operations_of_documents_meet defs ps (place_in (places_of ps)) n o a.accepted.sound a.accepted.meet there)
+
     -- a plan of the operation's expansion means the operation
-    normalizes : (c : Compiled) → c.root ≡ name_or (root defs o.kind) → IsWellFormed defs c.normal.value.steps
-        → MeansTheSame defs (whole_operation (project defs ps) o).expanded c.normal.value.steps
-        → ReachesTheSame defs (whole_operation (project defs ps) o).expanded c.normal.value.steps → Normalizes defs ps o c
-    normalizes c at_root formed means reaches = record {
-      formed = formed (have_names defs ps a);
+    normalizes : (c : Compiled) → c.root ≡ name_or (root defs o.kind) → IsPlanOf defs (whole_operation (project defs ps) o).expanded c.normal.value.steps → Normalizes defs ps o c
+    normalizes c at_root is = record {
+      formed = is.formed (have_names defs ps a);
+      typed = is.typed (have_names defs ps a) a.accepted.sound suited.root;
+      paged = is.paged a.accepted.sound connected;
+      fits = subst (λ (r : Text). FitsSchema defs r c.normal.value.steps) (sym at_root) (is.fits a.accepted.sound suited);
       says = λ own response.
           ap (λ (r : Text). plan_says r own c.normal.value.steps response) at_root
-          ∙ means a.accepted.sound suited (operation_merges defs ps a n o there) own response
-          ∙ sym (documents_are_nodes (project defs ps) no_place o own response);
+          ∙ plans_mean_documents defs ps (place_in (places_of ps)) no_place n o c.normal.value.steps a.accepted.sound a.accepted.meet there (operation_merges defs ps a n o there) is.means own response;
       reaches = λ own m id j.
           ap (λ (r : Text). has_text (plan_reaches (type_of_record r) m own c.normal.value.steps (r ∷ []) id) j) at_root
-          ∙ reaches a.accepted.sound suited (operation_merges defs ps a n o there) own m id j
-          ∙ sym (documents_reach_nodes (project defs ps) no_place o own m id j);
+          ∙ plans_reach_documents defs ps (place_in (places_of ps)) no_place n o c.normal.value.steps a.accepted.sound a.accepted.meet there (operation_merges defs ps a n o there) is.reaches own m id j;
     }
 
   -- what is made of the expansion of the operation of a name
   pub operation_planned : (n : Text) (e : Expanded) (c : Compiled) → Some e ≡ option_map (λ (w : Whole). w.expanded) (whole_in defs ps F.Operation n)
       → c.name ≡ n → e.kind ≡ Some c.kind → c.root ≡ e.root → c.types ≡ e.root ∷ [] → c.variables ≡ e.variables
-      → IsWellFormed defs c.normal.value.steps → MeansTheSame defs e c.normal.value.steps → ReachesTheSame defs e c.normal.value.steps → Some c.reader.value.steps ≡ reader_in defs ps F.Operation n → IsNamedOperation defs ps n c
-  operation_planned n e c whole name kind at_root types variables formed means reaches planned = on (operation_in defs ps n) refl whole
+      → IsPlanOf defs e c.normal.value.steps → Some c.reader.value.steps ≡ reader_in defs ps F.Operation n → IsNamedOperation defs ps n c
+  operation_planned n e c whole name kind at_root types variables is_plan planned = on (operation_in defs ps n) refl whole
     where
       on : (x : Option OperationAt) → operation_in defs ps n ≡ x → Some e ≡ option_map (λ (w : Whole). w.expanded) (option_map (whole_operation (project defs ps)) x) → IsNamedOperation defs ps n c
       on None d w = absurd cc
@@ -94,8 +110,7 @@ module _ (defs : Defs) (ps : List (Placed Document)) (a : IsAcceptedProject defs
                 types = typed;
                 variables = variables ∙ ap (λ (x : Expanded). x.variables) same;
               };
-              normalizes = normalizes n o d c is_root formed (subst (λ (x : Expanded). MeansTheSame defs x c.normal.value.steps) same means)
-                  (subst (λ (x : Expanded). ReachesTheSame defs x c.normal.value.steps) same reaches);
+              normalizes = normalizes n o d c is_root (subst (λ (x : Expanded). IsPlanOf defs x c.normal.value.steps) same is_plan);
               reads = reads_operation defs ps a n o c d is_root typed planned;
             };
           }

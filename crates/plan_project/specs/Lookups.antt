@@ -3,6 +3,7 @@ use Rattle.std.specs.Prelude.{◌≡◌, true, List, [], ◌∷◌, map, Option,
 use Rattle.plan_ir.specs.gql_ast.declared.document.Document.{Document}
 use Rattle.plan_ir.specs.gql_ast.declared.place.Placed.{Placed}
 use Rattle.plan_ir.specs.gql_plain.Order.{has_text}
+use Rattle.plan_read.specs.plan_build.NormalTypes.{FitsSchema, has_pages, is_typed}
 use Rattle.plan_read.specs.plan_expand.Answers.{definitions_in, project}
 use Rattle.plan_ir.specs.Expansion.{name_or, operation_named, variable_trees}
 use Rattle.plan_ir.specs.NormalMeaning.{is_formed, plan_says}
@@ -46,10 +47,14 @@ pub record KeepsOperation (defs : Defs) (n : Text) (o : OperationAt) (c : Compil
   pub types : c.types ≡ c.root ∷ []
   pub variables : c.variables ≡ variable_trees o.variables
 
--- under each environment, each response says to the plan what it says to the operation along the documents, with the fields that are added,
--- and in each map of records the walk by the plan stands at the same ids as the walk of the operation
+-- the plan is formed and typed, its connections have their pages, and on each object type it says of fields what the schema says; under each
+-- environment, each response says to it what it says to the operation along the documents, with the fields that are added, and in each map of records the
+-- walk by it stands at the same ids as the walk of the operation
 pub record Normalizes (defs : Defs) (ps : List (Placed Document)) (o : OperationAt) (c : Compiled) : Type 0 where
   pub formed : is_formed c.normal.value.steps ≡ true
+  pub typed : is_typed c.normal.value.steps ≡ true
+  pub paged : has_pages c.normal.value.steps ≡ true
+  pub fits : FitsSchema defs c.root c.normal.value.steps
   pub says : (own : Values) (response : J.Data) → plan_says c.root own c.normal.value.steps response ≡ operation_says (project defs ps) no_place o own response
   pub reaches : (own : Values) (m : Slots) (id j : Text) → has_text (plan_reaches (type_of_record c.root) m own c.normal.value.steps (c.root ∷ []) id) j
       ≡ has_text (operation_reaches (project defs ps) no_place o own m id) j

@@ -3,14 +3,13 @@ use Rattle.std.proofs.Common.{◌≡◌, ℕ, Bool, true, false, true≢false, c
 use Rattle.std.specs.List.{AllByRecursion}
 use Rattle.plan_ir.specs.gql_ast.Value.{Val}
 use Rattle.plan_ir.specs.gql_ast.declared.document.Document.{Document}
-use Rattle.plan_ir.specs.gql_ast.declared.place.FilePlace.{FilePlace}
 use Rattle.plan_ir.specs.gql_ast.declared.place.Placed.{Placed}
 use Rattle.plan_ir.specs.gql_graph.Rules.{each}
 use Rattle.plan_build.proofs.CovarianceLists.{all_hold, all_joined, all_parts, first_true, none_each, none_first, none_then, right, then_true}
 use Rattle.plan_build.proofs.SuitedNodes.{fragment_holds}
 use Rattle.plan_build.specs.Laws.{MeetsRules, definitions}
-use Rattle.plan_ir.specs.Expansion.{project_of}
-use Rattle.plan_read.proofs.KnownDocuments.{AreConstant, HaveConstants, IsConstant}
+use Rattle.plan_read.specs.Constants.{HaveConstants, IsConstant}
+use Rattle.plan_read.specs.Laws.{LocalsOfDocumentsAreConstant}
 use Rattle.plan_ir.specs.relay_dirs.Locals.{Local, as_list, defines_locals, local_at, local_of, locals_at, locals_of}
 use Rattle.plan_ir.specs.relay_dirs.RelayRules.{document_rules, default_fits, directives_of_fragment, is_good_local, local_wrong, locals_wrong, locals_wrong_in, relay_rules}
 use Rattle.plan_ir.specs.schema_rules.declared.fault.Rule.{Rule}
@@ -67,7 +66,7 @@ locals_meet defs ps meet =
     let fields = all_parts (λ (r : Rule × List ℕ). r.1 ≡ []) (field_rules defs ds) (argument_rules defs ds ++ relay_rules defs ds) names.1 in
     (all_parts (λ (r : Rule × List ℕ). r.1 ≡ []) (argument_rules defs ds) (relay_rules defs ds) fields.1).1.0
 
-pub locals_are_constant : (defs : Defs) (ps : List (Placed Document)) (place : ℕ → FilePlace) → MeetsRules defs ps → AreConstant (project_of defs place (definitions defs ps))
+pub locals_are_constant : LocalsOfDocumentsAreConstant
 locals_are_constant defs ps place meet n f found =
     let ds : List DefinitionAt = definitions defs ps in
     fragment_holds (λ (g : FragmentAt). HaveConstants (locals_of g.directives)) (fragments ds) n f

@@ -1,6 +1,6 @@
 -- Selections of documents give by the masked form, one by one, what they give with what is known of them.
-use Rattle.std.proofs.Common.{◌≡◌, ℕ, zero, suc, ◌+◌, true, true≢false, cond, List, [], ◌∷◌, Option, Some, None, option_map, refl, ap, sym, ◌∙◌, subst}
-use Rattle.std.specs.List.{AllByRecursion, AllZip}
+use Rattle.std.proofs.Common.{◌≡◌, ℕ, zero, suc, ◌+◌, cond, List, [], ◌∷◌, Option, Some, None, option_map, refl, ap, sym, ◌∙◌, subst}
+use Rattle.std.specs.List.{AllZip}
 use Rattle.plan_ir.specs.gql_ast.Sels as sels
 use Rattle.plan_ir.specs.gql_ast.Sels.{Sels}
 use Rattle.plan_ir.specs.gql_ast.Value as v
@@ -16,6 +16,7 @@ use Rattle.plan_ir.specs.ReaderMeaning.{scope_in}
 use Rattle.plan_ir.specs.Substitution.{Arguments, Scope, arguments_in, scope_at_spread, substitute, substitute_in, value_or}
 use Rattle.plan_read.proofs.KnownParts.{Entered, Known, gather, gather_in, gather_with, known_at, known_field, known_inside, known_pointer, known_spread, not_entered, types_inside}
 use Rattle.plan_read.proofs.Zips.{zip_kept, zip_none, zip_where}
+use Rattle.plan_read.specs.Constants.{AreConstant, HaveConstants, IsConstant}
 use Rattle.plan_read.specs.Steps.{pointer_arguments}
 use Rattle.plan_build.proofs.plan_text_laws.Collects.{not_printed}
 use Rattle.plan_build.proofs.plan_text_laws.Evaluating.{Means, means_inside, value-substituted, value_of_name-substituted}
@@ -30,24 +31,11 @@ use Rattle.plan_ir.specs.schema_types.Environments.{Values, evaluation, items_ev
 use Rattle.plan_ir.specs.schema_types.NameRules.{fragment_named}
 use Rattle.plan_ir.specs.schema_types.Sites.{FragmentAt, arguments_nodes, condition_or, head_nodes, optional_name_nodes, selections_nodes}
 use Rattle.plan_ir.proofs.schema_values_laws.ConstantValues.{constant_value}
-use Rattle.plan_ir.specs.schema_values.Fittings.{is_constant}
 use Rattle.plan_ir.proofs.store_model_laws.ItemReads.{GivesItems}
 use Rattle.plan_ir.proofs.store_model_laws.SameItems.{AlikeItem, zip_append, zip_cond, zip_either}
 use Rattle.plan_ir.specs.store_model.Items.{Item, asked, pointed}
 
 -- ---- the values that a pointer gives
-
-abbrev pub IsConstant : Option Val → Type 0
-IsConstant None = Unit {0}
-IsConstant (Some x) = is_constant x ≡ true
-
--- the default of each local variable is a constant
-abbrev pub HaveConstants : List Local → Type 0
-HaveConstants ls = AllByRecursion (λ l. IsConstant l.default) ls
-
--- and so of each fragment that may be spread
-abbrev pub AreConstant : Project → Type 0
-AreConstant p = (n : Text) (f : FragmentAt) → fragment_named p.fragments n ≡ Some f → HaveConstants (locals_of f.directives)
 
 module _ (own env : Values) (scope : Scope) (means : Means own scope env) where
   given_value : (given default : Option Val) → IsConstant default → local_value [] env given default ≡ evaluation own (value_or (option_map (substitute scope) given) default)

@@ -1,8 +1,8 @@
 -- Plans that read mean masked reading along the documents.
 use Rattle.std.proofs.Common.{◌≡◌, ℕ, ◌+◌, ◌≤◌, List, [], ◌∷◌, map, Some, refl, ap, sym, ◌∙◌, subst, arith}
 use Rattle.std.specs.List.{AllByRecursion, AllZip}
-use Rattle.plan_build.specs.doc_merge.Faults.{field_differences}
 use Rattle.plan_ir.specs.gql_plain.Order.{has_text}
+use Rattle.plan_build.proofs.FieldsAlike.{merging_fields_are_alike}
 use Rattle.plan_build.proofs.Meaning.{merge_root, only_one, root_has}
 use Rattle.plan_build.proofs.OrderLaws.{differ_one, differ_possible}
 use Rattle.plan_build.proofs.PartLaws.{Merge}
@@ -10,6 +10,7 @@ use Rattle.plan_build.proofs.Parts as parts
 use Rattle.plan_build.proofs.SoundTypes.{are_sound}
 use Rattle.plan_build.proofs.StepLaws.{AreSound}
 use Rattle.plan_build.proofs.SuitedOperations.{operations_are_suited}
+use Rattle.plan_build.specs.FieldsAlike.{FieldsAreAlike}
 use Rattle.plan_build.specs.Laws.{definitions}
 use Rattle.plan_build.specs.Suited.{IsSuited, Suited}
 use Rattle.plan_ir.proofs.ReaderDepth.{plan_enough}
@@ -19,7 +20,7 @@ use Rattle.plan_ir.specs.ReaderMeaning.{ReaderPart, collect_reader, plan_reads, 
 use Rattle.plan_ir.specs.Substitution.{operation_scope, scope_of_own}
 use Rattle.plan_ir.specs.declared.expanded.Expanded.{Expanded}
 use Rattle.plan_read.proofs.ConstantLocals.{locals_are_constant}
-use Rattle.plan_read.proofs.KnownDocuments.{AreConstant, FromDocuments, document_items}
+use Rattle.plan_read.proofs.KnownDocuments.{FromDocuments, document_items}
 use Rattle.plan_read.proofs.KnownNodes.{Stands}
 use Rattle.plan_read.proofs.KnownParts.{Known, as_nodes, as_plan, gather}
 use Rattle.plan_read.proofs.KnownSteps.{AlikeSteps, IsPlan, plan_items}
@@ -27,7 +28,8 @@ use Rattle.plan_read.proofs.KnownValid.{AreKnown, known_holds}
 use Rattle.plan_read.proofs.MarkedScopes.{marked_means}
 use Rattle.plan_read.proofs.PlanDepth.{plan_deep}
 use Rattle.plan_read.proofs.SuitedFragments.{fragments_are_suited}
-use Rattle.plan_read.specs.Laws.{AreLocals, ReadersMeanFragments, ReadersMeanOperations}
+use Rattle.plan_read.specs.Constants.{AreConstant}
+use Rattle.plan_read.specs.Laws.{AreLocals, ReadersMeanFragments, ReadersMeanOperations, ReadersMeanSuitedFragments, ReadersMeanSuitedOperations}
 use Rattle.plan_build.proofs.plan_text_laws.Collects.{nodes_append-end}
 use Rattle.plan_build.proofs.plan_text_laws.Evaluating.{Means}
 use Rattle.plan_build.specs.relay_model.Collection.{collect, part_of}
@@ -80,10 +82,10 @@ module _ (p : Project) (own : Values) (sound : AreSound p.defs) where
 
   -- ---- at the top
 
-  -- an expansion whose fields merge, with nothing behind it
-  merges_alone : (e : Expanded) → field_differences p.defs e ≡ [] → (x : Known) → as_nodes p own x ≡ record { set = record { environment = own; nodes = e.selections }; types = x.types; around = e.root; type = e.root }
+  -- an expansion whose fields are alike, with nothing behind it
+  merges_alone : (e : Expanded) → FieldsAreAlike p.defs e → (x : Known) → as_nodes p own x ≡ record { set = record { environment = own; nodes = e.selections }; types = x.types; around = e.root; type = e.root }
       → Merge p.defs (map (as_nodes p own) (x ∷ []))
-  merges_alone e none x is = subst (λ (q : parts.Part). Merge p.defs (q ∷ [])) (sym is) (merge_root p.defs own e x.types none)
+  merges_alone e alike x is = subst (λ (q : parts.Part). Merge p.defs (q ∷ [])) (sym is) (merge_root p.defs own e x.types alike)
 
 -- ---- operations
 
@@ -100,9 +102,9 @@ known_operation p own o = record {
   added = end;
 }
 
-operation_known : (p : Project) (own : Values) (o : OperationAt) → IsSound p.defs → IsSuited p.defs (whole_operation p o).expanded → field_differences p.defs (whole_operation p o).expanded ≡ []
+operation_known : (p : Project) (own : Values) (o : OperationAt) → IsSound p.defs → IsSuited p.defs (whole_operation p o).expanded → FieldsAreAlike p.defs (whole_operation p o).expanded
     → AreKnown p own (name_or (root p.defs o.kind) ∷ []) (known_operation p own o ∷ [])
-operation_known p own o sound suited none T h =
+operation_known p own o sound suited alike T h =
     let t : Text = name_or (root p.defs o.kind) in
     let e : Expanded = (whole_operation p o).expanded in
     let is : T ≡ t = only_one t T h in
@@ -123,14 +125,19 @@ operation_known p own o sound suited none T h =
         },
         tt,
       ),
-      merges_alone p own (are_sound p.defs sound) e none (known_operation p own o) (λ i. record { set = record { environment = own; nodes = bare i }; types = t ∷ []; around = t; type = t }),
+      merges_alone p own (are_sound p.defs sound) e alike (known_operation p own o) (λ i. record { set = record { environment = own; nodes = bare i }; types = t ∷ []; around = t; type = t }),
     )
+
+pub readers_mean_suited_operations : ReadersMeanSuitedOperations
+readers_mean_suited_operations p o sound constant suited alike own owner m id =
+    reads_the_same p own (are_sound p.defs sound) constant (known_operation p own o) (λ n. refl) (name_or (root p.defs o.kind) ∷ [])
+    (operation_known p own o sound suited alike) (name_or (root p.defs o.kind)) owner m id
 
 pub readers_mean_operations : ReadersMeanOperations
 readers_mean_operations defs ps place name o sound meet found none own owner m id =
     let p : Project = project_of defs place (definitions defs ps) in
-    reads_the_same p own (are_sound defs sound) (locals_are_constant defs ps place meet) (known_operation p own o) (λ n. refl) (name_or (root defs o.kind) ∷ [])
-    (operation_known p own o sound (operations_are_suited defs ps place name o sound meet found) none) (name_or (root defs o.kind)) owner m id
+    readers_mean_suited_operations p o sound (locals_are_constant defs ps place meet) (operations_are_suited defs ps place name o sound meet found)
+    (merging_fields_are_alike defs (whole_operation p o).expanded none) own owner m id
 
 -- ---- fragments
 
@@ -148,8 +155,8 @@ known_fragment p own scope f = record {
 }
 
 fragment_known : (p : Project) (own scope : Values) (f : FragmentAt) → IsSound p.defs → AreLocals f scope → Suited p.defs f.on.name f.on.name (whole_fragment p f).expanded.selections
-    → field_differences p.defs (whole_fragment p f).expanded ≡ [] → AreKnown p (with_marked own scope) (possible p.defs f.on.name) (known_fragment p own scope f ∷ [])
-fragment_known p own scope f sound locals suited none T h =
+    → FieldsAreAlike p.defs (whole_fragment p f).expanded → AreKnown p (with_marked own scope) (possible p.defs f.on.name) (known_fragment p own scope f ∷ [])
+fragment_known p own scope f sound locals suited alike T h =
     let t : Text = f.on.name in
     let e : Expanded = (whole_fragment p f).expanded in
     let bare = nodes_append-end e.selections in (
@@ -169,12 +176,17 @@ fragment_known p own scope f sound locals suited none T h =
         },
         tt,
       ),
-      merges_alone p (with_marked own scope) (are_sound p.defs sound) e none (known_fragment p own scope f)
+      merges_alone p (with_marked own scope) (are_sound p.defs sound) e alike (known_fragment p own scope f)
           (λ i. record { set = record { environment = with_marked own scope; nodes = bare i }; types = possible p.defs t; around = t; type = t }),
     )
+
+pub readers_mean_suited_fragments : ReadersMeanSuitedFragments
+readers_mean_suited_fragments p f sound constant suited alike operation_type own scope locals owner m id =
+    reads_the_same p (with_marked own scope) (are_sound p.defs sound) constant (known_fragment p own scope f) (marked_means f own scope locals)
+    (possible p.defs f.on.name) (fragment_known p own scope f sound locals suited alike) operation_type owner m id
 
 pub readers_mean_fragments : ReadersMeanFragments
 readers_mean_fragments defs ps place name f sound meet found none operation_type own scope locals owner m id =
     let p : Project = project_of defs place (definitions defs ps) in
-    reads_the_same p (with_marked own scope) (are_sound defs sound) (locals_are_constant defs ps place meet) (known_fragment p own scope f) (marked_means f own scope locals)
-    (possible defs f.on.name) (fragment_known p own scope f sound locals (fragments_are_suited defs ps place name f sound meet found) none) operation_type owner m id
+    readers_mean_suited_fragments p f sound (locals_are_constant defs ps place meet) (fragments_are_suited defs ps place name f sound meet found)
+    (merging_fields_are_alike defs (whole_fragment p f).expanded none) operation_type own scope locals owner m id

@@ -5,6 +5,7 @@ pub use Rattle.plan_build.specs.plan_text
 pub use Rattle.plan_build.specs.relay_model
 pub mod Steps
 pub mod Plans
+pub mod Constants
 pub mod Laws
 pub mod Reading
 pub mod ReadyView

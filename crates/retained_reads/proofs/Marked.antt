@@ -10,7 +10,7 @@ use Rattle.plan_ir.specs.gql_plain.Order.{member_at}
 use Rattle.plan_ir.specs.gql_plain.Tree.{Tree}
 use Rattle.plan_ir.specs.gql_syntax.Words.{IsName}
 use Rattle.plan_ir.specs.Substitution.{Arguments, arguments_in}
-use Rattle.plan_project.proofs.plan_read_laws.KnownDocuments.{HaveConstants, IsConstant}
+use Rattle.plan_project.specs.plan_read.Constants.{HaveConstants, IsConstant}
 use Rattle.relay_machine.proofs.plan_text_laws.Evaluating.{found-with_pair}
 use Rattle.relay_machine.specs.plan_text.Collecting.{environment_inside, local_value, with_locals}
 use Rattle.plan_ir.specs.relay_dirs.Connections.{value_of_name}

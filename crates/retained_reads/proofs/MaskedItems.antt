@@ -10,7 +10,7 @@ use Rattle.plan_ir.specs.Substitution.{Arguments}
 use Rattle.plan_project.proofs.SoundNodes.{SoundLocal}
 use Rattle.plan_project.proofs.SoundTrees.{SoundArguments, SoundDirectives, SoundSelections}
 use Rattle.plan_project.proofs.SpreadChains.{AllSpreads, Bounded}
-use Rattle.plan_project.proofs.plan_read_laws.KnownDocuments.{HaveConstants}
+use Rattle.plan_project.specs.plan_read.Constants.{HaveConstants}
 use Rattle.plan_project.proofs.plan_read_laws.Zips.{zip_kept, zip_where}
 use Rattle.relay_machine.specs.plan_text.Collecting.{applies, environment_inside, is_left_out}
 use Rattle.plan_ir.specs.relay_dirs.Connections.{connection_among}

@@ -1,4 +1,3 @@
-pub mod Pages
 pub mod Gathered
 pub mod Typed
 pub mod Accepted

@@ -3,14 +3,16 @@ use Rattle.std.proofs.Common.{◌≡◌, ℕ, zero, suc, Bool, true, false, true
 use Rattle.std.specs.List.{AllByRecursion}
 use Rattle.plan_ir.proofs.gql_graph_laws.TextSteps.{same_text}
 use Rattle.plan_ir.specs.gql_plain.Order.{has_text}
-use Rattle.plan_build.proofs.Covariance.{base_on, object_alone}
+use Rattle.plan_build.proofs.Covariance.{object_alone}
+use Rattle.plan_build.proofs.CovarianceNames.{object_is_composite}
 use Rattle.plan_build.proofs.CovarianceRules.{sound_meets}
 use Rattle.plan_build.proofs.Grouped.{asks_seen, each_map, each_so, seen, seen_group}
 use Rattle.plan_build.proofs.Meaning.{Fit, holds_below, merge_below, parts_sets}
 use Rattle.plan_build.proofs.PartLaws.{GatheredFrom, Holds, Merge, all_from, among_map, one_form}
 use Rattle.plan_build.proofs.Parts.{Part, as_set, gather_all}
 use Rattle.plan_build.proofs.SoundTypes.{are_objects, are_sound}
-use Rattle.plan_build.proofs.SuitedRules.{object_is_composite}
+use Rattle.plan_build.specs.Connected.{asks_page}
+use Rattle.plan_build.specs.Meeting.{base_on}
 use Rattle.plan_build.specs.NodesMeaning.{Set, collect_nodes}
 use Rattle.plan_ir.specs.Additions.{type_on}
 use Rattle.plan_ir.specs.schema_rules.Checked.{IsSound}
@@ -26,8 +28,7 @@ use Rattle.plan_ir.specs.store_model.Reaches.{types_of}
 use Rattle.plan_ir.specs.store_model.Says.{first_of, handles, info_in, info_of, some_text}
 use Rattle.plan_ir.specs.store_record.Keys.{Arguments, field_key, handle_key, without_nulls}
 use Rattle.relay_machine.specs.relay_model.Collection.{below_type, form_of_type, form_on}
-use Rattle.sound_answers.proofs.Gathered.{FieldPaged, HasInfo, KnownAt, PartPaged, all_paged, groups_are, info_among}
-use Rattle.sound_answers.proofs.Pages.{HasPageInfo, IsPaged}
+use Rattle.sound_answers.proofs.Gathered.{FieldPaged, HasInfo, IsPaged, KnownAt, PartPaged, all_paged, groups_are, info_among}
 use Rattle.sound_states.proofs.sound_records_laws.Commands.{key_apart}
 use Rattle.sound_states.specs.sound_records.Saying.{AreTyped, IsTyped, StandsApart}
 
@@ -113,7 +114,7 @@ info_found Q same (g ∷ gs) all a q r s = on (bytes_eq g.first.ask.response (co
 
 module _ (defs : Defs) (sound : IsSound defs) where
   -- the page information of the type of a connection, where a part asks for it
-  info_object : (O : Text) (fs : List Set) (k : KnownAt defs O fs) → is_object defs (base_on defs O (codes "pageInfo")) ≡ true → (p : Part) → Among p k.parts → HasPageInfo p.set.nodes
+  info_object : (O : Text) (fs : List Set) (k : KnownAt defs O fs) → is_object defs (base_on defs O (codes "pageInfo")) ≡ true → (p : Part) → Among p k.parts → asks_page p.set.nodes ≡ true
       → is_object defs (info_in (groups_at (collect_nodes defs) O fs)) ≡ true
   info_object O fs k object p there h =
       let us : List (Asked Part) = gather_all defs O k.parts in
@@ -176,13 +177,13 @@ module _ (defs : Defs) (sound : IsSound defs) where
           let O : Text = base_on defs T m.ask.name in
           let q : IsPaged defs T m.ask.name m.part.set.nodes = a.fact.0.1.page a.connected in
           let same : first.ask.form ≡ form_on defs T m.ask.name = one_form defs T ps merge first m from a.fact.0.0 (sym a.fact.1) ∙ a.fact.0.0.gathered.form in
-          let only : types_of first.ask.form ≡ O ∷ [] = ap types_of same ∙ types_on defs sound T m.ask.name q.apart q.type.object in
+          let only : types_of first.ask.form ≡ O ∷ [] = ap types_of same ∙ types_on defs sound T m.ask.name q.apart q.object in
           let here : has_text (types_of first.ask.form) O ≡ true = ap (λ (ts : List Text). has_text ts O) only ∙ in_first O [] in
           record {
             type = O;
             types = only;
-            object = q.type.object;
-            info = info_object O inner (known_below O here) q.type.page m.part (among_map (λ (x : Asked Part). x.part) m (members g) a.there) q.info;
+            object = q.object;
+            info = info_object O inner (known_below O here) q.page m.part (among_map (λ (x : Asked Part). x.part) m (members g) a.there) q.asks;
           }
 
       group_typed : (n : ℕ) → ((U : Text) (fs : List Set) → KnownAt defs U fs → AreTyped (is_object defs) (collect_nodes defs) n U fs) → Typed n (seen_group as_set g)
@@ -199,7 +200,7 @@ module _ (defs : Defs) (sound : IsSound defs) where
   are_typed (suc n) T fs k =
       let us : List (Asked Part) = gather_all defs T k.parts in
       let facts : AllByRecursion (Fact T k.parts k.merge) us =
-      both_so (GatheredFrom defs T k.parts) (FieldPaged defs T) us (all_from defs (are_sound defs sound) T k.parts k.holds) (all_paged defs T k.parts k.holds k.paged) in
+      both_so (GatheredFrom defs T k.parts) (FieldPaged defs T) us (all_from defs (are_sound defs sound) T k.parts k.holds) (all_paged defs sound T k.parts k.holds k.paged) in
       subst (AllByRecursion (Typed n)) (sym (groups_are defs T fs k))
       (each_map (seen_group as_set) (Typed n) (grouped_onto [] us)
       (each_so (Fits (Fact T k.parts k.merge)) (λ g. Typed n (seen_group as_set g)) (grouped_onto [] us)

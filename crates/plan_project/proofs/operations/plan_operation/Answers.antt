@@ -1,8 +1,7 @@
 -- What is made of the expansion is what the documents have.
 use Rattle.std.proofs.Common.{sym, refl, subst}
-use Rattle.plan_read.specs.plan_build.Plans.{IsWellFormed, MeansTheSame, ReachesTheSame}
 use Rattle.plan_ir.specs.declared.normal.NormalPlan.{NormalPlan}
-use Rattle.plan_project.proofs.KeptPlans.{operation_planned}
+use Rattle.plan_project.proofs.KeptPlans.{IsPlanOf, operation_planned}
 use Rattle.plan_project.proofs.KeptReaders.{whole_has_reader}
 use Rattle.plan_project.proofs.operations.plan_operation.Goals as goal
 
@@ -14,8 +13,14 @@ reader-requires-clause-there c =
 pub returns : goal.returns
 returns c =
     let e = c.args.planner.now.expander in
+    let plan = c.in_ok-plan.ensures in
     operation_planned e.schema.now e.documents.now c.requires.ready.accepted c.args.name.now c.args.expanded _ c.requires.whole c.in_ok-copy.ensures c.in-Some.is refl c.in_ok-types.ensures refl
-    (subst (λ (p : NormalPlan). IsWellFormed e.schema.now p.steps) (sym c.in_ok-normal.ensures.ok) c.in_ok-plan.ensures.formed)
-    (subst (λ (p : NormalPlan). MeansTheSame e.schema.now c.args.expanded p.steps) (sym c.in_ok-normal.ensures.ok) c.in_ok-plan.ensures.means)
-    (subst (λ (p : NormalPlan). ReachesTheSame e.schema.now c.args.expanded p.steps) (sym c.in_ok-normal.ensures.ok) c.in_ok-plan.ensures.reaches)
+    (subst (λ (p : NormalPlan). IsPlanOf e.schema.now c.args.expanded p.steps) (sym c.in_ok-normal.ensures.ok) (record {
+      formed = plan.formed;
+      typed = plan.typed;
+      paged = plan.paged;
+      fits = plan.fits;
+      means = plan.means;
+      reaches = plan.reaches;
+    }))
     c.in_ok-reader.ensures
