@@ -22,7 +22,7 @@ use Rattle.plan_ir.specs.schema_types.DocumentRules.{places_of}
 use Rattle.plan_ir.specs.schema_types.Environments.{Values}
 use Rattle.plan_ir.proofs.store_model_laws.Least.{in_first}
 use Rattle.plan_project.proofs.Accepting.{operation_merges}
-use Rattle.relay_machine.specs.Machine.{Project, State, beginning, documents_of, step}
+use Rattle.relay_machine.specs.Machine.{State, beginning, documents_of, step}
 use Rattle.relay_machine.specs.relay_model.Readings.{no_place}
 use Rattle.sound_answers.proofs.Gathered.{KnownAt}
 use Rattle.sound_answers.proofs.Typed.{are_typed}

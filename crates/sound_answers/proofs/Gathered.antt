@@ -26,7 +26,7 @@ use Rattle.plan_ir.specs.schema_tables.Types.{Text, Defs, base_of, is_composite,
 use Rattle.plan_ir.specs.schema_types.Environments.{Values}
 use Rattle.plan_ir.specs.schema_types.Sites.{typename_on}
 use Rattle.plan_ir.specs.store_model.Alike.{Among}
-use Rattle.plan_ir.specs.store_model.Items.{Asked, Group, collect_all, grouped_onto, groups_at, groups_of}
+use Rattle.plan_ir.specs.store_model.Items.{Asked, collect_all, grouped_onto, groups_at, groups_of}
 use Rattle.relay_machine.specs.relay_model.Collection.{connection_asked}
 use Rattle.relay_machine.specs.relay_model.plan_text.Collecting.{applies, is_left_out}
 

@@ -6,7 +6,7 @@ use Rattle.plan_ir.specs.gql_plain.Order.{has_text}
 use Rattle.plan_build.proofs.Covariance.{object_alone}
 use Rattle.plan_build.proofs.CovarianceNames.{object_is_composite}
 use Rattle.plan_build.proofs.CovarianceRules.{sound_meets}
-use Rattle.plan_build.proofs.Grouped.{asks_seen, each_map, each_so, seen, seen_group}
+use Rattle.plan_build.proofs.Grouped.{asks_seen, each_map, each_so, seen_group}
 use Rattle.plan_build.proofs.Meaning.{Fit, holds_below, merge_below, parts_sets}
 use Rattle.plan_build.proofs.PartLaws.{GatheredFrom, Holds, Merge, all_from, among_map, one_form}
 use Rattle.plan_build.proofs.Parts.{Part, as_set, gather_all}
