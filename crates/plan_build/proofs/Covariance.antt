@@ -28,7 +28,7 @@ Within defs t u = (T : Text) → has_text (possible defs t) T ≡ true → has_t
 abbrev objects : Defs → List Text
 objects defs = filter_map object_name defs
 
-possible_is : (defs : Defs) (t T : Text) → has_text (possible defs t) T ≡ true → (has_text (objects defs) T ≡ true) × (applies defs T t ≡ true)
+pub possible_is : (defs : Defs) (t T : Text) → has_text (possible defs t) T ≡ true → (has_text (objects defs) T ≡ true) × (applies defs T t ≡ true)
 possible_is defs t T h =
     in_filter (λ o. applies defs o t) (objects defs) T (sym (has_text-sorted_texts (filter (λ o. applies defs o t) (objects defs)) T) ∙ h)
 

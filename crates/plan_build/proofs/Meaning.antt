@@ -53,7 +53,7 @@ only_one T U h = on (bytes_eq T U) refl h where
 
 -- ---- what lies below a group
 
-parts_sets : (ms : List (Asked Part)) → map (λ (a : Asked Set). a.part) (map (seen as_set) ms) ≡ map set_of (map (λ (m : Asked Part). m.part) ms)
+pub parts_sets : (ms : List (Asked Part)) → map (λ (a : Asked Set). a.part) (map (seen as_set) ms) ≡ map set_of (map (λ (m : Asked Part). m.part) ms)
 parts_sets [] = refl
 parts_sets (m ∷ ms) = ap (λ (fs : List Set). m.part.set ∷ fs) (parts_sets ms)
 
@@ -144,7 +144,7 @@ plans_keep defs sound T types fs gs own h =
 
 -- ---- operations
 
-abbrev root_part : Values → Expanded → (types : List Text) → Part
+abbrev pub root_part : Values → Expanded → (types : List Text) → Part
 root_part own e ts = record { set = record { environment = own; nodes = e.selections }; types = ts; around = e.root; type = e.root }
 
 pub merge_root : (defs : Defs) (own : Values) (e : Expanded) (ts : List Text) → FieldsAreAlike defs e → Merge defs (root_part own e ts ∷ [])
@@ -156,26 +156,27 @@ merge_root defs own e ts alike p q (inr f) g s u h k = absurd f
 pub root_has : (defs : Defs) → IsSound defs → (t : Text) → is_object defs t ≡ true → has_text (possible defs t) t ≡ true
 root_has defs sound t e = ap (λ (ts : List Text). has_text ts t) (object_alone defs (sound_meets defs sound) t e) ∙ ap (λ (b : Bool). b || false) (same_self t)
 
-pub root_plans : (defs : Defs) (own : Values) (e : Expanded) → IsSound defs → IsSuited defs e → FieldsAreAlike defs e
-    → ArePlans defs (e.root ∷ []) (record { environment = own; nodes = e.selections } ∷ []) (record { environment = own; steps = plan_of defs e } ∷ [])
-root_plans defs own e sound suited alike T h =
+-- the set of an operation at its root type
+pub root_holds : (defs : Defs) (own : Values) (e : Expanded) → IsSound defs → IsSuited defs e → (T : Text) → has_text (e.root ∷ []) T ≡ true → Holds defs T (root_part own e (e.root ∷ []))
+root_holds defs own e sound suited T h =
     let is : T ≡ e.root = only_one e.root T h in
     record {
-      parts = root_part own e (e.root ∷ []) ∷ [];
-      sets = refl;
-      plans = refl;
-      holds = (
-        record {
-          suited = suited.selections;
-          differ = differ_one e.root;
-          here = h;
-          there = ap (has_text (possible defs e.root)) is ∙ root_has defs sound e.root suited.root;
-          alone = λ b. is;
-        },
-        tt,
-      );
-      merge = merge_root defs own e (e.root ∷ []) alike;
+      suited = suited.selections;
+      differ = differ_one e.root;
+      here = h;
+      there = ap (has_text (possible defs e.root)) is ∙ root_has defs sound e.root suited.root;
+      alone = λ b. is;
     }
+
+pub root_plans : (defs : Defs) (own : Values) (e : Expanded) → IsSound defs → IsSuited defs e → FieldsAreAlike defs e
+    → ArePlans defs (e.root ∷ []) (record { environment = own; nodes = e.selections } ∷ []) (record { environment = own; steps = plan_of defs e } ∷ [])
+root_plans defs own e sound suited alike T h = record {
+  parts = root_part own e (e.root ∷ []) ∷ [];
+  sets = refl;
+  plans = refl;
+  holds = (root_holds defs own e sound suited T h, tt);
+  merge = merge_root defs own e (e.root ∷ []) alike;
+}
 
 pub plan_means : (defs : Defs) (e : Expanded) → IsSound defs → IsSuited defs e → FieldsAreAlike defs e → (own : Values) (response : J.Data)
     → plan_says e.root own (plan_of defs e) response ≡ nodes_say defs e own response

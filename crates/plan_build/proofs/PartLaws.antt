@@ -56,11 +56,11 @@ pub each_append : {X : Type 0} (P : X → Type 0) (xs ys : List X) → AllByRecu
 each_append P [] ys h k = k
 each_append P (x ∷ xs) ys h k = (h.0, each_append P xs ys h.1 k)
 
-each_left : {X : Type 0} (P : X → Type 0) (left_out : Bool) (xs : List X) → AllByRecursion P xs → AllByRecursion P (cond left_out [] xs)
+pub each_left : {X : Type 0} (P : X → Type 0) (left_out : Bool) (xs : List X) → AllByRecursion P xs → AllByRecursion P (cond left_out [] xs)
 each_left P true xs h = tt
 each_left P false xs h = h
 
-each_if : {X : Type 0} (P : X → Type 0) (b : Bool) (xs : List X) → (b ≡ true → AllByRecursion P xs) → AllByRecursion P (cond b xs [])
+pub each_if : {X : Type 0} (P : X → Type 0) (b : Bool) (xs : List X) → (b ≡ true → AllByRecursion P xs) → AllByRecursion P (cond b xs [])
 each_if P true xs h = h refl
 each_if P false xs h = tt
 

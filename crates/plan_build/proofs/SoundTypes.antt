@@ -10,7 +10,7 @@ use Rattle.plan_ir.proofs.gql_plain_laws.Booleans.{or_true}
 use Rattle.plan_ir.proofs.gql_plain_laws.SortedTexts.{has_text-sorted_texts}
 use Rattle.plan_ir.specs.gql_plain.Order.{has_text}
 use Rattle.plan_ir.specs.schema_rules.Checked.{IsSound}
-use Rattle.plan_ir.specs.schema_rules.Rules.{further_schemas, has_effect, names_not_unique, repeated_kinds, rules}
+use Rattle.plan_ir.specs.schema_rules.Rules.{further_schemas, has_effect, is_object, names_not_unique, repeated_kinds, rules}
 use Rattle.plan_ir.specs.schema_tables.BuiltIn.{is_built_in_directive}
 use Rattle.plan_ir.specs.schema_tables.Types.{Text, Defs, applies, built_in_scalars, is_built_in_scalar, is_composite, is_composite_kind, is_interface_kind, is_kind, is_object_kind, implements, kind_of, object_name, possible, type_named, type_of, union_members_named}
 use Rattle.plan_ir.specs.schema_tables.declared.kind.TypeKind.{TypeKind}
@@ -19,7 +19,7 @@ use Rattle.plan_ir.specs.schema_tables.declared.kind.TypeKind.TheVariants as kin
 use Rattle.plan_ir.specs.schema_trees.DefinitionParts.{directive_name_of, repeated_names, repeats, roots_in, type_name_of}
 use Rattle.plan_ir.specs.schema_trees.Located.{Located, DefAt, def_at, def_nodes, defs_at, locate, name_at}
 use Rattle.plan_ir.specs.gql_graph.Rules.{each}
-use Rattle.plan_build.proofs.Covariance.{possible_in_object}
+use Rattle.plan_build.proofs.Covariance.{possible_in_object, possible_is}
 use Rattle.plan_build.proofs.CovarianceLists.{all_hold, in_filter, none_first}
 use Rattle.plan_build.proofs.CovarianceRules.{SchemaMeets, implemented, sound_meets}
 use Rattle.plan_build.proofs.StepLaws.{AreSound}
@@ -228,6 +228,10 @@ module _ (defs : Defs) (sound : IsSound defs) where
   object_kind T h =
       let first : IsFirst built_in_scalars defs T = object_first defs 1 built_in_scalars scalars_there differ T h in
       ap (λ (b : Bool). is_kind is_object_kind (cond b (Some Scalar) (kind_among defs T))) first.0 ∙ first.1
+
+  -- what a type may be are object types
+  pub are_objects : (o T : Text) → has_text (possible defs o) T ≡ true → is_object defs T ≡ true
+  are_objects o T h = object_kind T (possible_is defs o T h).0
 
   nothing_is : (o T : Text) → is_composite defs o ≡ false → has_text (possible defs o) T ≡ true → ⊥
   nothing_is o T e h =

@@ -4,7 +4,6 @@ use Rattle.std.proofs.lemmas.Bool.{and_parts}
 use Rattle.plan_ir.proofs.NormalLeadLaws.{last_lead_put}
 use Rattle.plan_ir.specs.Normal.{Normal, normal_append}
 use Rattle.plan_ir.specs.NormalView.{step_of}
-use Rattle.plan_ir.specs.schema_tables.Types.{is_composite}
 use Rattle.plan_build.proofs.CodeSteps.{class_lead}
 use Rattle.plan_build.specs.ClassView.{field_view, target_view}
 use Rattle.plan_build.specs.Steps.{target_step}
