@@ -17,8 +17,8 @@ use Rattle.plan_build.proofs.Covariance.{base_on, type_of_field}
 use Rattle.plan_build.proofs.CovarianceLists.{all_parts, first_true, none_first, not_so, right, then_true}
 use Rattle.plan_build.proofs.CovarianceRules.{SchemaMeets, no_typename}
 use Rattle.plan_ir.specs.Additions.{type_or}
-use Rattle.plan_ir.specs.relay_dirs.Connections as connections
-use Rattle.plan_ir.specs.relay_dirs.Connections.{are_edges, connection_among, connection_from, field_defined, is_connection, is_connection_name, is_connection_type, is_edge, is_node, is_page, is_page_info, is_page_leaf, is_single, needs_nothing, of_name, type_wrong, type_wrong_at}
+use Rattle.plan_ir.specs.relay_marks.Connections as connections
+use Rattle.plan_ir.specs.relay_marks.Connections.{are_edges, connection_among, connection_from, field_defined, is_connection, is_connection_name, is_connection_type, is_edge, is_node, is_page, is_page_info, is_page_leaf, is_single, needs_nothing, of_name, type_wrong, type_wrong_at}
 use Rattle.plan_ir.specs.schema_rules.Rules.{is_object, repeated_names}
 use Rattle.plan_ir.specs.schema_tables.Types.{Text, Defs, base_of, field_def, field_on, is_composite}
 use Rattle.plan_ir.specs.schema_tables.Views.{FieldDef}

@@ -10,8 +10,9 @@ use Rattle.plan_read.proofs.plan_build_laws.Reaches.{documents_reach_nodes}
 use Rattle.plan_read.proofs.plan_build_laws.SuitedOperations.{operations_are_suited}
 use Rattle.plan_read.specs.plan_build.Plans.{IsWellFormed, MeansTheSame, ReachesTheSame}
 use Rattle.plan_read.specs.plan_build.Suited.{IsSuited}
-use Rattle.plan_read.specs.plan_expand.Answers.{project, whole_in}
-use Rattle.plan_read.specs.plan_expand.Places.{place_in}
+use Rattle.plan_read.specs.plan_expand.Answers.{whole_in}
+use Rattle.plan_ir.specs.Projects.{project}
+use Rattle.plan_ir.specs.Projects.{place_in}
 use Rattle.plan_ir.specs.Expansion.{Whole, name_or, whole_operation}
 use Rattle.plan_ir.specs.NormalMeaning.{is_formed, plan_says}
 use Rattle.plan_ir.specs.NormalReach.{plan_reaches}
@@ -28,8 +29,8 @@ use Rattle.plan_project.specs.Projects.{IsAcceptedProject}
 use Rattle.plan_project.specs.declared.operations.Compiled.{Compiled}
 use Rattle.plan_project.specs.declared.operations.CompiledFragment.{CompiledFragment}
 use Rattle.plan_read.specs.Plans.{reader_in}
-use Rattle.plan_ir.specs.relay_dirs.Locals.{locals_of}
-use Rattle.plan_ir.specs.relay_dirs.View.{local_view}
+use Rattle.plan_ir.specs.relay_marks.Locals.{locals_of}
+use Rattle.plan_ir.specs.relay_marks.View.{local_view}
 use Rattle.plan_read.specs.relay_model.Readings.{no_place}
 use Rattle.plan_read.specs.relay_model.Responses.{operation_says}
 use Rattle.plan_ir.specs.schema_tables.Types.{Text, Defs, is_composite, possible, root}
