@@ -3,8 +3,9 @@
 # lowest last, and of each crate those that it stands on, but for those that follow from the others;
 # and behind it how many ways lead down from one crate to another, which is what `rt` pays for.
 # With --check nothing is written, and the status is 1 where the picture is not that of crates.txt,
-# where there are more ways than are allowed, or where a crate depends on a tier above its own, by the
-# table of tiers at the head of MAP.md.
+# where there are more ways than are allowed, where a crate depends on a tier above its own, by the
+# table of tiers at the head of MAP.md, or where definitions wait for checks: where a crate of the
+# promise stands on a crate that checks, expands or prints.
 set -eu
 cd "$(dirname "$0")"
 exec python3 - "$@" <<'END'
@@ -15,6 +16,9 @@ ALL_BELOW, LEVELS, WAYS = {}, {}, {}
 # A kit may walk each way for each crate that it proves, and read the files of each crate on it. So the
 # time before and between the proofs grows with this number.
 MOST_WAYS = 20_000
+# Of the plans and the rules on documents the promise stands on these alone: they have the types and the
+# definitions that plans are held to, and what `@argumentDefinitions` and `@connection` say.
+DEFINED = {"plan_ir", "plan_collect", "relay_marks"}
 BEGIN, END = "<!-- picture: made by docs/map.sh -->\n", "<!-- end of the picture -->\n"
 
 def crates_of(path):
@@ -62,10 +66,14 @@ def picture(crates):
     told = f"{all_ways(crates):,} ways lead down from one crate to another. At most {MOST_WAYS:,} are allowed.\n"
     return f"```\n{''.join(line_of(crates, number) for number in levels)}```\n\n{told}"
 
+def rows(text):
+    """The tiers of the table, the highest first, each with its crates."""
+    found = re.findall(r"^\| (\w+) \| ((?:`\w+`(?:, )?)+) \|", text, re.M)
+    return {tier: re.findall(r"\w+", names) for tier, names in found}
+
 def tiers(text):
     """The number of each crate's tier: 0 is the highest, and that of the tests lies above it."""
-    rows = re.findall(r"^\| (\w+) \| ((?:`\w+`(?:, )?)+) \|", text, re.M)
-    return {crate: -1 if tier == "tests" else n for n, (tier, names) in enumerate(rows) for crate in re.findall(r"\w+", names)}
+    return {crate: -1 if tier == "tests" else n for n, (tier, names) in enumerate(rows(text).items()) for crate in names}
 
 def upward(crates, text):
     """The first dependency on a tier above, or a crate without a tier, if there is one."""
@@ -76,6 +84,14 @@ def upward(crates, text):
         for dep in deps:
             if dep in ranks and ranks[dep] < ranks[crate]:
                 return f"{crate} depends on {dep}, whose tier in docs/MAP.md is above its own"
+    return None
+
+def waiting(crates, text):
+    """The first crate of the promise that waits for a check, if there is one."""
+    told = rows(text)
+    for crate in told["promise"]:
+        for dep in sorted(all_below(crates, crate) & {*told["plans"], *told["rules"]} - DEFINED):
+            return f"{crate} stands on {dep}, and definitions do not wait for checks: what it takes of it goes down (docs/MAP.md)"
     return None
 
 if sys.argv[1:] not in ([], ["--check"]):
@@ -92,6 +108,8 @@ if sys.argv[1:] == ["--check"]:
         sys.exit("the picture in docs/MAP.md is not that of crates.txt: run docs/map.sh")
     if upward(crates, text):
         sys.exit(upward(crates, text))
+    if waiting(crates, text):
+        sys.exit(waiting(crates, text))
     if all_ways(crates) > MOST_WAYS:
         sys.exit(f"crates.txt has {all_ways(crates):,} ways from one crate down to another, more than {MOST_WAYS:,}: "
                  "let crates list fewer, and take what is below from those that they list (docs/MAP.md)")

@@ -36,7 +36,7 @@ make_program() {
     rt new crates/payload_bench start_io > /dev/null
     rm -rf crates/payload_bench/{src,specs,proofs,stdin,stdout,BUILD.bazel}
     mkdir crates/payload_bench/src
-    echo "payload_bench: store_norm plan_ir schema_values gql_ast store_model store_record gql_plain serde_json" >> crates.txt
+    echo "payload_bench: store_norm plan_ir constant_values gql_ast store_model store_record gql_plain serde_json" >> crates.txt
     cat > crates/payload_bench/src/main.rt
     (cd crates/payload_bench && rt run -- many 1 read /dev/null 0)
     program=$folder/repo/crates/payload_bench/out/payload_bench
@@ -51,10 +51,10 @@ if [ -z "$program" ]; then
 //! Reads a payload, and gathers its facts, as far as the arguments say.
 #![tactic(auto)]
 
+use constant_values::Env;
 use gql_ast::{Argument, Arguments, ValueTree};
 use gql_plain::{Ids, NoMemory, Pairs, Words};
 use plan_ir::{NormalList, NormalPlan, NormalStep, NormalSteps};
-use schema_values::Env;
 use serde_json::Value;
 use std::alloc::Global;
 use std::time::{Duration, Instant};

@@ -17,8 +17,8 @@ use Rattle.plan_ir.specs.gql_lex.Heads.{head}
 use Rattle.plan_ir.specs.gql_lex.Lines.{ended_lines, line_start}
 use Rattle.plan_ir.specs.gql_lex.Sources.{read, lex_from}
 use Rattle.plan_ir.specs.gql_lex.Toks.{tokens_of}
-use Rattle.relay_machine.specs.gql_parse.Documents as documents
-use Rattle.relay_machine.specs.gql_parse.Trees.{IsDocument}
+use Rattle.plan_project.specs.gql_parse.Documents as documents
+use Rattle.plan_project.specs.gql_parse.Trees.{IsDocument}
 use Rattle.plan_project.specs.gql_sdl.Schemas as schemas
 use Rattle.plan_project.specs.gql_sdl.Schemas.{Described, WrittenField}
 use Rattle.plan_project.specs.gql_sdl.Trees.{IsSchema}
@@ -27,7 +27,7 @@ use Rattle.plan_ir.specs.gql_syntax.Places.{file_place, place_nodes}
 use Rattle.plan_ir.specs.gql_syntax.Texts.{nesting_limit}
 use Rattle.json.proofs.Printed.Utf8.{are_ascii, IsUtf8-are_ascii}
 use Rattle.plan_project.specs.Expansions.{merge_fault, size_rules}
-use Rattle.plan_ir.specs.relay_dirs.RelayRules.{document_rules}
+use Rattle.plan_project.specs.relay_rules.RelayRules.{document_rules}
 use Rattle.relay_machine.specs.Bulk.{bulk_document, bulk_schema}
 use Rattle.plan_ir.specs.schema_rules.Checked.{IsSound}
 use Rattle.plan_ir.specs.schema_types.DocumentRules.{Meet}

@@ -5,7 +5,7 @@ ghost use Rattle.std.specs.Prelude.{◌≡◌, option_copied, option_map, IfOk, 
 ghost use Rattle.plan_ir.specs.gql_ast.Value.{members_of, vals_of};
 ghost use Rattle.plan_ir.specs.gql_ast.ValueView as tree;
 ghost use Rattle.plan_ir.specs.NodesView.{node_of};
-ghost use Rattle.plan_ir.specs.doc_uses.UseView.{fields_of_name, place_of};
+ghost use Rattle.doc_uses.specs.UseView.{fields_of_name, place_of};
 ghost use Rattle.doc_merge.specs.Faults.{values_unfit};
 ghost use Rattle.doc_merge.specs.Places.{least, least_from};
 ghost use Rattle.doc_merge.specs.UseView.{Names};
@@ -15,10 +15,10 @@ use crate::least::Least;
 use crate::row::on_or;
 use crate::variables::Variables;
 use plan_ir::type_forms::base_of;
+use doc_uses::{Place, field_place, item_place, name_of_place, place_of_input};
 use plan_ir::{
     Argument, Arguments, Directive, Directives, Expanded, FilePlace, InputDef, InputDefs, NoMemory,
-    Node, Nodes, Place, Schema, ValueTree, ValueTrees, VariableDef, field_place, item_place,
-    name_of_place, place_of_input,
+    Node, Nodes, Schema, ValueTree, ValueTrees, VariableDef,
 };
 use std::alloc::Global;
 

@@ -7,7 +7,7 @@ use Rattle.later_lines.specs.Alike.{AreAlike, StepsAlike}
 use Rattle.later_lines.specs.Laws.{LinesStayAlike}
 use Rattle.later_lines.specs.Looked.{event_sweeps, looked, looked_by_entries, looks_of_all, seen_by_all, seen_by_watches, sweeps}
 use Rattle.plan_ir.specs.Expansion.{operation_named, variable_trees}
-use Rattle.plan_ir.specs.relay_dirs.Locals.{locals_of}
+use Rattle.plan_ir.specs.relay_marks.Locals.{locals_of}
 use Rattle.relay_machine.specs.Effects.{answer_reads, entries_in, layer_entries, newly_confirmed, reads_of_fragment, reads_of_part, reads_of_target}
 use Rattle.relay_machine.specs.Machine.{Confirmation, confirmed, swept, Handle, PartShown, Project, State, Step, Watch, accept, act, answer_to, base, confirm, definitions_in, drop_layer, entry_of, first_local_failure, first_refused, fold_confirmed, fragment_read, handle_named, is_in_use, is_layer, is_watch, noticed, notices_of, nothing_said, of_fragment, of_part, of_target, of_verdict, operation_read, read_again, refuse, release_handle, result_of, retain_named, said_to, scope_given, shown, start_watch, started, step_line, sweep_base, unless, unless_failure, unless_unknown, view, with_entries, with_handle, with_layer, with_watches, without_watch}
 use Rattle.relay_machine.specs.Printed.{collect_line, event_line, read_line, watch_line}

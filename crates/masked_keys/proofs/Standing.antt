@@ -9,7 +9,7 @@ use Rattle.plan_ir.proofs.store_model_laws.Least.{Each, each_append}
 use Rattle.plan_ir.proofs.store_model_laws.LookedKeys.{KeyedItem, LooksWell, looked_keys}
 use Rattle.plan_ir.specs.Expansion.{Project}
 use Rattle.plan_ir.specs.Substitution.{Arguments}
-use Rattle.plan_ir.specs.relay_dirs.Connections.{connection_among}
+use Rattle.plan_ir.specs.relay_marks.Connections.{connection_among}
 use Rattle.plan_ir.specs.schema_tables.Types.{Text}
 use Rattle.plan_ir.specs.schema_types.Environments.{Values, arguments_in_environment}
 use Rattle.plan_ir.specs.schema_types.NameRules.{fragment_named}
@@ -19,7 +19,7 @@ use Rattle.plan_ir.specs.store_model.Walks.{Slots, read_at, read_key}
 use Rattle.plan_ir.specs.store_record.Keys.{field_key, handle_key}
 use Rattle.relay_model.specs.Collection.{Part, ask_of, collect, collect_in, collect_with, connection_asked, enter_where, is_inline, is_open, pointer_to, spread_items}
 use Rattle.relay_model.specs.Readings.{masked_setting}
-use Rattle.relay_model.specs.plan_text.Collecting.{applies, environment_inside, is_left_out}
+use Rattle.relay_model.specs.plan_collect.Collecting.{applies, environment_inside, is_left_out}
 
 -- the key that is asked for is the key of the field
 key_asked : (own : Text) (xs : Arguments) (env : Values) (c : Option Conn)

@@ -7,14 +7,14 @@ use Rattle.plan_ir.specs.gql_ast.Sels.{Sels}
 use Rattle.plan_ir.specs.gql_ast.declared.directive.Directive.{Directive}
 use Rattle.plan_ir.specs.Expansion.{Project}
 use Rattle.plan_ir.specs.Substitution.{Arguments}
-use Rattle.plan_ir.specs.relay_dirs.Connections.{connection_among}
+use Rattle.plan_ir.specs.relay_marks.Connections.{connection_among}
 use Rattle.plan_ir.specs.schema_tables.Types.{Text}
 use Rattle.plan_ir.specs.schema_types.Environments.{Values, arguments_in_environment}
 use Rattle.plan_ir.specs.schema_types.NameRules.{fragment_named}
 use Rattle.plan_ir.specs.schema_types.Sites.{FragmentAt}
 use Rattle.plan_ir.specs.store_record.Keys.{field_key, handle_key}
 use Rattle.relay_model.specs.Collection.{is_inline, is_open}
-use Rattle.relay_model.specs.plan_text.Collecting.{environment_inside}
+use Rattle.relay_model.specs.plan_collect.Collecting.{environment_inside}
 
 -- the key that a field is read under, in an environment: that of its connection where it has one, else its own
 abbrev pub read_key_of : Values → (name : Text) → Arguments → List Directive → Text

@@ -12,10 +12,10 @@ use Rattle.plan_ir.specs.schema_tables.Types.{Text}
 use Rattle.plan_ir.specs.schema_types.DocumentRules.{places_of}
 use Rattle.plan_project.specs.Projects.{AreDocuments}
 use Rattle.text_places.specs.Naming.{element_at}
-use Rattle.text_places.specs.gql_parse.Documents as documents
-use Rattle.text_places.specs.gql_parse.Trees.{IsDocument}
-use Rattle.text_places.specs.gql_sdl.Schemas as schemas
-use Rattle.text_places.specs.gql_sdl.Trees.{IsSchema}
+use Rattle.plan_project.specs.gql_parse.Documents as documents
+use Rattle.plan_project.specs.gql_parse.Trees.{IsDocument}
+use Rattle.plan_project.specs.gql_sdl.Schemas as schemas
+use Rattle.plan_project.specs.gql_sdl.Trees.{IsSchema}
 
 the_same : (a : FilePlace) → IsNoLater a a
 the_same a = inr (refl, inr (refl, omega arith))

@@ -7,7 +7,7 @@ use Rattle.plan_ir.specs.schema_tables.Types.{Text}
 use Rattle.plan_ir.specs.schema_types.DocumentRules.{places_of}
 use Rattle.plan_project.specs.Projects.{AreDocuments}
 use Rattle.place_order.specs.Rising.{Rise}
-use Rattle.text_places.specs.gql_sdl.Trees.{IsSchema}
+use Rattle.plan_project.specs.gql_sdl.Trees.{IsSchema}
 
 -- in a schema that was read
 abbrev pub SchemaPlacesRise : Type 0

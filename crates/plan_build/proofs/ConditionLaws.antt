@@ -17,7 +17,7 @@ use Rattle.plan_ir.specs.gql_plain.Tree as t
 use Rattle.plan_ir.specs.gql_plain.Tree.{Tree}
 use Rattle.plan_ir.specs.NormalMeaning.{condition_passes}
 use Rattle.plan_ir.specs.declared.guard.Condition.{Condition}
-use Rattle.relay_model.specs.plan_text.Collecting.{condition_holds, is_left_out, leaves_out}
+use Rattle.relay_model.specs.plan_collect.Collecting.{condition_holds, is_left_out, leaves_out}
 use Rattle.plan_ir.specs.schema_tables.Types.{Text}
 use Rattle.plan_ir.specs.schema_types.Environments.{Values, arguments_in_environment, evaluation, is_true, or_null, pairs_evaluated, value_in, with_new_pair}
 use Rattle.plan_build.proofs.ConditionTrees.{value_of_tree}

@@ -9,10 +9,10 @@ use Rattle.plan_build.specs.NodesMeaning.{Set, ask_of_node, collect_nodes, colle
 use Rattle.plan_ir.specs.Expansion.{expansion, name_or, operation_from, spreads_in, whole_operation}
 use Rattle.plan_ir.specs.Nodes.{Nodes, end, field, inline, nodes_append}
 use Rattle.plan_ir.specs.Substitution.{operation_scope}
-use Rattle.relay_model.proofs.plan_text_laws.Collects.{nodes_append-end, sels_append-end}
-use Rattle.relay_model.proofs.plan_text_laws.WholeForm.{Around, in-append, items_at_spread, setting}
-use Rattle.relay_model.specs.plan_text.Collecting.{applies, is_left_out, with_additions}
-use Rattle.relay_model.specs.plan_text.Printed.{printed_selections}
+use Rattle.relay_model.proofs.plan_collect_laws.Collects.{nodes_append-end, sels_append-end}
+use Rattle.relay_model.proofs.plan_collect_laws.WholeForm.{Around, in-append, items_at_spread, setting}
+use Rattle.relay_model.specs.plan_collect.Collecting.{applies, is_left_out, with_additions}
+use Rattle.relay_model.specs.plan_collect.Printed.{printed_selections}
 use Rattle.relay_model.specs.Collection.{Part, collect, collect_in, part_of}
 use Rattle.relay_model.specs.Responses.{operation_says}
 use Rattle.plan_ir.specs.schema_tables.Types.{Text, Defs, root}

@@ -16,7 +16,7 @@ use Rattle.plan_ir.specs.Additions.{additions, type_on}
 use Rattle.plan_ir.specs.Expansion.{Project, enter_with, expansion, expansion_with, printed_conditions, printed_directives, response_key, selections_from}
 use Rattle.plan_ir.specs.Nodes.{Nodes, end, field, inline, nodes_append}
 use Rattle.plan_ir.specs.Substitution.{Scope, scope_at_spread, substitute_in}
-use Rattle.plan_ir.specs.relay_dirs.Connections.{connection_among}
+use Rattle.plan_ir.specs.relay_marks.Connections.{connection_among}
 use Rattle.plan_ir.specs.schema_tables.Types.{Text, Defs}
 use Rattle.plan_ir.specs.schema_trees.Located.{directives_nodes}
 use Rattle.plan_ir.specs.schema_types.NameRules.{fragment_named}

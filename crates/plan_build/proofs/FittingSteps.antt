@@ -12,7 +12,7 @@ use Rattle.plan_ir.specs.schema_tables.Types.{Text, Defs, base_of, is_composite,
 use Rattle.plan_ir.specs.store_model.Items as items
 use Rattle.plan_ir.specs.store_model.Items.{Below, Form}
 use Rattle.relay_model.specs.Collection.{below_type}
-use Rattle.relay_model.specs.plan_text.Collecting.{applies}
+use Rattle.relay_model.specs.plan_collect.Collecting.{applies}
 use Rattle.plan_build.proofs.ClassLaws.{Differ, OneLike, form_of, found, objects, one_class}
 use Rattle.plan_build.proofs.CovarianceLists.{passes_each}
 use Rattle.plan_build.proofs.Meaning.{root_has}

@@ -15,13 +15,13 @@ use Rattle.plan_ir.specs.Expansion as expansions
 use Rattle.plan_ir.specs.Expansion.{enter_with, expansion, expansion_with, is_condition, is_printed, printed_conditions, response_key, selections_from}
 use Rattle.plan_ir.specs.Nodes.{Nodes, end, field, inline, nodes_append}
 use Rattle.plan_ir.specs.Substitution.{Arguments, Scope, scope_at_spread, substitute_in}
-use Rattle.relay_model.proofs.plan_text_laws.AddedFields.{all_added}
-use Rattle.relay_model.proofs.plan_text_laws.Collects.{not_printed}
-use Rattle.relay_model.proofs.plan_text_laws.Evaluating.{Means, means_inside}
-use Rattle.relay_model.proofs.plan_text_laws.WholeForm.{Around, fragment_selections, items_at_spread, items_of_spread, setting, zip_kept, zip_where}
-use Rattle.relay_model.specs.plan_text.Collecting.{applies, environment_inside, is_left_out, with_additions}
-use Rattle.relay_model.specs.plan_text.Printed.{alias_of, printed_arguments, printed_directives, printed_selections}
-use Rattle.plan_ir.specs.relay_dirs.Connections.{connection_among}
+use Rattle.relay_model.proofs.plan_collect_laws.AddedFields.{all_added}
+use Rattle.relay_model.proofs.plan_collect_laws.Collects.{not_printed}
+use Rattle.relay_model.proofs.plan_collect_laws.Evaluating.{Means, means_inside}
+use Rattle.relay_model.proofs.plan_collect_laws.WholeForm.{Around, fragment_selections, items_at_spread, items_of_spread, setting, zip_kept, zip_where}
+use Rattle.relay_model.specs.plan_collect.Collecting.{applies, environment_inside, is_left_out, with_additions}
+use Rattle.relay_model.specs.plan_collect.Printed.{alias_of, printed_arguments, printed_directives, printed_selections}
+use Rattle.plan_ir.specs.relay_marks.Connections.{connection_among}
 use Rattle.relay_model.specs.Collection.{Part, ask_of, collect_in, collect_with, connection_asked, form_on}
 use Rattle.plan_ir.specs.schema_tables.Types.{Text, base_of}
 use Rattle.plan_ir.specs.schema_trees.Located.{directives_nodes}

@@ -1,5 +1,5 @@
 pub use Rattle.doc_merge.proofs as doc_merge_laws
-pub use Rattle.relay_model.proofs.plan_text_laws
+pub use Rattle.relay_model.proofs.plan_collect_laws
 pub mod BareNodes
 pub mod ClassLaws
 pub mod CodeSteps

@@ -11,8 +11,8 @@ use Rattle.plan_ir.specs.Normal as n
 use Rattle.plan_ir.specs.Normal.{Normal}
 use Rattle.plan_ir.specs.NormalMeaning.{Plan, collect_plan, collect_steps, guard_passes}
 use Rattle.plan_ir.specs.NormalReach.{plan_reaches, records_below}
-use Rattle.relay_model.proofs.plan_text_laws.WholeForm.{Around, fragment_selections, items_at_spread, items_of_spread, setting}
-use Rattle.relay_model.specs.plan_text.Collecting.{applies, environment_inside, is_left_out}
+use Rattle.relay_model.proofs.plan_collect_laws.WholeForm.{Around, fragment_selections, items_at_spread, items_of_spread, setting}
+use Rattle.relay_model.specs.plan_collect.Collecting.{applies, environment_inside, is_left_out}
 use Rattle.relay_model.specs.Collection.{Part, ask_of, collect, collect_in, collect_with, selections_of}
 use Rattle.relay_model.specs.Reaches.{part_reaches, whole_depth}
 use Rattle.relay_model.specs.Readings.{depth_inside, depth_with}

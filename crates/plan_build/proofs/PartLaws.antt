@@ -10,7 +10,7 @@ use Rattle.plan_ir.specs.gql_plain.declared.ids.Conn.{Conn}
 use Rattle.plan_ir.specs.Additions.{type_on}
 use Rattle.plan_ir.specs.Nodes as nodes
 use Rattle.plan_ir.specs.Nodes.{Nodes}
-use Rattle.relay_model.specs.plan_text.Collecting.{applies, is_left_out}
+use Rattle.relay_model.specs.plan_collect.Collecting.{applies, is_left_out}
 use Rattle.relay_model.specs.Collection.{below_type, form_on}
 use Rattle.plan_ir.specs.schema_rules.Rules.{is_object}
 use Rattle.plan_ir.specs.schema_tables.Fits.{is_list_type}

@@ -6,7 +6,7 @@ use Rattle.plan_ir.specs.Nodes as nodes
 use Rattle.plan_ir.specs.Nodes.{Nodes}
 use Rattle.plan_ir.specs.Normal.{done}
 use Rattle.plan_ir.specs.NormalMeaning.{Plan}
-use Rattle.relay_model.specs.plan_text.Collecting.{applies, is_left_out}
+use Rattle.relay_model.specs.plan_collect.Collecting.{applies, is_left_out}
 use Rattle.plan_ir.specs.schema_tables.Types.{Text, Defs, base_of}
 use Rattle.plan_ir.specs.schema_types.Environments.{Values}
 use Rattle.plan_ir.specs.store_model.Items.{Asked, Form, Item, asked, typename, leaf, one, many, collect_all}

@@ -17,7 +17,7 @@ use Rattle.plan_ir.specs.Nodes.{set_depth}
 use Rattle.plan_ir.specs.NormalMeaning.{Plan, collect_plan}
 use Rattle.plan_ir.specs.NormalReach.{plan_reaches, records_below}
 use Rattle.plan_ir.specs.declared.expanded.Expanded.{Expanded}
-use Rattle.relay_model.proofs.plan_text_laws.WholeForm.{Around, setting}
+use Rattle.relay_model.proofs.plan_collect_laws.WholeForm.{Around, setting}
 use Rattle.relay_model.specs.Collection.{Part, collect, part_of}
 use Rattle.relay_model.specs.Reaches.{operation_reaches, whole_depth}
 use Rattle.plan_ir.specs.schema_rules.Checked.{IsSound}

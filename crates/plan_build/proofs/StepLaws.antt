@@ -15,7 +15,7 @@ use Rattle.plan_ir.specs.Nodes.{Nodes}
 use Rattle.plan_ir.specs.Normal.{Normal, done, typename, leaf, object, guarded, normal_append}
 use Rattle.plan_ir.specs.NormalMeaning.{Plan, ask_step, below_step, collect_steps, condition_passes, guard_passes, item_of, object_form, typename_ask}
 use Rattle.plan_ir.specs.declared.guard.Condition.{Condition}
-use Rattle.relay_model.specs.plan_text.Collecting.{applies, is_left_out}
+use Rattle.relay_model.specs.plan_collect.Collecting.{applies, is_left_out}
 use Rattle.relay_model.specs.Collection.{below_type, connection_asked, form_on}
 use Rattle.plan_ir.specs.schema_rules.Rules.{is_object}
 use Rattle.plan_ir.specs.schema_tables.Types.{Text, Defs, base_of, is_composite, possible}

@@ -16,8 +16,8 @@ use Rattle.plan_build.specs.Meeting.{FragmentMeets, FragmentsMeet, Meets}
 use Rattle.plan_build.specs.Suited.{Suited}
 use Rattle.plan_ir.specs.Expansion.{Project, expansion, is_named, name_or, operation_from, operation_named, project_of, spreads_in}
 use Rattle.plan_ir.specs.Substitution.{operation_scope}
-use Rattle.plan_ir.specs.relay_dirs.Connections.{connections_wrong, type_wrong_at}
-use Rattle.plan_ir.specs.relay_dirs.RelayRules.{document_rules, relay_rules}
+use Rattle.plan_ir.specs.relay_marks.Connections.{connections_wrong, type_wrong_at}
+use Rattle.relay_rules.specs.RelayRules.{document_rules, relay_rules}
 use Rattle.plan_ir.specs.schema_rules.Rules.{is_object}
 use Rattle.plan_ir.specs.schema_rules.declared.fault.Rule.{Rule}
 use Rattle.plan_ir.specs.schema_tables.Types.{Text, Defs, root}

@@ -18,8 +18,8 @@ use Rattle.plan_build.proofs.CovarianceNames.{object_is_composite}
 use Rattle.plan_build.proofs.CovarianceRules.{SchemaMeets, no_typename}
 use Rattle.plan_build.specs.Meeting.{FieldMeets, IsConnectionType, Meets, base_on}
 use Rattle.plan_ir.specs.Additions.{type_or}
-use Rattle.plan_ir.specs.relay_dirs.Connections as connections
-use Rattle.plan_ir.specs.relay_dirs.Connections.{are_edges, connection_among, connection_from, field_defined, is_connection, is_connection_name, is_connection_type, is_edge, is_node, is_page, is_page_info, is_page_leaf, is_single, needs_nothing, of_name, type_wrong, type_wrong_at}
+use Rattle.plan_ir.specs.relay_marks.Connections as connections
+use Rattle.plan_ir.specs.relay_marks.Connections.{are_edges, connection_among, connection_from, field_defined, is_connection, is_connection_name, is_connection_type, is_edge, is_node, is_page, is_page_info, is_page_leaf, is_single, needs_nothing, of_name, type_wrong, type_wrong_at}
 use Rattle.plan_ir.specs.schema_rules.Rules.{is_object, repeated_names}
 use Rattle.plan_ir.specs.schema_tables.Types.{Text, Defs, base_of, field_def, field_on, is_composite}
 use Rattle.plan_ir.specs.schema_tables.Views.{FieldDef}

@@ -20,7 +20,7 @@ use Rattle.plan_ir.specs.Normal.{Normal}
 use Rattle.plan_ir.specs.NormalMeaning.{plan_says}
 use Rattle.plan_ir.specs.NormalReach.{plan_reaches}
 use Rattle.plan_ir.specs.declared.expanded.Expanded.{Expanded}
-use Rattle.plan_ir.specs.relay_dirs.RelayRules.{document_rules}
+use Rattle.relay_rules.specs.RelayRules.{document_rules}
 use Rattle.relay_model.specs.Reaches.{operation_reaches}
 use Rattle.relay_model.specs.Responses.{operation_says}
 use Rattle.plan_ir.specs.schema_rules.Checked.{IsSound}

@@ -1,6 +1,7 @@
 pub use Rattle.doc_merge.specs as doc_merge
-pub use Rattle.relay_model.specs.plan_text
+pub use Rattle.relay_model.specs.plan_collect
 pub use Rattle.relay_model.specs as relay_model
+pub use Rattle.relay_rules.specs as relay_rules
 pub mod NodesMeaning
 pub mod NodesReach
 pub mod Suited

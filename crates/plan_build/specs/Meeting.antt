@@ -8,7 +8,7 @@ use Rattle.plan_ir.specs.gql_ast.Value.{Val}
 use Rattle.plan_ir.specs.gql_plain.declared.ids.Conn.{Conn}
 use Rattle.plan_ir.specs.Additions.{type_on}
 use Rattle.plan_ir.specs.Expansion.{Project, name_or}
-use Rattle.plan_ir.specs.relay_dirs.Connections.{connection_among}
+use Rattle.plan_ir.specs.relay_marks.Connections.{connection_among}
 use Rattle.plan_ir.specs.schema_rules.Rules.{is_object}
 use Rattle.plan_ir.specs.schema_tables.Types.{Text, Defs, base_of, root}
 use Rattle.plan_ir.specs.schema_types.NameRules.{fragment_named}

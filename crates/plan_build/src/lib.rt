@@ -12,7 +12,6 @@ pub mod steps;
 
 pub use doc_merge::{MergeFault, PlaceFault, check_merge};
 pub use normal::normal_plan;
-pub use relay_model::{Artifact, artifact_line, operation_text, parse_document};
 
 /// Passed on from the crates below.
 pub mod least {

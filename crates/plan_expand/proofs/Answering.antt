@@ -20,9 +20,11 @@ use Rattle.plan_expand.proofs.Expanding.{making_is}
 use Rattle.plan_expand.proofs.Listed.{fragments_listed, operations_listed}
 use Rattle.plan_expand.proofs.Measured.{extent_of, measured_is, on_level}
 use Rattle.plan_expand.proofs.ValueSizes.{AreSizes, alone_is, own_is, printed_size, values_is}
-use Rattle.plan_expand.specs.Answers.{IsAnswer, definitions_in, project, whole_in}
+use Rattle.plan_expand.specs.Answers.{IsAnswer, whole_in}
+use Rattle.plan_ir.specs.Projects.{definitions_in, project}
 use Rattle.plan_expand.specs.Extents.{both, values_extent}
-use Rattle.plan_expand.specs.Places.{Places, site_places_in, place_in}
+use Rattle.plan_expand.specs.Places.{site_places_in}
+use Rattle.plan_ir.specs.Projects.{Places, place_in}
 use Rattle.plan_expand.specs.Making.{Ready, making}
 use Rattle.plan_expand.specs.Measuring.{total, values_size}
 use Rattle.plan_expand.specs.OperationsView.{ReadyOperation, find_operation, ready_operation}

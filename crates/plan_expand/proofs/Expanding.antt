@@ -10,13 +10,14 @@ use Rattle.plan_ir.specs.gql_ast.declared.place.FilePlace.{FilePlace}
 use Rattle.plan_ir.specs.Additions.{additions, type_or}
 use Rattle.plan_ir.specs.Expansion.{Project, argument_pairs, directive_trees, enter_with, expansion, expansion_with, printed_conditions, printed_directives, response_key, selections_from}
 use Rattle.plan_ir.specs.Nodes.{Nodes, field, inline, nodes_append}
-use Rattle.plan_ir.specs.relay_dirs.Connections.{connection_among}
+use Rattle.plan_ir.specs.relay_marks.Connections.{connection_among}
 use Rattle.plan_ir.specs.Substitution.{Scope, scope_at_spread, substitute_in}
 use Rattle.plan_ir.specs.schema_tables.Types.{Text, Defs, base_of}
 use Rattle.plan_ir.specs.schema_trees.Located.{directives_nodes, value_nodes}
 use Rattle.plan_ir.specs.schema_types.NameRules.{fragment_named}
 use Rattle.plan_ir.specs.schema_types.Sites.{FragmentAt, Site, arguments_at, arguments_nodes, below, condition_or, directives_at, field_type, head_nodes, optional_name_at, optional_name_nodes, selections_nodes, sites}
-use Rattle.plan_expand.specs.Places.{Places, field_number, first_place, site_place, site_places_in}
+use Rattle.plan_expand.specs.Places.{field_number, site_place, site_places_in}
+use Rattle.plan_ir.specs.Projects.{Places, first_place}
 use Rattle.plan_expand.specs.Making.{Enter, Find, Ready, enter_ready, entering, making, making_with, selections_count}
 use Rattle.plan_expand.specs.Fitting.{AreListed, IsListed}
 use Rattle.plan_expand.specs.ReadyView.{HasFragments, ready_fragment}

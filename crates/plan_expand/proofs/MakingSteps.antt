@@ -12,7 +12,7 @@ use Rattle.plan_ir.specs.Nodes as nodes
 use Rattle.plan_ir.specs.Nodes.{Nodes, nodes_append}
 use Rattle.plan_ir.specs.Substitution.{Scope}
 use Rattle.plan_ir.specs.schema_tables.Types.{Text, Defs}
-use Rattle.plan_expand.specs.Places.{Places}
+use Rattle.plan_ir.specs.Projects.{Places}
 use Rattle.plan_expand.specs.Making.{Find, Ready, enter_ready, entering, making, selections_count, spread_node}
 
 -- what a spread becomes stands in front of what follows it

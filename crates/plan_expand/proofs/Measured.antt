@@ -8,7 +8,7 @@ use Rattle.plan_ir.specs.gql_ast.declared.directive.Directive.{Directive}
 use Rattle.plan_ir.specs.gql_graph.Rules.{each}
 use Rattle.plan_ir.specs.Additions.{additions, type_or}
 use Rattle.plan_ir.specs.Expansion.{Project, enter_with, expansion, expansion_with, gifts, gifts_inside, gifts_with, is_condition, is_printed, printed_conditions, printed_directives, selections_from}
-use Rattle.plan_ir.specs.relay_dirs.Connections.{connection_among}
+use Rattle.plan_ir.specs.relay_marks.Connections.{connection_among}
 use Rattle.plan_ir.specs.Nodes.{Nodes, nodes_append, set_depth}
 use Rattle.plan_ir.specs.Sizes.{all_count, all_depth, arguments_count, arguments_depth, directives_count, directives_depth, nodes_count, nodes_value_depth}
 use Rattle.plan_ir.specs.Substitution.{Scope, arguments_at_spread, arguments_in, scope_at_spread, substitute_in}

@@ -1,7 +1,7 @@
 -- Lists and objects with their local variables replaced, item by item.
 use Rattle.std.proofs.Common.{◌≡◌, List, [], ◌∷◌, map, Option, Some, None, refl, ap}
 use Rattle.plan_ir.specs.gql_ast.Value.{Val, val, member, members_of, vals_of}
-use Rattle.plan_ir.specs.relay_dirs.Connections.{value_of_name}
+use Rattle.plan_ir.specs.relay_marks.Connections.{value_of_name}
 use Rattle.plan_ir.specs.Substitution.{Arguments, Scope, substitute, substitute_in, substitute_items, substitute_members, value_of_local, value_or}
 use Rattle.plan_ir.specs.schema_tables.Types.{Text}
 use Rattle.plan_expand.specs.ScopeView.{gift_or}

@@ -8,12 +8,12 @@ use Rattle.plan_ir.specs.gql_ast.declared.directive.Directive.{Directive}
 use Rattle.plan_ir.specs.gql_ast.declared.value.Argument.{Argument}
 use Rattle.plan_ir.specs.gql_graph.Rules.{each}
 use Rattle.plan_ir.proofs.gql_graph_laws.TextSteps.{same_text}
-use Rattle.plan_ir.specs.doc_sites.SitesView.{argument_of as located_argument, definition_of, directive_of}
-use Rattle.plan_ir.specs.doc_sites.declared.site.ArgumentAt as kept
-use Rattle.plan_ir.specs.doc_sites.declared.site.DirectiveAt.{DirectiveAt}
-use Rattle.plan_ir.specs.relay_dirs.Connections.{value_of_name}
-use Rattle.plan_ir.specs.relay_dirs.Locals.{Local, LocalObject, as_list, local_at, local_of, locals_at, locals_of, object_by, of_said, of_text, with_type_text}
-use Rattle.plan_ir.specs.relay_dirs.TypeTexts.{type_in}
+use Rattle.doc_sites.specs.SitesView.{argument_of as located_argument, definition_of, directive_of}
+use Rattle.doc_sites.specs.declared.site.ArgumentAt as kept
+use Rattle.doc_sites.specs.declared.site.DirectiveAt.{DirectiveAt}
+use Rattle.plan_ir.specs.relay_marks.Connections.{value_of_name}
+use Rattle.plan_ir.specs.relay_marks.Locals.{Local, LocalObject, as_list, local_at, local_of, locals_at, locals_of, object_by, of_said, of_text, with_type_text}
+use Rattle.plan_ir.specs.relay_marks.TypeTexts.{type_in}
 use Rattle.plan_ir.specs.gql_ast.Ty.{Ty}
 use Rattle.plan_ir.specs.Substitution.{Scope, arguments_at_spread, arguments_in, default_named, substitute, substitute_in}
 use Rattle.plan_expand.specs.LocalsView.{default_under}
@@ -23,7 +23,7 @@ use Rattle.plan_expand.specs.declared.size.Size.{Size}
 use Rattle.plan_ir.specs.schema_types.NameRules.{fragment_named, fragments, operations}
 use Rattle.plan_ir.specs.schema_types.Sites.{FragmentAt, OperationAt, DefinitionAt, operation, fragment}
 use Rattle.plan_ir.specs.gql_ast.declared.place.FilePlace.{FilePlace}
-use Rattle.plan_ir.specs.doc_sites.declared.site.DefinitionAt as Definition
+use Rattle.doc_sites.specs.declared.site.DefinitionAt as Definition
 use Rattle.plan_ir.specs.schema_tables.Types.{Text, Defs}
 use Rattle.plan_ir.specs.schema_trees.Located.{Located}
 use Rattle.plan_ir.specs.Expansion.{is_named, operation_named}

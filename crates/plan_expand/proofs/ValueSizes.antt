@@ -7,8 +7,8 @@ use Rattle.plan_ir.specs.gql_ast.Value as v
 use Rattle.plan_ir.specs.gql_ast.declared.directive.Directive.{Directive}
 use Rattle.plan_ir.specs.gql_graph.Rules.{each}
 use Rattle.plan_ir.specs.Expansion.{directives_such}
-use Rattle.plan_ir.specs.relay_dirs.Connections.{value_of_name}
-use Rattle.plan_ir.specs.relay_dirs.Locals.{locals_of}
+use Rattle.plan_ir.specs.relay_marks.Connections.{value_of_name}
+use Rattle.plan_ir.specs.relay_marks.Locals.{locals_of}
 use Rattle.plan_ir.specs.Sizes.{all_count, all_depth, arguments_count, arguments_depth, directives_count, directives_depth, members_count, val_count, vals_count}
 use Rattle.plan_ir.specs.Substitution.{Scope, arguments_in, default_named, mark_local, operation_scope, scope_at_spread, scope_of_own, substitute, substitute_in, substitute_items, substitute_members, value_of_local, value_or}
 use Rattle.plan_ir.specs.schema_tables.Types.{Text}

@@ -2,23 +2,14 @@
 use Rattle.std.specs.Prelude.{◌≡◌, Bool, false, List, Option, Some, None, option_map, Result}
 use Rattle.plan_ir.specs.gql_ast.declared.document.Document.{Document}
 use Rattle.plan_ir.specs.gql_ast.declared.place.Placed.{Placed}
-use Rattle.plan_ir.specs.Expansion.{Project, Whole, project_of, whole}
+use Rattle.plan_ir.specs.Expansion.{Whole, whole}
+use Rattle.plan_ir.specs.Projects.{definitions_in, project}
 use Rattle.plan_ir.specs.Sizes.{has_too_many_nodes, is_too_deep}
 use Rattle.plan_ir.specs.declared.expanded.Expanded.{Expanded}
 use Rattle.plan_ir.specs.declared.form.Form.{Form}
 use Rattle.plan_ir.specs.schema_tables.Types.{Text, Defs}
-use Rattle.plan_ir.specs.schema_types.DocumentRules.{places_of, trees_of}
-use Rattle.plan_ir.specs.schema_types.Sites.{DefinitionAt, all_definitions}
-use Rattle.plan_expand.specs.Places.{place_in}
 use Rattle.plan_expand.specs.Verdicts.{Outcome}
 use Rattle.plan_expand.specs.declared.fault.ExpandFault.{ExpandFault}
-
-abbrev pub definitions_in : Defs → List (Placed Document) → List DefinitionAt
-definitions_in defs ps = all_definitions defs (trees_of ps)
-
--- the project that a schema and documents are
-abbrev pub project : Defs → List (Placed Document) → Project
-project defs ps = project_of defs (place_in (places_of ps)) (definitions_in defs ps)
 
 -- the operation or the fragment of that name
 abbrev pub whole_in : Defs → List (Placed Document) → Form → Text → Option Whole

@@ -1,3 +1,4 @@
+pub use Rattle.doc_sites.specs as doc_sites
 pub mod LocalsView
 pub mod ScopeView
 pub mod Printing

@@ -5,7 +5,7 @@ use Rattle.std.specs.Ordering.{nat_cmp}
 use Rattle.std.specs.Prelude.{◌≡◌, cond, List, Option, Some, None, option_map, bytes_eq}
 use Rattle.plan_ir.specs.gql_ast.Value.{Val}
 use Rattle.plan_ir.specs.gql_ast.ValueView.{value_of}
-use Rattle.plan_ir.specs.relay_dirs.Locals.{Local}
+use Rattle.plan_ir.specs.relay_marks.Locals.{Local}
 use Rattle.plan_ir.specs.Substitution.{default_named}
 use Rattle.plan_ir.specs.schema_tables.Types.{Text}
 use Rattle.plan_expand.specs.declared.local.Local as kept

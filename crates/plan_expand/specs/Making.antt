@@ -11,8 +11,8 @@ use Rattle.plan_ir.specs.Nodes.{Nodes, end, field, inline, nodes_append}
 use Rattle.plan_ir.specs.Substitution.{Scope, substitute_in, arguments_at_spread, value_of_local}
 use Rattle.plan_ir.specs.schema_tables.Types.{Text, Defs, base_of}
 use Rattle.plan_ir.specs.schema_types.Sites.{field_type, below, condition_or}
-use Rattle.plan_ir.specs.relay_dirs.Connections.{connection_among}
-use Rattle.plan_expand.specs.Places.{Places, first_place}
+use Rattle.plan_ir.specs.relay_marks.Connections.{connection_among}
+use Rattle.plan_ir.specs.Projects.{Places, first_place}
 
 -- a fragment, ready to be spread
 pub record Ready : Type 0 where

@@ -7,7 +7,7 @@ use Rattle.plan_ir.specs.gql_ast.declared.directive.Directive.{Directive}
 use Rattle.plan_ir.specs.gql_graph.Rules.{each}
 use Rattle.plan_ir.specs.Additions.{type_or}
 use Rattle.plan_ir.specs.Expansion.{is_condition, is_printed}
-use Rattle.plan_ir.specs.relay_dirs.Connections.{connection_among, value_of_name}
+use Rattle.plan_ir.specs.relay_marks.Connections.{connection_among, value_of_name}
 use Rattle.plan_ir.specs.Substitution.{arguments_in}
 use Rattle.plan_ir.specs.schema_tables.Types.{Text, Defs, base_of}
 use Rattle.plan_ir.specs.schema_types.Sites.{field_type, below, condition_or}

@@ -13,7 +13,8 @@ use Rattle.plan_ir.specs.Substitution.{operation_scope}
 use Rattle.plan_ir.specs.schema_tables.Types.{Text, Defs, root}
 use Rattle.plan_ir.specs.schema_trees.Located.{Located}
 use Rattle.plan_ir.specs.schema_types.Sites.{OperationAt, DefinitionAt, operation, fragment}
-use Rattle.plan_expand.specs.Places.{Places, site_places_in}
+use Rattle.plan_expand.specs.Places.{site_places_in}
+use Rattle.plan_ir.specs.Projects.{Places}
 use Rattle.plan_expand.specs.Measuring.{values_size}
 use Rattle.plan_expand.specs.Sizes.{own_sizes}
 use Rattle.plan_expand.specs.declared.size.Size.{Size}

@@ -1,11 +1,9 @@
 -- The places of the selections of a definition, as they stand ready.
-use Rattle.std.specs.Prelude.{ℕ, ◌-◌, List, map, get_or, Option, Some, None}
+use Rattle.std.specs.Prelude.{ℕ, ◌-◌, List, map, Option, Some, None}
 use Rattle.plan_ir.specs.gql_ast.declared.place.FilePlace.{FilePlace}
+use Rattle.plan_ir.specs.Projects.{Places}
 use Rattle.plan_ir.specs.schema_trees.Located.{Located}
 use Rattle.plan_ir.specs.schema_types.Sites.{Site, field, spread, inline}
-
-abbrev pub Places : Type 0
-Places = List FilePlace
 
 -- the number of the node of a field: the one before its first name
 abbrev pub field_number : (alias : Option Located) → Located → ℕ
@@ -22,11 +20,3 @@ site_place place s = place (site_number s)
 
 abbrev pub site_places_in : (place : ℕ → FilePlace) → List Site → Places
 site_places_in place ss = map (site_place place) ss
-
--- where there is no place: each node of documents that were read has one, so none of them comes to this
-abbrev pub first_place : FilePlace
-first_place = record { file = 0; line = 1; column = 1 }
-
--- the place of a node by its number
-abbrev pub place_in : Places → ℕ → FilePlace
-place_in places n = get_or places n first_place

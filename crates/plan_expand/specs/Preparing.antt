@@ -7,9 +7,9 @@ use Rattle.plan_ir.specs.declared.expanded.Expanded.{Expanded}
 use Rattle.plan_ir.specs.schema_tables.Types.{Text}
 use Rattle.plan_ir.specs.schema_types.NameRules.{fragments, operations}
 use Rattle.plan_expand.specs.Adding.{IsRight}
-use Rattle.plan_expand.specs.Answers.{definitions_in}
+use Rattle.plan_ir.specs.Projects.{definitions_in}
 use Rattle.plan_expand.specs.Extents.{both, values_extent}
-use Rattle.plan_expand.specs.Places.{place_in, Places}
+use Rattle.plan_ir.specs.Projects.{place_in, Places}
 use Rattle.plan_expand.specs.Making.{Ready, making}
 use Rattle.plan_expand.specs.Measuring.{total}
 use Rattle.plan_expand.specs.OperationsView.{HasOperations, ReadyOperation, find_operation}

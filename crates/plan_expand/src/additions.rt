@@ -10,7 +10,7 @@ ghost use Rattle.plan_ir.specs.Additions as spec;
 ghost use Rattle.plan_ir.specs.Nodes.{nodes_append};
 ghost use Rattle.plan_expand.specs.Adding.{IsRight, find_identified, identified_types, ids_of_each};
 
-use plan_ir::around::below_on;
+use doc_sites::around::below_on;
 use plan_ir::{
     Arguments, Directives, FilePlace, Name, NoMemory, Node, Nodes, Schema, Selection, Selections,
     TypeBox, TypeKind, TypeTree, Words,

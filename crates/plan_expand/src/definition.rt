@@ -4,7 +4,8 @@ ghost use Rattle.plan_expand.specs.Answers.{IsAnswer, whole_in};
 
 use crate::expander::Expander;
 use crate::fault::ExpandFault;
-use plan_ir::{Documents, Expanded, Form, Name, Schema, definitions_at};
+use doc_sites::definitions_at;
+use plan_ir::{Documents, Expanded, Form, Name, Schema};
 use std::alloc::Global;
 
 /// The operation or fragment of that name, with all spreads followed (this project's own). Whoever

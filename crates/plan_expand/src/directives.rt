@@ -1,16 +1,15 @@
 //! Which directives are printed.
 ghost use Rattle.std.specs.Prelude.{◌≡◌, ◌∷◌, ◌++◌, [], map, IfOk, OnOk};
 ghost use Rattle.plan_ir.specs.gql_plain.Order.{has_text};
-ghost use Rattle.plan_ir.specs.doc_sites.SitesView.{argument_of, directive_of};
+ghost use Rattle.doc_sites.specs.SitesView.{argument_of, directive_of};
 ghost use Rattle.plan_ir.specs.Expansion as spec;
 ghost use Rattle.plan_ir.specs.Substitution.{operation_scope};
 ghost use Rattle.plan_expand.specs.Printing.{shows};
 ghost use Rattle.plan_expand.specs.ScopeView.{scope_of};
 
 use crate::scope::{Scope, substitute_in};
-use plan_ir::{
-    Argument, ArgumentAt, Arguments, Directive, DirectiveAt, Directives, NoMemory, Words,
-};
+use doc_sites::{ArgumentAt, DirectiveAt};
+use plan_ir::{Argument, Arguments, Directive, Directives, NoMemory, Words};
 use std::alloc::Global;
 
 /// Whether it is the name of a directive after Relay.

@@ -1,6 +1,6 @@
 //! The operations and fragments of a project, ready to be expanded.
 ghost use Rattle.std.specs.Prelude.{◌≡◌, true, is_some, option_copied, IfOk, OnOk};
-ghost use Rattle.plan_ir.specs.doc_sites.Definitions.{AreIn};
+ghost use Rattle.doc_sites.specs.Definitions.{AreIn};
 ghost use Rattle.plan_ir.specs.Expansion.{name_or};
 ghost use Rattle.plan_ir.specs.declared.form.Form.TheVariants as form_of;
 ghost use Rattle.plan_expand.specs.Adding.{IsRight};
@@ -20,10 +20,11 @@ use crate::operations::{Operations, ReadyOperation};
 use crate::places::places_of;
 use crate::scope::Scope;
 use crate::size::Size;
-use plan_ir::around::below;
+use doc_sites::around::below;
+use doc_sites::{DefinitionAt, DirectiveAt, Site, count_fragments};
 use plan_ir::{
-    DefinitionAt, DirectiveAt, Directives, Documents, Expanded, FilePlace, Form, Name, NoMemory,
-    Nodes, Schema, Selections, Site, VariableDefs, Words, count_fragments,
+    Directives, Documents, Expanded, FilePlace, Form, Name, NoMemory, Nodes, Schema, Selections,
+    VariableDefs, Words,
 };
 use std::alloc::Global;
 

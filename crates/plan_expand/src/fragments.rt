@@ -2,14 +2,15 @@
 ghost use Rattle.std.specs.Prelude.{◌≡◌, None, map, option_map, IfOk, OnOk};
 ghost use Rattle.std.specs.Option.{option_or};
 ghost use Rattle.plan_ir.specs.gql_graph.Texts.{Text};
-ghost use Rattle.plan_expand.specs.Places.{place_in};
-ghost use Rattle.plan_ir.specs.doc_sites.SitesView.{definition_of, fragment_of};
+ghost use Rattle.plan_ir.specs.Projects.{place_in};
+ghost use Rattle.doc_sites.specs.SitesView.{definition_of, fragment_of};
 ghost use Rattle.plan_expand.specs.ReadyView.{HasFragments, find_in, ready_fragment, ready_in, ready_named, ready_of};
 ghost use Rattle.plan_ir.specs.schema_types.NameRules as rules;
 
 use crate::locals::Locals;
 use crate::places::site_places;
-use plan_ir::{DefinitionAt, FilePlace, FragmentAt, NoMemory, Selections};
+use doc_sites::{DefinitionAt, FragmentAt};
+use plan_ir::{FilePlace, NoMemory, Selections};
 use std::alloc::Global;
 use std::collections::BTreeMap;
 

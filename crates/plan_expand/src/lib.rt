@@ -24,6 +24,10 @@ mod sizes;
 mod values;
 
 pub use definition::expand;
+pub use doc_sites::around::below;
+pub use doc_sites::{
+    ArgumentAt, DefinitionAt, DirectiveAt, FragmentAt, Site, count_fragments, definitions_at,
+};
 pub use expander::Expander;
 pub use fault::ExpandFault;
 pub use plan_ir::Form;

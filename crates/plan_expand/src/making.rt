@@ -8,7 +8,7 @@ ghost use Rattle.plan_ir.specs.NodesView.{node_of};
 ghost use Rattle.plan_ir.specs.schema_types.Sites as sites;
 ghost use Rattle.plan_expand.specs.Adding.{IsRight};
 ghost use Rattle.plan_expand.specs.Making as spec;
-ghost use Rattle.plan_expand.specs.Places.{first_place};
+ghost use Rattle.plan_ir.specs.Projects.{first_place};
 ghost use Rattle.plan_expand.specs.Making.{making, selections_count, spread_node};
 ghost use Rattle.plan_expand.specs.ReadyView.{find_in, ready_of};
 ghost use Rattle.plan_expand.specs.ScopeView.{scope_of};
@@ -19,7 +19,7 @@ use crate::directives::print_directives;
 use crate::fragments::{Fragments, ReadyFragment};
 use crate::places::place_at;
 use crate::scope::{Scope, scope_at_spread, substitute_in};
-use plan_ir::around::below;
+use doc_sites::around::below;
 use plan_ir::located::pass;
 use plan_ir::type_forms::base_of;
 use plan_ir::{

@@ -5,7 +5,7 @@
 ghost use Rattle.std.specs.Prelude.{◌≡◌, ◌+◌, ◌-◌, ◌<◌, Some, is_some, option_copied, IfOk, OnOk};
 ghost use Rattle.plan_ir.specs.gql_ast.SelectionView.{sel_of};
 ghost use Rattle.plan_ir.specs.gql_graph.Rules.{each};
-ghost use Rattle.plan_ir.specs.relay_dirs.Connections.{connection_among};
+ghost use Rattle.plan_ir.specs.relay_marks.Connections.{connection_among};
 ghost use Rattle.plan_ir.specs.Substitution.{arguments_in};
 ghost use Rattle.plan_expand.specs.Adding.{IsRight};
 ghost use Rattle.plan_expand.specs.Extents.{both};
@@ -27,7 +27,7 @@ use crate::fragments::{Fragments, ReadyFragment};
 use crate::size::{Size, sum};
 use crate::sizes::SizeScope;
 use crate::values::size_of_arguments;
-use plan_ir::around::below;
+use doc_sites::around::below;
 use plan_ir::{Arguments, Directive, Directives, Name, NoMemory, Selection, Selections};
 use std::alloc::Global;
 

@@ -2,9 +2,9 @@
 ghost use Rattle.std.specs.Prelude.{◌≡◌, None, map, option_copied, option_map, IfOk, OnOk};
 ghost use Rattle.std.specs.Option.{option_or};
 ghost use Rattle.plan_ir.specs.gql_graph.Texts.{Text};
-ghost use Rattle.plan_ir.specs.doc_sites.SitesView.{definition_of, operation_of, variable_of};
+ghost use Rattle.doc_sites.specs.SitesView.{definition_of, operation_of, variable_of};
 ghost use Rattle.plan_ir.specs.Expansion.{variable_trees};
-ghost use Rattle.plan_expand.specs.Places.{place_in};
+ghost use Rattle.plan_ir.specs.Projects.{place_in};
 ghost use Rattle.plan_expand.specs.Measuring.{values_size};
 ghost use Rattle.plan_expand.specs.Sizes.{arguments_size, own_sizes};
 ghost use Rattle.plan_expand.specs.OperationsView.{HasOperations, find_operation, ready_operation, operation_in, operation_view, ready_named};
@@ -16,10 +16,8 @@ use crate::places::site_places;
 use crate::size::Size;
 use crate::sizes::SizeScope;
 use crate::values::size_of_arguments;
-use plan_ir::{
-    Arguments, DefinitionAt, Directives, FilePlace, Kind, NoMemory, OperationAt, Schema,
-    Selections, VariableAt, VariableDefs,
-};
+use doc_sites::{DefinitionAt, OperationAt, VariableAt};
+use plan_ir::{Arguments, Directives, FilePlace, Kind, NoMemory, Schema, Selections, VariableDefs};
 use std::alloc::Global;
 use std::collections::BTreeMap;
 

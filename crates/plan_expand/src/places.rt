@@ -1,10 +1,12 @@
 //! The places of the nodes of documents, and of the selections of a definition.
 ghost use Rattle.std.specs.Prelude.{◌≡◌, map, IfOk};
 ghost use Rattle.plan_ir.specs.schema_types.DocumentRules.{places_of};
-ghost use Rattle.plan_ir.specs.doc_sites.SitesView.{site_of};
-ghost use Rattle.plan_expand.specs.Places.{place_in, site_number, site_places_in};
+ghost use Rattle.doc_sites.specs.SitesView.{site_of};
+ghost use Rattle.plan_expand.specs.Places.{site_number, site_places_in};
+ghost use Rattle.plan_ir.specs.Projects.{place_in};
 
-use plan_ir::{Documents, FilePlace, NoMemory, Site};
+use doc_sites::Site;
+use plan_ir::{Documents, FilePlace, NoMemory};
 use std::alloc::Global;
 
 /// The places of the nodes of all documents, by their numbers.

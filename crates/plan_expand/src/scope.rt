@@ -3,7 +3,7 @@ ghost use Rattle.std.specs.Prelude.{◌≡◌, ◌∷◌, [], Some, None, map, o
 ghost use Rattle.std.specs.Option.{option_or};
 ghost use Rattle.plan_ir.specs.gql_ast.ValueView.{value_of};
 ghost use Rattle.plan_ir.specs.gql_graph.Texts.{Text};
-ghost use Rattle.plan_ir.specs.relay_dirs.Connections.{value_of_name};
+ghost use Rattle.plan_ir.specs.relay_marks.Connections.{value_of_name};
 ghost use Rattle.plan_ir.specs.Substitution as spec;
 ghost use Rattle.plan_expand.specs.ScopeView.{find_gift, scope_of};
 ghost use Rattle.plan_expand.specs.LocalsView.{find_default};

@@ -3,7 +3,7 @@ ghost use Rattle.std.specs.Prelude.{◌≡◌, Some, None, option_map, IfOk, OnO
 ghost use Rattle.std.specs.Option.{option_or};
 ghost use Rattle.plan_ir.specs.gql_graph.Rules.{each};
 ghost use Rattle.plan_ir.specs.gql_graph.Texts.{Text};
-ghost use Rattle.plan_ir.specs.relay_dirs.Connections.{value_of_name};
+ghost use Rattle.plan_ir.specs.relay_marks.Connections.{value_of_name};
 ghost use Rattle.plan_ir.specs.Substitution.{arguments_in};
 ghost use Rattle.plan_expand.specs.Sizes as spec;
 ghost use Rattle.plan_expand.specs.Measuring.{gift_size_or, sizes_at_spread};

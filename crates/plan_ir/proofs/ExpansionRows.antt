@@ -1,27 +1,27 @@
 -- Worked rows of expansion: fields are added, spreads are followed, local variables give way to their values.
 use Rattle.std.proofs.Common.{◌≡◌, refl, ℕ, List, [], ◌∷◌, Option, Some, None, codes}
 use Rattle.std.specs.Prelude.{pos}
-use Rattle.relay_dirs.specs.gql_ast.Sels as sels
-use Rattle.relay_dirs.specs.gql_ast.Sels.{Sels}
-use Rattle.relay_dirs.specs.gql_ast.Ty as ty
-use Rattle.relay_dirs.specs.gql_ast.Value as v
-use Rattle.relay_dirs.specs.gql_ast.Value.{Val}
-use Rattle.relay_dirs.specs.gql_ast.declared.directive.Directive.{Directive}
-use Rattle.relay_dirs.specs.gql_ast.declared.member.FieldTree.{FieldTree}
-use Rattle.relay_dirs.specs.gql_ast.declared.member.InputTree.{InputTree}
-use Rattle.relay_dirs.specs.gql_ast.declared.place.FilePlace.{FilePlace}
-use Rattle.relay_dirs.specs.gql_ast.declared.schema.SchemaDef.TheVariants as S
-use Rattle.relay_dirs.specs.gql_ast.declared.type_tree.TypeTree.{TypeTree}
-use Rattle.relay_dirs.specs.gql_ast.declared.type_tree.TypeTree.TheVariants as T
-use Rattle.relay_dirs.specs.gql_lex.Heads.{head}
-use Rattle.relay_dirs.specs.gql_lex.Sources.{read}
+use Rattle.relay_marks.specs.gql_ast.Sels as sels
+use Rattle.relay_marks.specs.gql_ast.Sels.{Sels}
+use Rattle.relay_marks.specs.gql_ast.Ty as ty
+use Rattle.relay_marks.specs.gql_ast.Value as v
+use Rattle.relay_marks.specs.gql_ast.Value.{Val}
+use Rattle.relay_marks.specs.gql_ast.declared.directive.Directive.{Directive}
+use Rattle.relay_marks.specs.gql_ast.declared.member.FieldTree.{FieldTree}
+use Rattle.relay_marks.specs.gql_ast.declared.member.InputTree.{InputTree}
+use Rattle.relay_marks.specs.gql_ast.declared.place.FilePlace.{FilePlace}
+use Rattle.relay_marks.specs.gql_ast.declared.schema.SchemaDef.TheVariants as S
+use Rattle.relay_marks.specs.gql_ast.declared.type_tree.TypeTree.{TypeTree}
+use Rattle.relay_marks.specs.gql_ast.declared.type_tree.TypeTree.TheVariants as T
+use Rattle.relay_marks.specs.gql_lex.Heads.{head}
+use Rattle.relay_marks.specs.gql_lex.Sources.{read}
 use Rattle.plan_ir.specs.Additions.{id_field, typename_field}
 use Rattle.plan_ir.specs.Expansion.{Project, expansion, gifts}
 use Rattle.plan_ir.specs.Nodes.{Nodes, end, field, inline, set_depth}
 use Rattle.plan_ir.specs.Sizes.{nodes_count, all_count, nodes_value_depth}
 use Rattle.plan_ir.specs.Substitution.{operation_scope, scope_of_own}
-use Rattle.relay_dirs.specs.schema_types.Sites.{FragmentAt, ArgumentAt}
-use Rattle.relay_dirs.specs.schema_tables.Types.{Text, Defs}
+use Rattle.relay_marks.specs.schema_types.Sites.{FragmentAt, ArgumentAt}
+use Rattle.relay_marks.specs.schema_tables.Types.{Text, Defs}
 
 abbrev member : Text → List InputTree → TypeTree → FieldTree
 member n is t = record { name = n; arguments = is; of = t; directives = [] }

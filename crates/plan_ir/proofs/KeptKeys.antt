@@ -1,11 +1,11 @@
 -- A key that is kept with a field is the one that the field is stored under, in each environment.
 use Rattle.std.proofs.Common.{◌≡◌, Bool, true, false, cond, List, [], Option, Some, None, refl, sym, ap, ◌∙◌}
-use Rattle.relay_dirs.specs.gql_ast.Value.{Val, members_of}
+use Rattle.relay_marks.specs.gql_ast.Value.{Val, members_of}
 use Rattle.plan_ir.specs.FieldKeys.{constant_key}
-use Rattle.relay_dirs.specs.schema_tables.Types.{Text}
-use Rattle.relay_dirs.specs.schema_types.Environments.{Values, arguments_in_environment}
-use Rattle.relay_dirs.proofs.schema_values_laws.ConstantValues.{constant_members}
-use Rattle.relay_dirs.specs.schema_values.Fittings.{have_constants}
+use Rattle.relay_marks.specs.schema_tables.Types.{Text}
+use Rattle.relay_marks.specs.schema_types.Environments.{Values, arguments_in_environment}
+use Rattle.relay_marks.proofs.constant_values_laws.ConstantValues.{constant_members}
+use Rattle.relay_marks.specs.constant_values.Fittings.{have_constants}
 use Rattle.store_model.specs.store_record.Keys.{field_key}
 
 abbrev text_or : Text → Option Text → Text

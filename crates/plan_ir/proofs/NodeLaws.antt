@@ -1,6 +1,6 @@
 -- Laws of nodes.
 use Rattle.std.proofs.Common.{◌≡◌, List, [], ◌∷◌, ◌++◌, refl, ap, length, arith}
-use Rattle.relay_dirs.specs.gql_ast.TypeView.{ty_of}
+use Rattle.relay_marks.specs.gql_ast.TypeView.{ty_of}
 use Rattle.plan_ir.specs.declared.node.Node.{Node}
 use Rattle.plan_ir.specs.declared.node.Node.TheVariants as N
 use Rattle.plan_ir.specs.Nodes.{Nodes, end, field, inline, nodes_append, number_of}

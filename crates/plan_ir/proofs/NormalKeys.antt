@@ -7,7 +7,7 @@ use Rattle.plan_ir.specs.NormalKeys.{keys_of}
 use Rattle.plan_ir.specs.NormalView.{step_before, step_of, steps_of}
 use Rattle.plan_ir.specs.declared.normal.NormalStep.{NormalStep}
 use Rattle.plan_ir.specs.declared.normal.NormalStep.TheVariants as N
-use Rattle.relay_dirs.specs.schema_tables.Types.{Text}
+use Rattle.relay_marks.specs.schema_tables.Types.{Text}
 
 pub keys_of-append : (s t : Normal) → keys_of (normal_append s t) ≡ keys_of s ++ keys_of t
 keys_of-append done t = refl

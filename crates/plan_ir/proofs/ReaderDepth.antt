@@ -6,7 +6,7 @@ use Rattle.plan_ir.specs.NormalMeaning.{guard_passes}
 use Rattle.plan_ir.specs.Reader as r
 use Rattle.plan_ir.specs.Reader.{Reader}
 use Rattle.plan_ir.specs.ReaderMeaning.{ReaderPart, collect_reading, collect_reader, records_below, plan_reads}
-use Rattle.relay_dirs.specs.schema_types.Environments.{Values}
+use Rattle.relay_marks.specs.schema_types.Environments.{Values}
 use Rattle.store_model.proofs.Least.{Each, each_append, each_so}
 use Rattle.store_model.proofs.Seated.{Fits, grouped_fits}
 use Rattle.store_model.specs.Items.{Form, typename, leaf, one, many, Asked, Pointer, Item, asked, pointed, Group, members, parts, asked_of, without, pointers, Collect, collect_all, groups_at, pointers_on}

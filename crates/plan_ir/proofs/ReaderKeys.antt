@@ -7,7 +7,7 @@ use Rattle.plan_ir.specs.ReaderKeys.{keys_of}
 use Rattle.plan_ir.specs.ReaderView.{step_before, step_of, steps_of}
 use Rattle.plan_ir.specs.declared.reader.ReaderStep.{ReaderStep}
 use Rattle.plan_ir.specs.declared.reader.ReaderStep.TheVariants as N
-use Rattle.relay_dirs.specs.schema_tables.Types.{Text}
+use Rattle.relay_marks.specs.schema_tables.Types.{Text}
 
 pub keys_of-append : (s t : Reader) → keys_of (reader_append s t) ≡ keys_of s ++ keys_of t
 keys_of-append done t = refl

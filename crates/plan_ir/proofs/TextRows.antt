@@ -3,21 +3,21 @@ use Rattle.std.proofs.Common.{◌≡◌, refl, List, [], ◌∷◌, Option, Some
 use Rattle.std.specs.Prelude.{pos}
 use Rattle.std.specs.Fmt.{digits}
 use Rattle.serde_json.proofs.OnLiterals.{serde_json_on_literals}
-use Rattle.relay_dirs.specs.gql_ast.Ty as ty
-use Rattle.relay_dirs.specs.gql_ast.Value as v
-use Rattle.relay_dirs.specs.gql_ast.declared.directive.Directive.{Directive}
-use Rattle.relay_dirs.specs.gql_ast.declared.document.Kind.TheVariants.{Query}
-use Rattle.relay_dirs.specs.gql_ast.declared.place.FilePlace.{FilePlace}
-use Rattle.relay_dirs.specs.gql_ast.declared.type_tree.TypeTree.{TypeTree}
-use Rattle.relay_dirs.specs.gql_ast.declared.type_tree.TypeTree.TheVariants as T
-use Rattle.relay_dirs.specs.gql_ast.declared.value.ValueTree.{ValueTree}
-use Rattle.relay_dirs.specs.gql_ast.declared.value.ValueTree.TheVariants as V
-use Rattle.relay_dirs.specs.gql_ast.declared.variable.VariableDef.{VariableDef}
+use Rattle.relay_marks.specs.gql_ast.Ty as ty
+use Rattle.relay_marks.specs.gql_ast.Value as v
+use Rattle.relay_marks.specs.gql_ast.declared.directive.Directive.{Directive}
+use Rattle.relay_marks.specs.gql_ast.declared.document.Kind.TheVariants.{Query}
+use Rattle.relay_marks.specs.gql_ast.declared.place.FilePlace.{FilePlace}
+use Rattle.relay_marks.specs.gql_ast.declared.type_tree.TypeTree.{TypeTree}
+use Rattle.relay_marks.specs.gql_ast.declared.type_tree.TypeTree.TheVariants as T
+use Rattle.relay_marks.specs.gql_ast.declared.value.ValueTree.{ValueTree}
+use Rattle.relay_marks.specs.gql_ast.declared.value.ValueTree.TheVariants as V
+use Rattle.relay_marks.specs.gql_ast.declared.variable.VariableDef.{VariableDef}
 use Rattle.plan_ir.specs.Nodes.{Nodes, end, field, inline}
 use Rattle.plan_ir.specs.OperationText.{operation_text, operation_line, fragment_line}
 use Rattle.plan_ir.specs.Substitution.{Arguments}
 use Rattle.plan_ir.specs.declared.expanded.Expanded.{Expanded}
-use Rattle.relay_dirs.specs.schema_tables.Types.{Text}
+use Rattle.relay_marks.specs.schema_tables.Types.{Text}
 
 abbrev at : FilePlace
 at = record { file = 0; line = 1; column = 1 }

@@ -1,15 +1,15 @@
 -- What is added at the end of the selection set of a field (this project's own): the fields of a connection, `id`, and
 -- `__typename`.
 use Rattle.std.specs.Prelude.{Bool, false, not, ◌&&◌, ◌||◌, cond, List, [], ◌∷◌, codes, Option, Some, None, bytes_eq}
-use Rattle.relay_dirs.specs.gql_ast.Sels as sels
-use Rattle.relay_dirs.specs.gql_ast.Sels.{Sels}
-use Rattle.relay_dirs.specs.gql_ast.Ty as ty
-use Rattle.relay_dirs.specs.gql_ast.Ty.{Ty}
-use Rattle.relay_dirs.specs.gql_ast.declared.place.FilePlace.{FilePlace}
+use Rattle.relay_marks.specs.gql_ast.Sels as sels
+use Rattle.relay_marks.specs.gql_ast.Sels.{Sels}
+use Rattle.relay_marks.specs.gql_ast.Ty as ty
+use Rattle.relay_marks.specs.gql_ast.Ty.{Ty}
+use Rattle.relay_marks.specs.gql_ast.declared.place.FilePlace.{FilePlace}
 use Rattle.plan_ir.specs.Nodes.{Nodes, end, field, inline, nodes_append}
-use Rattle.relay_dirs.specs.schema_rules.Rules.{is_object}
-use Rattle.relay_dirs.specs.schema_types.Sites.{field_type}
-use Rattle.relay_dirs.specs.schema_tables.Types.{Text, Defs, base_of, has_id, is_composite, possible}
+use Rattle.relay_marks.specs.schema_rules.Rules.{is_object}
+use Rattle.relay_marks.specs.schema_types.Sites.{field_type}
+use Rattle.relay_marks.specs.schema_tables.Types.{Text, Defs, base_of, has_id, is_composite, possible}
 
 -- an interface or a union
 abbrev pub is_abstract : Defs → Text → Bool

@@ -3,23 +3,23 @@
 use Rattle.std.specs.Prelude.{ℕ, zero, suc, ◌+◌, Bool, false, not, ◌||◌, cond, List, [], ◌∷◌, ◌++◌, map, length, codes, Option, Some, None, option_map, is_some, bytes_eq}
 use Rattle.std.specs.List.{filter}
 use Rattle.store_model.specs.gql_plain.Order.{has_text}
-use Rattle.relay_dirs.specs.gql_ast.Sels as sels
-use Rattle.relay_dirs.specs.gql_ast.Sels.{Sels}
-use Rattle.relay_dirs.specs.gql_ast.Value.{Val}
-use Rattle.relay_dirs.specs.gql_ast.declared.directive.Directive.{Directive}
-use Rattle.relay_dirs.specs.gql_ast.declared.place.FilePlace.{FilePlace}
-use Rattle.relay_dirs.specs.gql_ast.declared.variable.VariableDef.{VariableDef}
+use Rattle.relay_marks.specs.gql_ast.Sels as sels
+use Rattle.relay_marks.specs.gql_ast.Sels.{Sels}
+use Rattle.relay_marks.specs.gql_ast.Value.{Val}
+use Rattle.relay_marks.specs.gql_ast.declared.directive.Directive.{Directive}
+use Rattle.relay_marks.specs.gql_ast.declared.place.FilePlace.{FilePlace}
+use Rattle.relay_marks.specs.gql_ast.declared.variable.VariableDef.{VariableDef}
 use Rattle.plan_ir.specs.Additions.{additions, type_or}
 use Rattle.plan_ir.specs.Nodes.{Nodes, end, field, inline, nodes_append}
 use Rattle.plan_ir.specs.Substitution.{Arguments, Scope, substitute_in, operation_scope, arguments_at_spread, scope_at_spread, scope_of_own}
 use Rattle.plan_ir.specs.declared.expanded.Expanded.{Expanded}
 use Rattle.plan_ir.specs.declared.form.Form.{Form}
 use Rattle.plan_ir.specs.declared.form.Form.TheVariants as F
-use Rattle.relay_dirs.specs.Connections.{connection_among}
-use Rattle.relay_dirs.specs.schema_trees.Located.{Located, directives_nodes}
-use Rattle.relay_dirs.specs.schema_types.NameRules.{fragment_named, fragments, operations}
-use Rattle.relay_dirs.specs.schema_types.Sites.{ArgumentAt, DirectiveAt, VariableAt, OperationAt, FragmentAt, DefinitionAt, field_type, condition_or, below, head_nodes, arguments_nodes, selections_nodes, optional_name_nodes, variables_nodes}
-use Rattle.relay_dirs.specs.schema_tables.Types.{Text, Defs, base_of, root}
+use Rattle.relay_marks.specs.Connections.{connection_among}
+use Rattle.relay_marks.specs.schema_trees.Located.{Located, directives_nodes}
+use Rattle.relay_marks.specs.schema_types.NameRules.{fragment_named, fragments, operations}
+use Rattle.relay_marks.specs.schema_types.Sites.{ArgumentAt, DirectiveAt, VariableAt, OperationAt, FragmentAt, DefinitionAt, field_type, condition_or, below, head_nodes, arguments_nodes, selections_nodes, optional_name_nodes, variables_nodes}
+use Rattle.relay_marks.specs.schema_tables.Types.{Text, Defs, base_of, root}
 
 -- ---- directives that are printed
 

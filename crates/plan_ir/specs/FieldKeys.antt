@@ -1,9 +1,9 @@
 -- The keys under which fields are stored, where they are the same in each environment (this project's own).
 use Rattle.std.specs.Prelude.{cond, List, [], Option, Some, None}
-use Rattle.relay_dirs.specs.gql_ast.Value.{Val, members_of}
-use Rattle.relay_dirs.specs.schema_tables.Types.{Text}
-use Rattle.relay_dirs.specs.schema_types.Environments.{arguments_in_environment}
-use Rattle.relay_dirs.specs.schema_values.Fittings.{have_constants}
+use Rattle.relay_marks.specs.gql_ast.Value.{Val, members_of}
+use Rattle.relay_marks.specs.schema_tables.Types.{Text}
+use Rattle.relay_marks.specs.schema_types.Environments.{arguments_in_environment}
+use Rattle.relay_marks.specs.constant_values.Fittings.{have_constants}
 use Rattle.store_model.specs.store_record.Keys.{field_key}
 
 -- the key of a field in whose arguments no variable stands

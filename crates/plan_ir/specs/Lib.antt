@@ -1,16 +1,14 @@
-pub use Rattle.relay_dirs.specs.doc_sites
-pub use Rattle.relay_dirs.specs.doc_uses
-pub use Rattle.relay_dirs.specs.gql_ast
-pub use Rattle.relay_dirs.specs.gql_graph
-pub use Rattle.relay_dirs.specs.gql_lex
+pub use Rattle.relay_marks.specs.constant_values
+pub use Rattle.relay_marks.specs.gql_ast
+pub use Rattle.relay_marks.specs.gql_graph
+pub use Rattle.relay_marks.specs.gql_lex
 pub use Rattle.store_model.specs.gql_plain
-pub use Rattle.relay_dirs.specs.gql_syntax
-pub use Rattle.relay_dirs.specs as relay_dirs
-pub use Rattle.relay_dirs.specs.schema_rules
-pub use Rattle.relay_dirs.specs.schema_tables
-pub use Rattle.relay_dirs.specs.schema_trees
-pub use Rattle.relay_dirs.specs.schema_types
-pub use Rattle.relay_dirs.specs.schema_values
+pub use Rattle.relay_marks.specs.gql_syntax
+pub use Rattle.relay_marks.specs as relay_marks
+pub use Rattle.relay_marks.specs.schema_rules
+pub use Rattle.relay_marks.specs.schema_tables
+pub use Rattle.relay_marks.specs.schema_trees
+pub use Rattle.relay_marks.specs.schema_types
 pub use Rattle.store_model.specs as store_model
 pub use Rattle.store_model.specs.store_record
 pub mod Nodes
@@ -29,6 +27,7 @@ pub mod ReaderFalls
 pub mod Substitution
 pub mod Additions
 pub mod Expansion
+pub mod Projects
 pub mod Sizes
 pub mod OperationText
 pub mod NormalMeaning

@@ -1,10 +1,10 @@
 -- Expanded selection sets (this project's own): a node stands with those that it holds, and with those that follow
 -- it in its set. No spread is left.
 use Rattle.std.specs.Prelude.{ℕ, ◌+◌, List, Option, max}
-use Rattle.relay_dirs.specs.gql_ast.Ty.{Ty}
-use Rattle.relay_dirs.specs.gql_ast.Value.{Val}
-use Rattle.relay_dirs.specs.gql_ast.declared.directive.Directive.{Directive}
-use Rattle.relay_dirs.specs.gql_ast.declared.place.FilePlace.{FilePlace}
+use Rattle.relay_marks.specs.gql_ast.Ty.{Ty}
+use Rattle.relay_marks.specs.gql_ast.Value.{Val}
+use Rattle.relay_marks.specs.gql_ast.declared.directive.Directive.{Directive}
+use Rattle.relay_marks.specs.gql_ast.declared.place.FilePlace.{FilePlace}
 use Rattle.store_model.specs.gql_plain.declared.ids.Conn.{Conn}
 
 -- a field with its response key and its type, or an inline fragment; each with the directives that are printed, and

@@ -3,11 +3,11 @@ use Rattle.std.specs.Prelude.{◌≡◌, Option}
 use Rattle.std.proofs.Common.{ap, arith}
 use Rattle.std.specs.Coded.{Coded, coded_option}
 use base.Stored.{Gv, gnil, gnum, gcons}
-use Rattle.relay_dirs.specs.gql_ast.TypeCode.{coded_ty}
-use Rattle.relay_dirs.specs.gql_ast.ValueCode.{head, tail, tag, coded_text, coded_members}
-use Rattle.relay_dirs.specs.gql_ast.SelsCode.{coded_name, coded_directives}
-use Rattle.relay_dirs.specs.gql_ast.contracts.place.FilePlace as place
-use Rattle.relay_dirs.specs.gql_ast.declared.place.FilePlace.{FilePlace}
+use Rattle.relay_marks.specs.gql_ast.TypeCode.{coded_ty}
+use Rattle.relay_marks.specs.gql_ast.ValueCode.{head, tail, tag, coded_text, coded_members}
+use Rattle.relay_marks.specs.gql_ast.SelsCode.{coded_name, coded_directives}
+use Rattle.relay_marks.specs.gql_ast.contracts.place.FilePlace as place
+use Rattle.relay_marks.specs.gql_ast.declared.place.FilePlace.{FilePlace}
 use Rattle.store_model.specs.gql_plain.contracts.ids.Conn as conn
 use Rattle.store_model.specs.gql_plain.declared.ids.Conn.{Conn}
 use Rattle.plan_ir.specs.Nodes.{Nodes, end, field, inline}

@@ -1,6 +1,6 @@
 -- The nodes that the trees stand for.
 use Rattle.std.specs.Prelude.{List, [], ◌∷◌}
-use Rattle.relay_dirs.specs.gql_ast.TypeView.{ty_of}
+use Rattle.relay_marks.specs.gql_ast.TypeView.{ty_of}
 use Rattle.plan_ir.specs.declared.node.Node.{Node}
 use Rattle.plan_ir.specs.declared.node.Node.TheVariants as N
 use Rattle.plan_ir.specs.Nodes.{Nodes, end, field, inline}

@@ -3,7 +3,7 @@ use Rattle.std.specs.Prelude.{ℕ, ◌≡◌, List}
 use Rattle.std.proofs.Common.{ap, arith}
 use Rattle.std.specs.Coded.{Coded, coded_bool, coded_list}
 use base.Stored.{Gv, gnil, gnum, gcons}
-use Rattle.relay_dirs.specs.gql_ast.ValueCode.{head, tail, tag, coded_text, coded_members}
+use Rattle.relay_marks.specs.gql_ast.ValueCode.{head, tail, tag, coded_text, coded_members}
 use Rattle.plan_ir.specs.contracts.guard.Guard as guard
 use Rattle.plan_ir.specs.declared.guard.Guard.{Guard}
 use Rattle.plan_ir.specs.NodesCode.{coded_conn}

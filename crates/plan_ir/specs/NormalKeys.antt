@@ -2,7 +2,7 @@
 use Rattle.std.specs.Prelude.{List, [], ◌∷◌, Option, None}
 use Rattle.plan_ir.specs.FieldKeys.{constant_key}
 use Rattle.plan_ir.specs.Normal.{Normal, done, typename, leaf, object, guarded}
-use Rattle.relay_dirs.specs.schema_tables.Types.{Text}
+use Rattle.relay_marks.specs.schema_tables.Types.{Text}
 
 -- one for each step: none for the type name of a record, and for steps behind a guard
 abbrev pub keys_of : Normal → List (Option Text)

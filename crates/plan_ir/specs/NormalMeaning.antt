@@ -2,8 +2,8 @@
 -- them. What a response says to a plan is said by the same walk as along documents.
 use Rattle.std.specs.Prelude.{Bool, true, not, ◌&&◌, cond, List, [], ◌∷◌, ◌++◌, codes, bytes_eq, Option, Some, None, option_map}
 use Rattle.std.specs.List.{list_all}
-use Rattle.relay_dirs.specs.gql_ast.Value.{Val}
-use Rattle.relay_dirs.specs.gql_ast.ValueView.{value_of}
+use Rattle.relay_marks.specs.gql_ast.Value.{Val}
+use Rattle.relay_marks.specs.gql_ast.ValueView.{value_of}
 use Rattle.store_model.specs.gql_plain.Names.{is_name}
 use Rattle.store_model.specs.gql_plain.Order.{has_text}
 use Rattle.store_model.specs.gql_plain.declared.ids.Conn.{Conn}
@@ -11,8 +11,8 @@ use Rattle.plan_ir.specs.Normal as n
 use Rattle.plan_ir.specs.Normal.{Normal}
 use Rattle.plan_ir.specs.declared.guard.Condition.{Condition}
 use Rattle.plan_ir.specs.declared.guard.Guard.{Guard}
-use Rattle.relay_dirs.specs.schema_tables.Types.{Text}
-use Rattle.relay_dirs.specs.schema_types.Environments.{Values, arguments_in_environment, evaluation, is_true}
+use Rattle.relay_marks.specs.schema_tables.Types.{Text}
+use Rattle.relay_marks.specs.schema_types.Environments.{Values, arguments_in_environment, evaluation, is_true}
 use Rattle.serde_json.specs.Data as J
 use Rattle.store_model.specs.Items.{Ask, Below, Collect, Connection, Form, Item, asked, typename, leaf, one, many}
 use Rattle.store_model.specs.Verdicts.{Verdict, says}

@@ -6,22 +6,22 @@ use Rattle.std.specs.Fmt.{signed_decimal}
 use Rattle.std.specs.List.{filter, list_any}
 use Rattle.std.specs.Ordering.{nat_cmp, match_ordering}
 use Rattle.json.specs.Print.{quoted}
-use Rattle.relay_dirs.specs.gql_ast.Ty as ty
-use Rattle.relay_dirs.specs.gql_ast.Ty.{Ty}
-use Rattle.relay_dirs.specs.gql_ast.TypeView.{ty_of}
-use Rattle.relay_dirs.specs.gql_ast.Value.{Val, Vals, Members, variable, int, text, truth, null, enum, list, object, no_vals, val, no_members, member}
-use Rattle.relay_dirs.specs.gql_ast.ValueView.{value_of}
-use Rattle.relay_dirs.specs.gql_ast.declared.directive.Directive.{Directive}
-use Rattle.relay_dirs.specs.gql_ast.declared.document.Kind.{Kind}
-use Rattle.relay_dirs.specs.gql_ast.declared.document.Kind.TheVariants.{Query}
-use Rattle.relay_dirs.specs.gql_ast.declared.variable.VariableDef.{VariableDef}
+use Rattle.relay_marks.specs.gql_ast.Ty as ty
+use Rattle.relay_marks.specs.gql_ast.Ty.{Ty}
+use Rattle.relay_marks.specs.gql_ast.TypeView.{ty_of}
+use Rattle.relay_marks.specs.gql_ast.Value.{Val, Vals, Members, variable, int, text, truth, null, enum, list, object, no_vals, val, no_members, member}
+use Rattle.relay_marks.specs.gql_ast.ValueView.{value_of}
+use Rattle.relay_marks.specs.gql_ast.declared.directive.Directive.{Directive}
+use Rattle.relay_marks.specs.gql_ast.declared.document.Kind.{Kind}
+use Rattle.relay_marks.specs.gql_ast.declared.document.Kind.TheVariants.{Query}
+use Rattle.relay_marks.specs.gql_ast.declared.variable.VariableDef.{VariableDef}
 use Rattle.store_model.specs.gql_plain.ToJson.{compact}
 use Rattle.store_model.specs.gql_plain.Tree as tree
-use Rattle.relay_dirs.specs.gql_syntax.Words.{truth_word, null_word, kind_word}
+use Rattle.relay_marks.specs.gql_syntax.Words.{truth_word, null_word, kind_word}
 use Rattle.plan_ir.specs.Nodes.{Nodes, end, field, inline}
 use Rattle.plan_ir.specs.Substitution.{Arguments}
 use Rattle.plan_ir.specs.declared.expanded.Expanded.{Expanded}
-use Rattle.relay_dirs.specs.schema_tables.Types.{Text}
+use Rattle.relay_marks.specs.schema_tables.Types.{Text}
 
 -- ---- lists
 

@@ -1,7 +1,7 @@
 -- Plans by which records are read (this project's own): a step stands with the plan below it, and with the
 -- steps that follow it.
 use Rattle.std.specs.Prelude.{ℕ, ◌+◌, Bool, List, Option, max}
-use Rattle.relay_dirs.specs.gql_ast.Value.{Val}
+use Rattle.relay_marks.specs.gql_ast.Value.{Val}
 use Rattle.store_model.specs.gql_plain.declared.ids.Conn.{Conn}
 use Rattle.plan_ir.specs.declared.guard.Guard.{Guard}
 

@@ -3,7 +3,7 @@ use Rattle.std.specs.Prelude.{◌≡◌}
 use Rattle.std.proofs.Common.{ap, arith}
 use Rattle.std.specs.Coded.{Coded, coded_bool}
 use base.Stored.{Gv, gnil, gnum, gcons}
-use Rattle.relay_dirs.specs.gql_ast.ValueCode.{head, tail, tag, coded_text, coded_members}
+use Rattle.relay_marks.specs.gql_ast.ValueCode.{head, tail, tag, coded_text, coded_members}
 use Rattle.plan_ir.specs.NodesCode.{coded_conn}
 use Rattle.plan_ir.specs.NormalCode.{coded_texts, coded_guard}
 use Rattle.plan_ir.specs.Reader.{Reader, done, typename, leaf, object, guarded, pointer, pointer_inline}

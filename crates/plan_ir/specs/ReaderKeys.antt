@@ -2,7 +2,7 @@
 use Rattle.std.specs.Prelude.{List, [], ◌∷◌, Option, None}
 use Rattle.plan_ir.specs.FieldKeys.{constant_key}
 use Rattle.plan_ir.specs.Reader.{Reader, done, typename, leaf, object, guarded, pointer, pointer_inline}
-use Rattle.relay_dirs.specs.schema_tables.Types.{Text}
+use Rattle.relay_marks.specs.schema_tables.Types.{Text}
 
 -- one for each step: none for the type name of a record, for steps behind a guard, and for pointers
 abbrev pub keys_of : Reader → List (Option Text)

@@ -1,12 +1,12 @@
 -- What a plan that reads asks of a record of a type, in an environment: its steps in order, those behind a guard where the guard lets them.
 -- What it shows of records is read by the same walk as along documents.
 use Rattle.std.specs.Prelude.{ℕ, ◌+◌, false, true, cond, List, [], ◌∷◌, ◌++◌, None, max}
-use Rattle.relay_dirs.specs.gql_ast.Value.{Val}
+use Rattle.relay_marks.specs.gql_ast.Value.{Val}
 use Rattle.plan_ir.specs.NormalMeaning.{ask_step, below_step, guard_passes, object_form, typename_ask}
 use Rattle.plan_ir.specs.Reader as r
 use Rattle.plan_ir.specs.Reader.{Reader}
-use Rattle.relay_dirs.specs.schema_tables.Types.{Text}
-use Rattle.relay_dirs.specs.schema_types.Environments.{Values, evaluation, with_pair}
+use Rattle.relay_marks.specs.schema_tables.Types.{Text}
+use Rattle.relay_marks.specs.schema_types.Environments.{Values, evaluation, with_pair}
 use Rattle.store_model.specs.Items.{Ask, Collect, Item, asked, pointed, leaf}
 use Rattle.store_model.specs.Walks.{Found, Slots, read_at}
 

@@ -1,7 +1,7 @@
 -- How large an expanded operation or fragment is, and the two limits (this project's own).
 use Rattle.std.specs.Prelude.{ℕ, ◌+◌, Bool, ◌||◌, List, [], ◌∷◌, max, nat_le}
-use Rattle.relay_dirs.specs.gql_ast.Value.{Val, Vals, Members, list, object, no_vals, val, no_members, member, val_depth}
-use Rattle.relay_dirs.specs.gql_ast.declared.directive.Directive.{Directive}
+use Rattle.relay_marks.specs.gql_ast.Value.{Val, Vals, Members, list, object, no_vals, val, no_members, member, val_depth}
+use Rattle.relay_marks.specs.gql_ast.declared.directive.Directive.{Directive}
 use Rattle.plan_ir.specs.Expansion.{Whole}
 use Rattle.plan_ir.specs.Nodes.{Nodes, end, field, inline, set_depth}
 use Rattle.plan_ir.specs.Substitution.{Arguments}

@@ -1,12 +1,12 @@
 -- The local variables of a fragment give way to the values that a spread gives them (this project's own).
 use Rattle.std.specs.Prelude.{cond, List, [], ◌∷◌, ◌++◌, map, codes, Option, Some, None, bytes_eq}
-use Rattle.relay_dirs.specs.gql_ast.Value.{Val, Vals, Members, variable, list, object, null, no_vals, val, no_members, member}
-use Rattle.relay_dirs.specs.gql_ast.declared.directive.Directive.{Directive}
-use Rattle.relay_dirs.specs.gql_graph.Rules.{each}
-use Rattle.relay_dirs.specs.Connections.{value_of_name}
-use Rattle.relay_dirs.specs.Locals.{Local, locals_of}
-use Rattle.relay_dirs.specs.schema_tables.Types.{Text}
-use Rattle.relay_dirs.specs.schema_types.Sites.{FragmentAt}
+use Rattle.relay_marks.specs.gql_ast.Value.{Val, Vals, Members, variable, list, object, null, no_vals, val, no_members, member}
+use Rattle.relay_marks.specs.gql_ast.declared.directive.Directive.{Directive}
+use Rattle.relay_marks.specs.gql_graph.Rules.{each}
+use Rattle.relay_marks.specs.Connections.{value_of_name}
+use Rattle.relay_marks.specs.Locals.{Local, locals_of}
+use Rattle.relay_marks.specs.schema_tables.Types.{Text}
+use Rattle.relay_marks.specs.schema_types.Sites.{FragmentAt}
 
 abbrev pub Arguments : Type 0
 Arguments = List (Text × Val)

@@ -2,7 +2,7 @@
 ghost use Rattle.std.specs.Prelude.{◌≡◌, IfOk};
 
 use crate::node::Nodes;
-use relay_dirs::{Directives, Kind, VariableDefs};
+use relay_marks::{Directives, Kind, VariableDefs};
 use store_model::gql_plain::{Name, NoMemory};
 
 /// An operation or a fragment in which all spreads are followed.

@@ -2,7 +2,7 @@
 ghost use Rattle.std.specs.Prelude.{◌≡◌, [], ◌∷◌, ◌++◌, length, IfOk, OnOk, OnErr, IsTrue, ◌↔◌};
 
 use crate::copies::copy_of_ids;
-use relay_dirs::ValueTree;
+use relay_marks::ValueTree;
 use std::alloc::Global;
 use std::marker::Model;
 use store_model::gql_plain::{Ids, NoMemory};

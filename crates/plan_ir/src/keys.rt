@@ -2,7 +2,7 @@
 ghost use Rattle.std.specs.Prelude.{◌≡◌, IfOk};
 ghost use Rattle.plan_ir.specs.FieldKeys as keys;
 
-use relay_dirs::{Arguments, evaluate_constants, have_constants};
+use relay_marks::{Arguments, evaluate_constants, have_constants};
 use std::alloc::Global;
 use store_model::gql_plain::{Name, NoMemory, SharedText};
 use store_model::store_record::field_key;

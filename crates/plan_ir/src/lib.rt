@@ -32,66 +32,47 @@ pub use reader::ReaderList;
 pub use reader::ReaderPlan;
 pub use reader::ReaderStep;
 pub use reader::ReaderSteps;
-pub use relay_dirs::Argument;
-pub use relay_dirs::ArgumentAt;
-pub use relay_dirs::Arguments;
-pub use relay_dirs::Cursor;
-pub use relay_dirs::Definition;
-pub use relay_dirs::DefinitionAt;
-pub use relay_dirs::Directive;
-pub use relay_dirs::DirectiveAt;
-pub use relay_dirs::Directives;
-pub use relay_dirs::Document;
-pub use relay_dirs::Documents;
-pub use relay_dirs::Env;
-pub use relay_dirs::FilePlace;
-pub use relay_dirs::FilePlaces;
-pub use relay_dirs::Fragment;
-pub use relay_dirs::FragmentAt;
-pub use relay_dirs::InputDef;
-pub use relay_dirs::InputDefs;
-pub use relay_dirs::Kind;
-pub use relay_dirs::NESTING_LIMIT;
-pub use relay_dirs::NodeFault;
-pub use relay_dirs::Operation;
-pub use relay_dirs::OperationAt;
-pub use relay_dirs::ParseFault;
-pub use relay_dirs::Place;
-pub use relay_dirs::Placed;
-pub use relay_dirs::Rule;
-pub use relay_dirs::RuleFault;
-pub use relay_dirs::Schema;
-pub use relay_dirs::Selection;
-pub use relay_dirs::Selections;
-pub use relay_dirs::Site;
-pub use relay_dirs::SyntaxFault;
-pub use relay_dirs::TypeBox;
-pub use relay_dirs::TypeKind;
-pub use relay_dirs::TypeTree;
-pub use relay_dirs::ValueTree;
-pub use relay_dirs::ValueTrees;
-pub use relay_dirs::VarFault;
-pub use relay_dirs::VariableAt;
-pub use relay_dirs::VariableDef;
-pub use relay_dirs::VariableDefs;
-pub use relay_dirs::check_relay;
-pub use relay_dirs::check_relay_of;
-pub use relay_dirs::connection;
-pub use relay_dirs::connection_among;
-pub use relay_dirs::count_fragments;
-pub use relay_dirs::definitions_at;
-pub use relay_dirs::evaluate;
-pub use relay_dirs::evaluate_arguments;
-pub use relay_dirs::field_place;
-pub use relay_dirs::fits;
-pub use relay_dirs::item_place;
-pub use relay_dirs::local_of;
-pub use relay_dirs::locals;
-pub use relay_dirs::name_of_place;
-pub use relay_dirs::place_of_input;
-pub use relay_dirs::read_type;
-pub use relay_dirs::read_value;
-pub use relay_dirs::variables;
+pub use relay_marks::Argument;
+pub use relay_marks::Arguments;
+pub use relay_marks::Cursor;
+pub use relay_marks::Definition;
+pub use relay_marks::Directive;
+pub use relay_marks::Directives;
+pub use relay_marks::Document;
+pub use relay_marks::Documents;
+pub use relay_marks::Env;
+pub use relay_marks::FilePlace;
+pub use relay_marks::FilePlaces;
+pub use relay_marks::Fragment;
+pub use relay_marks::InputDef;
+pub use relay_marks::InputDefs;
+pub use relay_marks::Kind;
+pub use relay_marks::NESTING_LIMIT;
+pub use relay_marks::NodeFault;
+pub use relay_marks::Operation;
+pub use relay_marks::ParseFault;
+pub use relay_marks::Placed;
+pub use relay_marks::Rule;
+pub use relay_marks::RuleFault;
+pub use relay_marks::Schema;
+pub use relay_marks::Selection;
+pub use relay_marks::Selections;
+pub use relay_marks::SyntaxFault;
+pub use relay_marks::TypeBox;
+pub use relay_marks::TypeKind;
+pub use relay_marks::TypeTree;
+pub use relay_marks::ValueTree;
+pub use relay_marks::ValueTrees;
+pub use relay_marks::VariableDef;
+pub use relay_marks::VariableDefs;
+pub use relay_marks::connection;
+pub use relay_marks::connection_among;
+pub use relay_marks::evaluate;
+pub use relay_marks::evaluate_arguments;
+pub use relay_marks::local_of;
+pub use relay_marks::locals;
+pub use relay_marks::read_type;
+pub use relay_marks::read_value;
 pub use store_model::Answer;
 pub use store_model::Cause;
 pub use store_model::Command;
@@ -137,21 +118,16 @@ pub use store_model::store_record::field_key;
 pub use store_model::store_record::handle_key;
 
 /// Passed on from the crates below.
-pub mod around {
-    pub use relay_dirs::around::{below, below_on};
-}
-
-/// Passed on from the crates below.
 pub mod least {
-    pub use relay_dirs::least::Least;
+    pub use relay_marks::least::Least;
 }
 
 /// Passed on from the crates below.
 pub mod located {
-    pub use relay_dirs::located::{NameAt, pass};
+    pub use relay_marks::located::{NameAt, pass};
 }
 
 /// Passed on from the crates below.
 pub mod type_forms {
-    pub use relay_dirs::type_forms::{base_of, item_of};
+    pub use relay_marks::type_forms::{base_of, item_of};
 }

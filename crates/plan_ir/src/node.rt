@@ -4,7 +4,7 @@ ghost use Rattle.plan_ir.specs.Nodes.{end, nodes_append, number_of};
 ghost use Rattle.plan_ir.specs.NodesView.{node_of, nodes_of};
 
 use crate::copies::{copy_of_conn, copy_of_name};
-use relay_dirs::{Arguments, Directives, FilePlace, TypeTree};
+use relay_marks::{Arguments, Directives, FilePlace, TypeTree};
 use std::alloc::Global;
 use std::marker::Model;
 use store_model::gql_plain::{Conn, Name, NoMemory};

@@ -9,7 +9,7 @@ ghost use Rattle.plan_ir.specs.NormalView.{step_of, steps_of};
 use crate::copies::copy_of_conn;
 use crate::guard::Guard;
 use crate::keys::constant_key;
-use relay_dirs::Arguments;
+use relay_marks::Arguments;
 use std::alloc::Global;
 use std::marker::Model;
 use std::rc::Rc;

@@ -12,7 +12,8 @@ use Rattle.plan_ir.specs.gql_plain.Names.{is_name}
 use Rattle.plan_ir.specs.gql_syntax.Words.{IsName}
 use Rattle.plan_read.proofs.plan_build_laws.CovarianceLists.{all_hold, right}
 use Rattle.plan_read.specs.plan_build.Plans.{HaveNames}
-use Rattle.plan_read.specs.plan_expand.Answers.{definitions_in, project, whole_in}
+use Rattle.plan_read.specs.plan_expand.Answers.{whole_in}
+use Rattle.plan_ir.specs.Projects.{definitions_in, project}
 use Rattle.plan_ir.specs.Expansion.{Whole, name_or, whole_fragment, whole_operation}
 use Rattle.plan_ir.specs.declared.form.Form.TheVariants as F
 use Rattle.plan_project.proofs.LeastLaws.{no_places, nothing_first}
@@ -21,7 +22,7 @@ use Rattle.plan_project.proofs.SoundProjects.{operation_found}
 use Rattle.plan_project.proofs.SpreadChains.{none_each}
 use Rattle.plan_project.specs.Expansions.{differences_at, merge_fault, values_unfit_at, whole_at, whole_of_operation}
 use Rattle.plan_project.specs.Lookups.{fragment_in, operation_in}
-use Rattle.plan_ir.specs.relay_dirs.RelayRules.{document_rules}
+use Rattle.relay_dirs.specs.relay_rules.RelayRules.{document_rules}
 use Rattle.plan_project.specs.Projects.{IsAccepted, IsAcceptedProject}
 use Rattle.plan_ir.specs.schema_rules.declared.fault.Rule.{Rule}
 use Rattle.plan_ir.specs.schema_tables.Types.{Text, Defs, is_composite, possible, root}

@@ -1,12 +1,13 @@
 -- The line of a definition by its number.
 use Rattle.std.proofs.Common.{◌≡◌, ◌<◌, ◌≤◌, ℕ, zero, suc, List, [], ◌∷◌, length, map, get_or, false, Option, Some, None, option_map, refl, sym, ap, subst, ◌∙◌, arith}
 use Rattle.std.specs.List.{AllByRecursion}
-use Rattle.plan_ir.specs.doc_sites.SitesView.{definition_of}
-use Rattle.plan_ir.specs.doc_sites.declared.site.DefinitionAt as code
+use Rattle.plan_read.specs.doc_sites.SitesView.{definition_of}
+use Rattle.plan_read.specs.doc_sites.declared.site.DefinitionAt as code
 use Rattle.plan_ir.specs.gql_ast.declared.document.Document.{Document}
 use Rattle.plan_ir.specs.gql_ast.declared.place.Placed.{Placed}
 use Rattle.plan_ir.specs.gql_graph.Rules.{first_broken}
-use Rattle.plan_read.specs.plan_expand.Answers.{definitions_in, project, whole_in, whole_is}
+use Rattle.plan_read.specs.plan_expand.Answers.{whole_in, whole_is}
+use Rattle.plan_ir.specs.Projects.{definitions_in, project}
 use Rattle.plan_ir.specs.Expansion.{Whole, operation_named, whole_operation}
 use Rattle.plan_ir.specs.Sizes.{has_too_many_nodes, is_too_deep}
 use Rattle.plan_ir.specs.declared.form.Form.TheVariants as F

@@ -4,9 +4,9 @@ use Rattle.plan_ir.specs.gql_ast.declared.variable.VariableDef.{VariableDef}
 use Rattle.plan_ir.specs.gql_plain.Order.{member_at}
 use Rattle.plan_ir.specs.Substitution.{default_named}
 use Rattle.plan_read.specs.Laws.{AreLocals}
-use Rattle.plan_read.proofs.plan_text_laws.Evaluating.{found-with_pair}
-use Rattle.plan_ir.specs.relay_dirs.Locals.{locals_of}
-use Rattle.plan_ir.specs.relay_dirs.View.{local_view}
+use Rattle.plan_read.proofs.plan_collect_laws.Evaluating.{found-with_pair}
+use Rattle.plan_ir.specs.relay_marks.Locals.{locals_of}
+use Rattle.plan_ir.specs.relay_marks.View.{local_view}
 use Rattle.plan_ir.specs.schema_tables.Types.{Text}
 use Rattle.plan_ir.specs.schema_types.Environments.{Values, environment, value_or_default}
 use Rattle.plan_ir.specs.schema_types.Sites.{FragmentAt}

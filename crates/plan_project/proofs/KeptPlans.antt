@@ -12,8 +12,9 @@ use Rattle.plan_read.specs.plan_build.Connected.{IsConnected}
 use Rattle.plan_read.specs.plan_build.NormalTypes.{FitsSchema}
 use Rattle.plan_read.specs.plan_build.Plans.{IsFitting, IsPaged, IsTyped, IsWellFormed, MeansTheSame, ReachesTheSame}
 use Rattle.plan_read.specs.plan_build.Suited.{IsSuited}
-use Rattle.plan_read.specs.plan_expand.Answers.{project, whole_in}
-use Rattle.plan_read.specs.plan_expand.Places.{place_in}
+use Rattle.plan_read.specs.plan_expand.Answers.{whole_in}
+use Rattle.plan_ir.specs.Projects.{project}
+use Rattle.plan_ir.specs.Projects.{place_in}
 use Rattle.plan_ir.specs.Expansion.{Whole, name_or, whole_operation}
 use Rattle.plan_ir.specs.Normal.{Normal}
 use Rattle.plan_ir.specs.NormalMeaning.{plan_says}
@@ -31,8 +32,8 @@ use Rattle.plan_project.specs.Projects.{IsAcceptedProject}
 use Rattle.plan_project.specs.declared.operations.Compiled.{Compiled}
 use Rattle.plan_project.specs.declared.operations.CompiledFragment.{CompiledFragment}
 use Rattle.plan_read.specs.Plans.{reader_in}
-use Rattle.plan_ir.specs.relay_dirs.Locals.{locals_of}
-use Rattle.plan_ir.specs.relay_dirs.View.{local_view}
+use Rattle.plan_ir.specs.relay_marks.Locals.{locals_of}
+use Rattle.plan_ir.specs.relay_marks.View.{local_view}
 use Rattle.plan_read.specs.relay_model.Readings.{no_place}
 use Rattle.plan_ir.specs.schema_tables.Types.{Text, Defs, is_composite, possible, root}
 use Rattle.plan_ir.specs.schema_types.DocumentRules.{places_of}

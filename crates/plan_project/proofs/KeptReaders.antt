@@ -2,8 +2,9 @@
 use Rattle.std.proofs.Common.{◌≡◌, true, List, [], ◌∷◌, Option, Some, None, IfSome, option_map, is_some, refl, ap, ◌∙◌}
 use Rattle.plan_ir.specs.gql_ast.declared.document.Document.{Document}
 use Rattle.plan_ir.specs.gql_ast.declared.place.Placed.{Placed}
-use Rattle.plan_read.specs.plan_expand.Answers.{project, whole_in}
-use Rattle.plan_read.specs.plan_expand.Places.{place_in}
+use Rattle.plan_read.specs.plan_expand.Answers.{whole_in}
+use Rattle.plan_ir.specs.Projects.{project}
+use Rattle.plan_ir.specs.Projects.{place_in}
 use Rattle.plan_ir.specs.Expansion.{Project, Whole, name_or, whole_operation}
 use Rattle.plan_ir.specs.ReaderMeaning.{plan_reads}
 use Rattle.plan_ir.specs.declared.expanded.Expanded.{Expanded}

@@ -9,7 +9,8 @@ use Rattle.plan_ir.specs.gql_ast.declared.place.Placed.{Placed}
 use Rattle.plan_ir.proofs.gql_graph_laws.LeastSteps.{breaks, holds}
 use Rattle.plan_ir.specs.gql_graph.Leasts.{least_from}
 use Rattle.plan_ir.specs.gql_graph.Rules.{each, first_broken}
-use Rattle.plan_read.specs.plan_expand.Answers.{definitions_in, whole_is}
+use Rattle.plan_read.specs.plan_expand.Answers.{whole_is}
+use Rattle.plan_ir.specs.Projects.{definitions_in}
 use Rattle.plan_ir.specs.Expansion.{Whole}
 use Rattle.plan_ir.specs.Sizes.{has_too_many_nodes, is_too_deep}
 use Rattle.plan_project.proofs.LeastLaws.{least_alone, no_nodes, no_places, nothing_first, nothing_then, place_list}

@@ -3,14 +3,14 @@ use Rattle.std.proofs.Common.{◌≡◌, ℕ, ◌+◌, ◌<◌, List, [], ◌∷
 use Rattle.plan_read.proofs.doc_merge_laws.LeastSteps.{least-append}
 use Rattle.plan_read.specs.doc_merge.Places as places
 use Rattle.plan_read.specs.doc_merge.declared.fault.PlaceFault.{PlaceFault}
-use Rattle.plan_ir.specs.doc_sites.SitesView.{definition_of}
-use Rattle.plan_ir.specs.doc_sites.declared.site.DefinitionAt as code
+use Rattle.plan_read.specs.doc_sites.SitesView.{definition_of}
+use Rattle.plan_read.specs.doc_sites.declared.site.DefinitionAt as code
 use Rattle.plan_ir.specs.gql_ast.declared.document.Document.{Document}
 use Rattle.plan_ir.specs.gql_ast.declared.place.Placed.{Placed}
 use Rattle.plan_ir.proofs.gql_graph_laws.LeastSteps.{noted-append}
 use Rattle.plan_ir.specs.gql_graph.Leasts.{least_from}
 use Rattle.plan_ir.specs.gql_graph.Rules.{each}
-use Rattle.plan_read.specs.plan_expand.Answers.{definitions_in}
+use Rattle.plan_ir.specs.Projects.{definitions_in}
 use Rattle.plan_project.specs.Noting.{depth_at, fields_at, size_at, values_at, values_in, fields_in, HasNotedAll, HasNotedAt, HasNotedFault}
 use Rattle.plan_project.specs.declared.least_faults.LeastFaults.{LeastFaults}
 use Rattle.plan_ir.specs.schema_tables.Types.{Defs}

@@ -6,13 +6,14 @@ use Rattle.plan_ir.specs.gql_ast.declared.place.Placed.{Placed}
 use Rattle.plan_ir.specs.gql_ast.declared.schema.SchemaTree.{SchemaTree}
 use Rattle.plan_ir.specs.gql_graph.Rules.{each, first_broken}
 use Rattle.text_places.specs.gql_sdl.Trees.{IsSchema}
-use Rattle.plan_read.specs.plan_expand.Answers.{definitions_in, whole_is}
+use Rattle.plan_read.specs.plan_expand.Answers.{whole_is}
+use Rattle.plan_ir.specs.Projects.{definitions_in}
 use Rattle.plan_ir.specs.Expansion.{Whole}
 use Rattle.plan_ir.specs.Sizes.{has_too_many_nodes, is_too_deep}
 use Rattle.plan_project.specs.Expansions.{name_node, node_of, size_rules, whole_at}
 use Rattle.plan_project.specs.Projects.{AreDocuments, node_rules}
-use Rattle.plan_ir.proofs.relay_dirs_laws.RulePlaces.{relay_rules_below}
-use Rattle.plan_ir.specs.relay_dirs.RelayRules.{document_rules, relay_rules}
+use Rattle.relay_dirs.proofs.relay_rules_laws.RulePlaces.{relay_rules_below}
+use Rattle.relay_dirs.specs.relay_rules.RelayRules.{document_rules, relay_rules}
 use Rattle.plan_ir.proofs.schema_rules_laws.RulePlaces.{fault_below}
 use Rattle.plan_ir.specs.schema_rules.Checked.{first_fault}
 use Rattle.plan_ir.specs.schema_rules.declared.fault.NodeFault.{NodeFault}

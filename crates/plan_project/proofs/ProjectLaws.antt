@@ -20,7 +20,7 @@ use Rattle.plan_project.proofs.DocumentLaws.{only_of}
 use Rattle.plan_project.specs.Faults.{place_at, fault_at, IsFound}
 use Rattle.plan_project.proofs.RuleLaws.{all_nodes}
 use Rattle.plan_project.specs.Expansions.{merge_fault, size_rules}
-use Rattle.plan_ir.specs.relay_dirs.RelayRules.{document_rules}
+use Rattle.relay_dirs.specs.relay_rules.RelayRules.{document_rules}
 use Rattle.plan_project.specs.Projects.{AreDocuments, AreTrees, IsAcceptedProject, node_rules, syntax_rule, IsSyntaxOf, IsDocumentsFault, IsTextFault, Breaks, IsMergeFault, Break}
 use Rattle.plan_project.specs.Verdicts.{IsTheProject, IsTheFault, IsRefusal, Files, texts_of, AreTheProject, HaveTheFault, AreOnlyDocuments, AreNoDocuments, IsFaultOf}
 use Rattle.plan_project.specs.declared.compiling.CompileFault.{CompileFault}

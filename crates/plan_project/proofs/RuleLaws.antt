@@ -9,7 +9,7 @@ use Rattle.plan_project.specs.declared.fault.DocumentsFault.{DocumentsFault}
 use Rattle.plan_project.specs.declared.fault.DocumentsFault.TheVariants as D
 use Rattle.plan_ir.specs.gql_graph.Rules.{first_broken}
 use Rattle.plan_ir.proofs.gql_graph_laws.LeastSteps.{first_before, first_after}
-use Rattle.plan_ir.specs.relay_dirs.RelayRules.{document_rules, relay_rules}
+use Rattle.relay_dirs.specs.relay_rules.RelayRules.{document_rules, relay_rules}
 use Rattle.plan_ir.specs.schema_types.DocumentRules.{Rules, name_rules, field_rules, argument_rules, trees_of, Meet, BreakRule, AreFaulty}
 use Rattle.plan_ir.specs.schema_types.Sites.{DefinitionAt, all_definitions}
 use Rattle.plan_ir.specs.schema_tables.Types.{Defs}

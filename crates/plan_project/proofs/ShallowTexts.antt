@@ -26,10 +26,10 @@ use Rattle.plan_ir.specs.Sizes.{all_depth, arguments_depth, directives_depth, is
 use Rattle.plan_ir.specs.Substitution.{Arguments}
 use Rattle.plan_ir.specs.declared.expanded.Expanded.{Expanded}
 use Rattle.plan_project.proofs.ReadTrees.{DefaultWithin, VariableWithin, VariablesWithin}
-use Rattle.plan_read.proofs.plan_text_laws.OperationRead.{all-filter}
-use Rattle.plan_read.proofs.plan_text_laws.ValuesRead.{all-by_name}
-use Rattle.plan_read.specs.plan_text.Documents.{document_parts}
-use Rattle.plan_read.specs.plan_text.Printed.{alias_of, printed_arguments, printed_default, printed_directives, printed_members, printed_pair, printed_selections, printed_value, printed_values, printed_variable}
+use Rattle.plan_text.proofs.OperationRead.{all-filter}
+use Rattle.plan_text.proofs.ValuesRead.{all-by_name}
+use Rattle.plan_text.specs.Documents.{document_parts}
+use Rattle.plan_read.specs.plan_collect.Printed.{alias_of, printed_arguments, printed_default, printed_directives, printed_members, printed_pair, printed_selections, printed_value, printed_values, printed_variable}
 use Rattle.plan_ir.specs.schema_tables.Types.{Text}
 
 -- ---- the two of a maximum

@@ -9,8 +9,8 @@ use Rattle.plan_ir.specs.gql_graph.Rules.{each}
 use Rattle.plan_project.proofs.ReadTrees.{all_append}
 use Rattle.plan_project.proofs.SoundNodes.{SoundLocal}
 use Rattle.plan_project.proofs.SoundTrees.{SoundArguments, SoundDirectives, SoundMembers, SoundValue}
-use Rattle.plan_ir.specs.relay_dirs.Locals.{Local, LocalObject, and_next, as_list, defines_locals, local_at, local_of, locals_of, members_from, object_by, of_said, of_text, with_default, with_member, with_type, with_type_text}
-use Rattle.plan_ir.specs.relay_dirs.TypeTexts.{type_in}
+use Rattle.plan_ir.specs.relay_marks.Locals.{Local, LocalObject, and_next, as_list, defines_locals, local_at, local_of, locals_of, members_from, object_by, of_said, of_text, with_default, with_member, with_type, with_type_text}
+use Rattle.plan_ir.specs.relay_marks.TypeTexts.{type_in}
 use Rattle.plan_ir.specs.schema_tables.Types.{Text}
 use Rattle.plan_ir.specs.schema_trees.Located.{value_nodes}
 use Rattle.plan_ir.specs.schema_types.Sites.{arguments_at, arguments_nodes, directives_at}

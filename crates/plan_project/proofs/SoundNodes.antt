@@ -17,10 +17,10 @@ use Rattle.plan_ir.specs.Substitution.{Arguments, Scope, arguments_at_spread, ar
 use Rattle.plan_project.proofs.SchemaNames.{PossibleNames}
 use Rattle.plan_project.proofs.SoundTrees.{SoundArguments, SoundDirective, SoundDirectives, SoundMembers, SoundSelections, SoundSet, SoundValue, SoundValues}
 use Rattle.plan_project.proofs.SpreadChains.{AllSpreads, Bounded, all_found, spreads_map}
-use Rattle.plan_read.proofs.plan_text_laws.OperationRead.{all-filter}
-use Rattle.plan_read.specs.plan_text.Documents.{SomeNode}
-use Rattle.plan_ir.specs.relay_dirs.Connections.{connection_among, value_of_name}
-use Rattle.plan_ir.specs.relay_dirs.Locals.{Local, locals_of}
+use Rattle.plan_text.proofs.OperationRead.{all-filter}
+use Rattle.plan_text.specs.Documents.{SomeNode}
+use Rattle.plan_ir.specs.relay_marks.Connections.{connection_among, value_of_name}
+use Rattle.plan_ir.specs.relay_marks.Locals.{Local, locals_of}
 use Rattle.plan_ir.specs.schema_tables.Types.{Text, Defs, base_of, has_id, possible}
 use Rattle.plan_ir.specs.schema_trees.Located.{directives_nodes}
 use Rattle.plan_ir.specs.schema_types.NameRules.{fragment_named}

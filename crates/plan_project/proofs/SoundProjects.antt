@@ -10,7 +10,7 @@ use Rattle.plan_project.proofs.ReadTrees.{ReadAt, ReadFragment, ReadOperation}
 use Rattle.plan_project.proofs.SoundLocals.{locals_sound}
 use Rattle.plan_project.proofs.SoundNodes.{SoundFragment}
 use Rattle.plan_project.proofs.SpreadChains.{HasSites, Meets, names_of, none_each}
-use Rattle.plan_ir.specs.relay_dirs.RelayRules.{document_rules, relay_rules}
+use Rattle.relay_dirs.specs.relay_rules.RelayRules.{document_rules, relay_rules}
 use Rattle.plan_ir.specs.schema_rules.declared.fault.Rule.{Rule}
 use Rattle.plan_ir.specs.schema_rules.declared.fault.Rule.TheVariants as R
 use Rattle.plan_ir.specs.schema_tables.Types.{Text, Defs}

@@ -16,7 +16,8 @@ use Rattle.text_places.specs.gql_parse.Trees.{IsDocument}
 use Rattle.plan_ir.specs.gql_syntax.Formed.{FormedArguments, FormedDirectives, FormedMembers, FormedValue, FormedValues}
 use Rattle.plan_ir.specs.gql_syntax.Texts.{nesting_limit}
 use Rattle.plan_ir.specs.gql_syntax.Words.{IsName}
-use Rattle.plan_read.specs.plan_expand.Answers.{definitions_in, project, whole_in, whole_is}
+use Rattle.plan_read.specs.plan_expand.Answers.{whole_in, whole_is}
+use Rattle.plan_ir.specs.Projects.{definitions_in, project}
 use Rattle.plan_ir.specs.Expansion.{Project, Whole, argument_pairs, directive_trees, is_printed, name_of_located_or, operation_from, operation_named, variable_trees, whole_operation}
 use Rattle.plan_ir.specs.Nodes.{Nodes, end, field, inline}
 use Rattle.plan_ir.specs.OperationText.{operation_text}
@@ -35,10 +36,10 @@ use Rattle.plan_project.proofs.Utf8Texts.{operation_utf8}
 use Rattle.plan_project.specs.Expansions.{name_node, node_of, size_rules, text_named, too_deep, too_many, whole_at, whole_of_operation}
 use Rattle.plan_project.specs.Projects.{IsAccepted, IsAcceptedProject}
 use Rattle.plan_project.specs.TextLaws.{SaysNamed, TextsAreDocuments}
-use Rattle.plan_read.proofs.plan_text_laws.PrintedForms.{is_one_document}
-use Rattle.plan_read.proofs.plan_text_laws.Saying.{text_says_the_operation}
-use Rattle.plan_read.specs.plan_text.Documents.{FormedExpanded, FormedNodes, SomeNode, document_of}
-use Rattle.plan_read.specs.plan_text.Printed.{printed_operation}
+use Rattle.plan_text.proofs.PrintedForms.{is_one_document}
+use Rattle.plan_text.proofs.Saying.{text_says_the_operation}
+use Rattle.plan_text.specs.Documents.{FormedExpanded, FormedNodes, SomeNode, document_of}
+use Rattle.plan_read.specs.plan_collect.Printed.{printed_operation}
 use Rattle.plan_ir.specs.schema_rules.declared.fault.Rule.{Rule}
 use Rattle.plan_ir.specs.schema_rules.declared.fault.Rule.TheVariants as R
 use Rattle.plan_ir.specs.schema_tables.Types.{Text, Defs, root}

@@ -13,7 +13,7 @@ use Rattle.plan_ir.specs.Expansion.{is_named, operation_named}
 use Rattle.plan_project.proofs.Looking.{found-append, found-at, found_in_documents, in_document, or_else-assoc}
 use Rattle.plan_project.specs.Filling.{AreFragments, AreOperations, first_of, fragment_under, operation_by, operation_under, or_else, trees_in}
 use Rattle.plan_project.specs.Lookups.{Agree, fragment_in, operation_in}
-use Rattle.plan_ir.specs.relay_dirs.Locals.{as_list, defines_locals, local_at, local_in_tree, local_of, locals_of, locals_of_tree}
+use Rattle.plan_ir.specs.relay_marks.Locals.{as_list, defines_locals, local_at, local_in_tree, local_of, locals_of, locals_of_tree}
 use Rattle.plan_ir.specs.schema_tables.Types.{Text, Defs}
 use Rattle.plan_ir.specs.schema_trees.Located.{value_nodes}
 use Rattle.plan_ir.specs.schema_types.DocumentRules.{trees_of}

@@ -35,7 +35,7 @@ use Rattle.plan_ir.specs.declared.expanded.Expanded.{Expanded}
 use Rattle.plan_project.proofs.SoundNodes.{SoundNodes}
 use Rattle.plan_project.proofs.SoundTrees.{SoundArguments, SoundDefault, SoundDirectives, SoundMembers, SoundValue, SoundValues, SoundVariable}
 use Rattle.plan_project.proofs.Utf8Strings.{cut_at, no_text, one_ascii, put_ascii}
-use Rattle.plan_read.proofs.plan_text_laws.OperationRead.{all-filter}
+use Rattle.plan_text.proofs.OperationRead.{all-filter}
 use Rattle.plan_ir.specs.schema_tables.Types.{Text}
 
 -- ---- names and numbers

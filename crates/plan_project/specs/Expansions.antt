@@ -9,13 +9,14 @@ use Rattle.plan_ir.specs.gql_ast.declared.document.Kind.{Kind}
 use Rattle.plan_ir.specs.gql_ast.declared.place.FilePlace.{FilePlace}
 use Rattle.plan_ir.specs.gql_ast.declared.place.Placed.{Placed}
 use Rattle.plan_ir.specs.gql_graph.Rules.{each}
-use Rattle.plan_read.specs.plan_expand.Answers.{definitions_in, whole_in, whole_is}
+use Rattle.plan_read.specs.plan_expand.Answers.{whole_in, whole_is}
+use Rattle.plan_ir.specs.Projects.{definitions_in}
 use Rattle.plan_ir.specs.Expansion.{Whole}
 use Rattle.plan_ir.specs.OperationText.{operation_text}
 use Rattle.plan_ir.specs.Sizes.{has_too_many_nodes, is_too_deep}
 use Rattle.plan_ir.specs.declared.form.Form.TheVariants as F
-use Rattle.plan_read.specs.plan_text.Lines.{line_of}
-use Rattle.plan_read.specs.plan_text.declared.artifact.Artifact.TheVariants as A
+use Rattle.plan_text.specs.Lines.{line_of}
+use Rattle.plan_text.specs.declared.artifact.Artifact.TheVariants as A
 use Rattle.plan_ir.specs.schema_rules.declared.fault.Rule.TheVariants as R
 use Rattle.plan_ir.specs.schema_tables.Types.{Text, Defs}
 use Rattle.plan_ir.specs.schema_trees.Located.{Located}

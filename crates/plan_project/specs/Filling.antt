@@ -11,8 +11,8 @@ use Rattle.plan_project.specs.Lookups.{Agree, IsOperation, fragment_in, operatio
 use Rattle.plan_project.specs.declared.operations.Compiled.{Compiled}
 use Rattle.plan_project.specs.declared.operations.CompiledFragment.{CompiledFragment}
 use Rattle.plan_read.specs.Plans.{reader_in}
-use Rattle.plan_ir.specs.relay_dirs.Locals.{locals_of_tree}
-use Rattle.plan_ir.specs.relay_dirs.View.{directives_of_all, local_view}
+use Rattle.plan_ir.specs.relay_marks.Locals.{locals_of_tree}
+use Rattle.plan_ir.specs.relay_marks.View.{directives_of_all, local_view}
 use Rattle.plan_ir.specs.schema_tables.Types.{Text, Defs, is_composite, possible}
 use Rattle.plan_ir.specs.schema_types.Sites.{OperationAt}
 

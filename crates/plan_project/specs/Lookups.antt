@@ -4,7 +4,7 @@ use Rattle.plan_ir.specs.gql_ast.declared.document.Document.{Document}
 use Rattle.plan_ir.specs.gql_ast.declared.place.Placed.{Placed}
 use Rattle.plan_ir.specs.gql_plain.Order.{has_text}
 use Rattle.plan_read.specs.plan_build.NormalTypes.{FitsSchema, has_pages, is_typed}
-use Rattle.plan_read.specs.plan_expand.Answers.{definitions_in, project}
+use Rattle.plan_ir.specs.Projects.{definitions_in, project}
 use Rattle.plan_ir.specs.Expansion.{name_or, operation_named, variable_trees}
 use Rattle.plan_ir.specs.NormalMeaning.{is_formed, plan_says}
 use Rattle.plan_ir.specs.NormalReach.{plan_reaches}
@@ -13,8 +13,8 @@ use Rattle.plan_project.specs.declared.operations.Compiled.{Compiled}
 use Rattle.plan_project.specs.declared.operations.CompiledFragment.{CompiledFragment}
 use Rattle.plan_read.specs.Laws.{AreLocals}
 use Rattle.plan_read.specs.ReaderTypes as reader_types
-use Rattle.plan_ir.specs.relay_dirs.Locals.{locals_of}
-use Rattle.plan_ir.specs.relay_dirs.View.{directives_of_all, local_view}
+use Rattle.plan_ir.specs.relay_marks.Locals.{locals_of}
+use Rattle.plan_ir.specs.relay_marks.View.{directives_of_all, local_view}
 use Rattle.plan_read.specs.relay_model.Reaches.{operation_reaches}
 use Rattle.plan_read.specs.relay_model.Readings.{fragment_reads, no_place, operation_reads, with_marked}
 use Rattle.plan_read.specs.relay_model.Responses.{operation_says}

@@ -17,7 +17,7 @@ use Rattle.plan_ir.specs.gql_graph.Rules.{first_broken}
 use Rattle.plan_project.specs.Expansions.{merge_fault, size_rules}
 use Rattle.plan_project.specs.Faults.{fault_at, IsFound}
 use Rattle.plan_project.specs.declared.fault.ProjectFault.{ProjectFault}
-use Rattle.plan_ir.specs.relay_dirs.RelayRules.{document_rules}
+use Rattle.relay_dirs.specs.relay_rules.RelayRules.{document_rules}
 use Rattle.plan_ir.specs.schema_rules.Checked.{IsSound, first_fault}
 use Rattle.plan_ir.specs.schema_types.DocumentRules.{Rules, trees_of, places_of, Meet}
 use Rattle.plan_ir.specs.schema_types.Sites.{DefinitionAt, all_definitions}

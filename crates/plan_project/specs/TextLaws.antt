@@ -3,14 +3,15 @@ use Rattle.std.specs.Prelude.{◌≡◌, ℕ, List, Option, None, Some}
 use Rattle.plan_ir.specs.gql_ast.declared.document.Document.{Document}
 use Rattle.plan_ir.specs.gql_ast.declared.place.Placed.{Placed}
 use Rattle.text_places.specs.gql_parse.Trees.{IsDocument}
-use Rattle.plan_read.specs.plan_expand.Answers.{definitions_in, project, whole_in}
+use Rattle.plan_read.specs.plan_expand.Answers.{whole_in}
+use Rattle.plan_ir.specs.Projects.{definitions_in, project}
 use Rattle.plan_ir.specs.Expansion.{Whole, operation_named}
 use Rattle.plan_ir.specs.OperationText.{operation_text}
 use Rattle.plan_ir.specs.declared.form.Form.TheVariants as F
 use Rattle.plan_project.specs.Projects.{IsAccepted}
-use Rattle.plan_read.specs.plan_text.Documents.{document_of}
-use Rattle.plan_read.specs.plan_text.Printed.{printed_operation}
-use Rattle.plan_read.specs.plan_text.Saying.{SaysTheOperation}
+use Rattle.plan_text.specs.Documents.{document_of}
+use Rattle.plan_read.specs.plan_collect.Printed.{printed_operation}
+use Rattle.plan_text.specs.Saying.{SaysTheOperation}
 use Rattle.plan_ir.specs.schema_tables.Types.{Text, Defs}
 use Rattle.plan_ir.specs.schema_types.NameRules.{operations}
 use Rattle.plan_ir.specs.schema_types.Sites.{OperationAt}

@@ -1,10 +1,10 @@
 //! The rules on documents, in their order.
 ghost use Rattle.std.specs.Prelude.{◌≡◌, None, OnOk, IfErr};
-ghost use Rattle.plan_ir.specs.doc_sites.Definitions.{AreIn};
+ghost use Rattle.plan_read.specs.doc_sites.Definitions.{AreIn};
 ghost use Rattle.plan_ir.specs.gql_graph.Rules.{first_broken};
 ghost use Rattle.plan_project.specs.Expansions.{merge_fault, size_rules};
 ghost use Rattle.plan_project.specs.Noting.{IsFaultOfDocuments};
-ghost use Rattle.plan_ir.specs.relay_dirs.RelayRules.{document_rules};
+ghost use Rattle.relay_dirs.specs.relay_rules.RelayRules.{document_rules};
 ghost use Rattle.plan_ir.specs.schema_types.DocumentRules.{Meet, AreFaulty};
 
 use crate::expansions::check_expansions;
@@ -12,9 +12,9 @@ use crate::fault::DocumentsFault;
 use doc_args::check_args_of;
 use doc_fields::check_fields_of;
 use doc_names::check_names_of;
-use plan_ir::{
-    DefinitionAt, Documents, NoMemory, RuleFault, Schema, check_relay_of, definitions_at,
-};
+use plan_ir::{Documents, NoMemory, RuleFault, Schema};
+use plan_read::{DefinitionAt, definitions_at};
+use relay_dirs::check_relay_of;
 use std::alloc::Global;
 
 /// Whether documents meet the rules V1 to V16 (GraphQL, October 2021, section 5), V17 to V22 on the

@@ -3,8 +3,8 @@
 //! section 5.3.2).
 ghost use Rattle.std.specs.Prelude.{◌≡◌, ◌∷◌, [], None, IfErr, IfOk, OnOk};
 ghost use Rattle.plan_read.specs.doc_merge.Faults.{first_fault};
-ghost use Rattle.plan_ir.specs.doc_sites.Definitions.{AreIn};
-ghost use Rattle.plan_ir.specs.doc_sites.SitesView.{definition_of};
+ghost use Rattle.plan_read.specs.doc_sites.Definitions.{AreIn};
+ghost use Rattle.plan_read.specs.doc_sites.SitesView.{definition_of};
 ghost use Rattle.plan_ir.specs.gql_graph.Rules.{first_broken};
 ghost use Rattle.plan_read.specs.plan_expand.Answers.{whole_in};
 ghost use Rattle.plan_read.specs.plan_expand.Preparing.{IsReady};
@@ -14,8 +14,8 @@ ghost use Rattle.plan_project.specs.Noting.{HasNoted, HasNotedAll, HasNotedAt, H
 use crate::fault::DocumentsFault;
 use crate::least_faults::LeastFaults;
 use plan_ir::located::NameAt;
-use plan_ir::{DefinitionAt, Documents, Expanded, Name, NoMemory, Schema};
-use plan_read::{ExpandFault, Expander, Form, MergeFault, check_merge};
+use plan_ir::{Documents, Expanded, Name, NoMemory, Schema};
+use plan_read::{DefinitionAt, ExpandFault, Expander, Form, MergeFault, check_merge};
 use std::alloc::Global;
 
 /// Whether the operations and the fragments of documents that meet V1 to V22 meet the rules on what

@@ -27,4 +27,5 @@ pub use fault::ProjectFault;
 pub use file::ProjectFile;
 pub use operations::{Compiled, CompiledFragment};
 pub use project::Project;
+pub use relay_dirs::check_relay;
 pub use text_places::{parse_document, parse_schema};

@@ -4,9 +4,9 @@ ghost use Rattle.plan_project.specs.Planning.{CanPlan};
 ghost use Rattle.plan_project.specs.Projects.{IsAcceptedProject};
 ghost use Rattle.plan_read.specs.Plans.{reader_in};
 
-use plan_ir::{Documents, Form, Name, NoMemory, Schema, definitions_at};
+use plan_ir::{Documents, Form, Name, NoMemory, Schema};
 use plan_order::KeptReader;
-use plan_read::{Expander, Readers};
+use plan_read::{Expander, Readers, definitions_at};
 use std::alloc::Global;
 use std::rc::Rc;
 

@@ -1,6 +1,6 @@
 //! The artifacts of an accepted project that stands ready to be expanded: lines and texts.
 ghost use Rattle.std.specs.Prelude.{◌≡◌, [], false, get_or, length, option_map, IfOk};
-ghost use Rattle.plan_ir.specs.doc_sites.SitesView.{definition_of};
+ghost use Rattle.plan_read.specs.doc_sites.SitesView.{definition_of};
 ghost use Rattle.plan_read.specs.plan_expand.Answers.{whole_in, whole_is};
 ghost use Rattle.plan_read.specs.plan_expand.Preparing.{IsReady};
 ghost use Rattle.plan_ir.specs.Expansion.{Whole};
@@ -10,8 +10,9 @@ ghost use Rattle.plan_project.specs.Expansions.{IsWithinLimits, fragment_lines, 
 
 use crate::project::Project;
 use plan_ir::located::NameAt;
-use plan_ir::{DefinitionAt, Expanded, FragmentAt, Kind, Name, NoMemory, Words, definitions_at};
-use plan_read::{Artifact, ExpandFault, Expander, Form, artifact_line, operation_text};
+use plan_ir::{Expanded, Kind, Name, NoMemory, Words};
+use plan_read::{DefinitionAt, ExpandFault, Expander, Form, FragmentAt, definitions_at};
+use plan_text::{Artifact, artifact_line, operation_text};
 use std::alloc::Global;
 use std::marker::Model;
 
@@ -26,7 +27,7 @@ pub(crate) struct ReadyProject<'p> {
 impl<'p> Model for ReadyProject<'p> {
     ghost use Rattle.std.specs.Prelude.{◌≡◌, List, None};
     ghost use Rattle.std.specs.Coded.{coded×, coded_list};
-    ghost use Rattle.plan_ir.specs.doc_sites.Definitions.{AreIn};
+    ghost use Rattle.plan_read.specs.doc_sites.Definitions.{AreIn};
     ghost use Rattle.plan_ir.specs.gql_ast.contracts.document.Document as document_row;
     ghost use Rattle.plan_ir.specs.gql_ast.contracts.place.Placed as placed_row;
     ghost use Rattle.plan_ir.specs.gql_ast.contracts.schema.SchemaDef as definition_row;

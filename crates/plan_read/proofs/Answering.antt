@@ -2,7 +2,7 @@
 use Rattle.std.proofs.Common.{◌≡◌, Bool, true, true≢false, List, [], ◌∷◌, Option, Some, None, option_map, IfSome, ap, sym, ◌∙◌}
 use Rattle.std.specs.Prelude.{length, is_some}
 use Rattle.plan_ir.specs.gql_ast.Sels.{Sels}
-use Rattle.plan_expand.specs.Answers.{definitions_in, project}
+use Rattle.plan_ir.specs.Projects.{definitions_in, project}
 use Rattle.plan_ir.specs.Expansion.{Project, name_or, operation_named}
 use Rattle.plan_ir.specs.Reader.{Reader}
 use Rattle.plan_ir.specs.Substitution.{Scope, operation_scope, scope_of_own}

@@ -23,7 +23,7 @@ use Rattle.plan_ir.specs.Substitution.{Arguments, Scope, substitute_in}
 use Rattle.plan_ir.specs.declared.guard.Condition.{Condition}
 use Rattle.plan_read.specs.Reading.{Find, Ready, entered_ready, entering, reading, ready_scope, spread_ready}
 use Rattle.plan_read.specs.Steps.{behind, class_steps, field_steps, guarded_classes, inline_steps, on_steps, pointer_arguments, pointer_step, steps_with, target_step}
-use Rattle.plan_ir.specs.relay_dirs.Connections.{connection_among}
+use Rattle.plan_ir.specs.relay_marks.Connections.{connection_among}
 use Rattle.plan_build.specs.relay_model.Collection.{is_open}
 use Rattle.plan_ir.specs.schema_tables.Types.{Text, Defs, base_of, is_composite, possible}
 use Rattle.plan_ir.specs.schema_types.Sites.{below, condition_or, field_type}

@@ -10,8 +10,8 @@ use Rattle.plan_build.proofs.SuitedNodes.{fragment_holds}
 use Rattle.plan_build.specs.Laws.{MeetsRules, definitions}
 use Rattle.plan_read.specs.Constants.{HaveConstants, IsConstant}
 use Rattle.plan_read.specs.Laws.{LocalsOfDocumentsAreConstant}
-use Rattle.plan_ir.specs.relay_dirs.Locals.{Local, as_list, defines_locals, local_at, local_of, locals_at, locals_of}
-use Rattle.plan_ir.specs.relay_dirs.RelayRules.{document_rules, default_fits, directives_of_fragment, is_good_local, local_wrong, locals_wrong, locals_wrong_in, relay_rules}
+use Rattle.plan_ir.specs.relay_marks.Locals.{Local, as_list, defines_locals, local_at, local_of, locals_at, locals_of}
+use Rattle.plan_build.specs.relay_rules.RelayRules.{document_rules, default_fits, directives_of_fragment, is_good_local, local_wrong, locals_wrong, locals_wrong_in, relay_rules}
 use Rattle.plan_ir.specs.schema_rules.declared.fault.Rule.{Rule}
 use Rattle.plan_ir.specs.schema_tables.Fits.{literal_fits}
 use Rattle.plan_ir.specs.schema_tables.Types.{Defs}
@@ -19,7 +19,7 @@ use Rattle.plan_ir.specs.schema_types.ArgumentRules.{is_input_type}
 use Rattle.plan_ir.specs.schema_types.DocumentRules.{argument_rules, field_rules, name_rules}
 use Rattle.plan_ir.specs.schema_types.NameRules.{fragments}
 use Rattle.plan_ir.specs.schema_types.Sites.{ArgumentAt, DefinitionAt, DirectiveAt, FragmentAt, fragment, operation}
-use Rattle.plan_ir.specs.schema_values.Fittings.{is_constant}
+use Rattle.plan_ir.specs.constant_values.Fittings.{is_constant}
 
 module _ (defs : Defs) where
   default_constant : (l : Local) → default_fits defs l.of l.default ≡ true → IsConstant l.default

@@ -18,11 +18,11 @@ use Rattle.plan_read.proofs.KnownParts.{Entered, Known, gather, gather_in, gathe
 use Rattle.plan_read.proofs.Zips.{zip_kept, zip_none, zip_where}
 use Rattle.plan_read.specs.Constants.{AreConstant, HaveConstants, IsConstant}
 use Rattle.plan_read.specs.Steps.{pointer_arguments}
-use Rattle.plan_build.proofs.plan_text_laws.Collects.{not_printed}
-use Rattle.plan_build.proofs.plan_text_laws.Evaluating.{Means, means_inside, value-substituted, value_of_name-substituted}
-use Rattle.plan_build.specs.plan_text.Collecting.{applies, environment_inside, is_left_out, local_value, with_locals}
-use Rattle.plan_ir.specs.relay_dirs.Connections.{connection_among, value_of_name}
-use Rattle.plan_ir.specs.relay_dirs.Locals.{Local, locals_of}
+use Rattle.plan_build.proofs.plan_collect_laws.Collects.{not_printed}
+use Rattle.plan_build.proofs.plan_collect_laws.Evaluating.{Means, means_inside, value-substituted, value_of_name-substituted}
+use Rattle.plan_build.specs.plan_collect.Collecting.{applies, environment_inside, is_left_out, local_value, with_locals}
+use Rattle.plan_ir.specs.relay_marks.Connections.{connection_among, value_of_name}
+use Rattle.plan_ir.specs.relay_marks.Locals.{Local, locals_of}
 use Rattle.plan_build.specs.relay_model.Collection.{Part, ask_of, collect, collect_in, collect_with, connection_asked, enter_where, form_on, is_inline, is_open, scope_inside, spread_items}
 use Rattle.plan_build.specs.relay_model.Readings.{masked_setting}
 use Rattle.plan_ir.specs.schema_tables.Types.{Text}
@@ -30,7 +30,7 @@ use Rattle.plan_ir.specs.schema_trees.Located.{directives_nodes}
 use Rattle.plan_ir.specs.schema_types.Environments.{Values, evaluation, items_evaluated, pairs_evaluated, with_new_pair, with_pair}
 use Rattle.plan_ir.specs.schema_types.NameRules.{fragment_named}
 use Rattle.plan_ir.specs.schema_types.Sites.{FragmentAt, arguments_nodes, condition_or, head_nodes, optional_name_nodes, selections_nodes}
-use Rattle.plan_ir.proofs.schema_values_laws.ConstantValues.{constant_value}
+use Rattle.plan_ir.proofs.constant_values_laws.ConstantValues.{constant_value}
 use Rattle.plan_ir.proofs.store_model_laws.ItemReads.{GivesItems}
 use Rattle.plan_ir.proofs.store_model_laws.SameItems.{AlikeItem, zip_append, zip_cond, zip_either}
 use Rattle.plan_ir.specs.store_model.Items.{Item, asked, pointed}

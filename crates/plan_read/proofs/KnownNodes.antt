@@ -29,10 +29,10 @@ use Rattle.plan_ir.specs.Substitution.{Arguments, Scope, scope_at_spread, substi
 use Rattle.plan_read.proofs.KnownParts.{Entered, Known, as_nodes, gather, gather_in, gather_with, known_at, known_below, known_field, known_inside, known_pointer, known_spread, not_entered, types_inside}
 use Rattle.plan_read.proofs.KnownSteps.{nodes_inside, suited_before}
 use Rattle.plan_read.proofs.ReaderItems.{differ_inside, has_inside}
-use Rattle.plan_build.proofs.plan_text_laws.Collects.{nodes_append-end}
-use Rattle.plan_build.proofs.plan_text_laws.Evaluating.{Means, means_inside}
-use Rattle.plan_build.specs.plan_text.Collecting.{applies, environment_inside, is_left_out}
-use Rattle.plan_ir.specs.relay_dirs.Connections.{connection_among}
+use Rattle.plan_build.proofs.plan_collect_laws.Collects.{nodes_append-end}
+use Rattle.plan_build.proofs.plan_collect_laws.Evaluating.{Means, means_inside}
+use Rattle.plan_build.specs.plan_collect.Collecting.{applies, environment_inside, is_left_out}
+use Rattle.plan_ir.specs.relay_marks.Connections.{connection_among}
 use Rattle.plan_build.specs.relay_model.Collection.{is_open}
 use Rattle.plan_ir.specs.schema_rules.Rules.{is_object}
 use Rattle.plan_ir.specs.schema_tables.Types.{Text, Defs, base_of, possible}

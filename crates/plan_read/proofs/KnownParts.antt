@@ -14,9 +14,9 @@ use Rattle.plan_ir.specs.Nodes.{Nodes, end, nodes_append}
 use Rattle.plan_ir.specs.ReaderMeaning.{ReaderPart, scope_in}
 use Rattle.plan_ir.specs.Substitution.{Arguments, Scope, scope_at_spread, substitute_in}
 use Rattle.plan_read.specs.Steps.{pointer_arguments, reader_steps}
-use Rattle.plan_build.specs.plan_text.Collecting.{applies, environment_inside, is_left_out}
-use Rattle.plan_ir.specs.relay_dirs.Connections.{connection_among}
-use Rattle.plan_ir.specs.relay_dirs.Locals.{locals_of}
+use Rattle.plan_build.specs.plan_collect.Collecting.{applies, environment_inside, is_left_out}
+use Rattle.plan_ir.specs.relay_marks.Connections.{connection_among}
+use Rattle.plan_ir.specs.relay_marks.Locals.{locals_of}
 use Rattle.plan_build.specs.relay_model.Collection.{Part, form_on, is_inline, is_open}
 use Rattle.plan_ir.specs.schema_tables.Types.{Text, Defs, base_of, possible}
 use Rattle.plan_ir.specs.schema_trees.Located.{directives_nodes}

@@ -25,11 +25,11 @@ use Rattle.plan_read.proofs.KnownParts.{Entered, Known, as_plan, gather, gather_
 use Rattle.plan_read.proofs.ReaderItems.{below_form, below_types, class_items, conditional_items, differ_inside, has_inside, inline_items, item_of_form, items_append, target_items}
 use Rattle.plan_read.proofs.Zips.{zip_as, zip_if, zip_kept, zip_none}
 use Rattle.plan_read.specs.Steps.{behind, class_steps, entered_steps, field_steps, inline_steps, pointer_arguments, pointer_step, reader_steps, spread_steps, steps_with, target_step}
-use Rattle.plan_build.proofs.plan_text_laws.Collects.{not_printed}
-use Rattle.plan_build.proofs.plan_text_laws.Evaluating.{Means, means_inside}
-use Rattle.plan_build.specs.plan_text.Collecting.{applies, environment_inside, is_left_out}
-use Rattle.plan_ir.specs.relay_dirs.Connections.{connection_among}
-use Rattle.plan_ir.specs.relay_dirs.Locals.{locals_of}
+use Rattle.plan_build.proofs.plan_collect_laws.Collects.{not_printed}
+use Rattle.plan_build.proofs.plan_collect_laws.Evaluating.{Means, means_inside}
+use Rattle.plan_build.specs.plan_collect.Collecting.{applies, environment_inside, is_left_out}
+use Rattle.plan_ir.specs.relay_marks.Connections.{connection_among}
+use Rattle.plan_ir.specs.relay_marks.Locals.{locals_of}
 use Rattle.plan_build.specs.relay_model.Collection.{connection_asked, form_on, is_inline, is_open}
 use Rattle.plan_ir.specs.Additions.{type_or}
 use Rattle.plan_ir.specs.schema_tables.Types.{Text, Defs, base_of, possible}

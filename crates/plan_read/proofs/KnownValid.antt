@@ -12,7 +12,7 @@ use Rattle.plan_build.proofs.StepLaws.{AreSound}
 use Rattle.plan_ir.specs.Expansion.{Project}
 use Rattle.plan_read.proofs.KnownNodes.{Covers, Stands, items_covered, seen_nodes}
 use Rattle.plan_read.proofs.KnownParts.{Known, as_nodes, gather}
-use Rattle.plan_build.proofs.plan_text_laws.Evaluating.{Means}
+use Rattle.plan_build.proofs.plan_collect_laws.Evaluating.{Means}
 use Rattle.plan_ir.specs.schema_tables.Types.{Text}
 use Rattle.plan_ir.specs.schema_types.Environments.{Values}
 use Rattle.plan_ir.proofs.store_model_laws.SameItems.{Holds}

@@ -1,6 +1,6 @@
 pub use Rattle.plan_build.proofs.doc_merge_laws
 pub use Rattle.plan_build.proofs as plan_build_laws
-pub use Rattle.plan_build.proofs.plan_text_laws
+pub use Rattle.plan_build.proofs.plan_collect_laws
 mod Tables
 pub mod CodeSteps
 pub mod Depths

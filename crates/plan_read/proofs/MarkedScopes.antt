@@ -7,8 +7,8 @@ use Rattle.plan_ir.specs.gql_plain.Order.{member_at}
 use Rattle.plan_ir.specs.gql_plain.Tree.{Tree}
 use Rattle.plan_ir.specs.Substitution.{default_named, mark_local, scope_of_own}
 use Rattle.plan_read.specs.Laws.{AreLocals}
-use Rattle.plan_build.proofs.plan_text_laws.Evaluating.{Means, found-with_pair}
-use Rattle.plan_ir.specs.relay_dirs.Locals.{locals_of}
+use Rattle.plan_build.proofs.plan_collect_laws.Evaluating.{Means, found-with_pair}
+use Rattle.plan_ir.specs.relay_marks.Locals.{locals_of}
 use Rattle.plan_build.specs.relay_model.Readings.{shadowed_by, with_marked}
 use Rattle.plan_ir.specs.schema_tables.Types.{Text}
 use Rattle.plan_ir.specs.schema_types.Environments.{Values, evaluation, or_null}

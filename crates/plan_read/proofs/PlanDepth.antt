@@ -13,8 +13,8 @@ use Rattle.plan_ir.specs.ReaderMeaning.{records_below}
 use Rattle.plan_ir.specs.Substitution.{Arguments, Scope, scope_at_spread, substitute_in}
 use Rattle.plan_ir.specs.declared.guard.Condition.{Condition}
 use Rattle.plan_read.specs.Steps.{behind, class_steps, entered_steps, field_steps, guarded_classes, inline_steps, leaf_step, object_step, on_steps, pointer_arguments, pointer_step, reader_steps, spread_steps, steps_with, target_step}
-use Rattle.plan_ir.specs.relay_dirs.Connections.{connection_among}
-use Rattle.plan_ir.specs.relay_dirs.Locals.{locals_of}
+use Rattle.plan_ir.specs.relay_marks.Connections.{connection_among}
+use Rattle.plan_ir.specs.relay_marks.Locals.{locals_of}
 use Rattle.plan_build.specs.relay_model.Collection.{is_inline, is_open}
 use Rattle.plan_build.specs.relay_model.Readings.{depth_inside, depth_of, depth_with}
 use Rattle.plan_ir.specs.Additions.{type_or}

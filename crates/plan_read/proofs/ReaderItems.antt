@@ -20,7 +20,7 @@ use Rattle.plan_ir.specs.ReaderMeaning.{ReaderPart, collect_reading, field_item,
 use Rattle.plan_ir.specs.declared.guard.Condition.{Condition}
 use Rattle.plan_read.proofs.KnownParts.{types_inside}
 use Rattle.plan_read.specs.Steps.{behind, class_steps, guarded_classes, inline_steps, on_steps, target_step}
-use Rattle.plan_build.specs.plan_text.Collecting.{applies, is_left_out}
+use Rattle.plan_build.specs.plan_collect.Collecting.{applies, is_left_out}
 use Rattle.plan_build.specs.relay_model.Collection.{below_type, connection_asked}
 use Rattle.plan_ir.specs.schema_tables.Types.{Text, Defs, is_composite, possible}
 use Rattle.plan_ir.specs.schema_types.Environments.{Values, arguments_in_environment}

@@ -30,8 +30,8 @@ use Rattle.plan_read.proofs.PlanDepth.{plan_deep}
 use Rattle.plan_read.proofs.SuitedFragments.{fragments_are_suited}
 use Rattle.plan_read.specs.Constants.{AreConstant}
 use Rattle.plan_read.specs.Laws.{AreLocals, ReadersMeanFragments, ReadersMeanOperations, ReadersMeanSuitedFragments, ReadersMeanSuitedOperations}
-use Rattle.plan_build.proofs.plan_text_laws.Collects.{nodes_append-end}
-use Rattle.plan_build.proofs.plan_text_laws.Evaluating.{Means}
+use Rattle.plan_build.proofs.plan_collect_laws.Collects.{nodes_append-end}
+use Rattle.plan_build.proofs.plan_collect_laws.Evaluating.{Means}
 use Rattle.plan_build.specs.relay_model.Collection.{collect, part_of}
 use Rattle.plan_build.specs.relay_model.Readings.{depth_of, fragment_part, masked_setting, part_reads, with_marked}
 use Rattle.plan_ir.specs.schema_rules.Checked.{IsSound}

@@ -2,8 +2,8 @@
 use Rattle.std.proofs.Common.{◌≡◌, ℕ, ◌+◌, ◌<◌, ◌≤◌, Bool, true, false, true≢false, cond, List, [], ◌∷◌, map, drop, length, get_or, Option, Some, None, option_map, is_some, bytes_eq, refl, ap, sym, ◌∙◌}
 use Rattle.std.proofs.lemmas.List.{drop_all, drop_more}
 use Rattle.std.specs.Option.{option_or}
-use Rattle.plan_ir.specs.doc_sites.SitesView.{definition_of}
-use Rattle.plan_ir.specs.doc_sites.declared.site.DefinitionAt as Definition
+use Rattle.plan_expand.specs.doc_sites.SitesView.{definition_of}
+use Rattle.plan_expand.specs.doc_sites.declared.site.DefinitionAt as Definition
 use Rattle.plan_ir.proofs.gql_graph_laws.TextSteps.{same_text}
 use Rattle.plan_ir.specs.Expansion.{is_named, operation_named}
 use Rattle.plan_read.specs.OperationsView.{operation_in, operation_under, ready_operation}

@@ -3,7 +3,7 @@
 use Rattle.std.proofs.Common.{◌≡◌, ℕ, zero, suc, Bool, true, false, true≢false, cond, not, ◌&&◌, ◌||◌, List, [], ◌∷◌, codes, Option, Some, None, is_some, bytes_eq, refl, ap, sym, ◌∙◌}
 use Rattle.std.proofs.lemmas.Bool.{and_from, and_parts}
 use Rattle.std.specs.List.{AllByRecursion}
-use Rattle.doc_merge.specs.Gathering.{on_or}
+use Rattle.plan_build.specs.doc_merge.Gathering.{on_or}
 use Rattle.plan_build.proofs.ConnectedNodes.{field_connects}
 use Rattle.plan_build.proofs.Covariance.{object_alone}
 use Rattle.plan_build.proofs.CovarianceLists.{passes_all, passes_each}
@@ -35,8 +35,8 @@ use Rattle.plan_ir.specs.NormalMeaning.{are_names}
 use Rattle.plan_ir.specs.Reader.{Reader, done, typename, leaf, object, guarded, pointer, pointer_inline, reader_append}
 use Rattle.plan_ir.specs.Substitution.{Arguments, Scope, operation_scope, scope_at_spread, scope_of_own, substitute_in}
 use Rattle.plan_ir.specs.declared.guard.Condition.{Condition}
-use Rattle.plan_ir.specs.relay_dirs.Connections.{connection_among}
-use Rattle.plan_ir.specs.relay_dirs.Locals.{locals_of}
+use Rattle.plan_ir.specs.relay_marks.Connections.{connection_among}
+use Rattle.plan_ir.specs.relay_marks.Locals.{locals_of}
 use Rattle.plan_ir.specs.schema_rules.Checked.{IsSound}
 use Rattle.plan_ir.specs.schema_rules.Rules.{is_object}
 use Rattle.plan_ir.specs.schema_tables.Types.{Text, Defs, is_composite, possible, root}

@@ -3,11 +3,11 @@ use Rattle.std.specs.Prelude.{◌≡◌, true, List, Option, None, Some}
 use Rattle.std.specs.List.{AllByRecursion}
 use Rattle.plan_ir.specs.gql_ast.Value.{Val}
 use Rattle.plan_ir.specs.Expansion.{Project}
-use Rattle.plan_ir.specs.relay_dirs.Locals.{Local, locals_of}
+use Rattle.plan_ir.specs.relay_marks.Locals.{Local, locals_of}
 use Rattle.plan_ir.specs.schema_tables.Types.{Text}
 use Rattle.plan_ir.specs.schema_types.NameRules.{fragment_named}
 use Rattle.plan_ir.specs.schema_types.Sites.{FragmentAt}
-use Rattle.plan_ir.specs.schema_values.Fittings.{is_constant}
+use Rattle.plan_ir.specs.constant_values.Fittings.{is_constant}
 
 abbrev pub IsConstant : Option Val → Type 0
 IsConstant None = Unit {0}

@@ -3,7 +3,7 @@ use Rattle.plan_build.specs.Steps.{FieldNode}
 use Rattle.plan_ir.specs.Expansion.{response_key}
 use Rattle.plan_ir.specs.Substitution.{Scope, substitute_in}
 use Rattle.plan_read.specs.declared.fields.Field.{Field}
-use Rattle.plan_ir.specs.relay_dirs.Connections.{connection_among}
+use Rattle.plan_ir.specs.relay_marks.Connections.{connection_among}
 
 -- with local variables replaced
 abbrev pub field_view : Scope → Field → FieldNode

@@ -14,7 +14,7 @@ use Rattle.plan_read.specs.Steps.{fragment_reader, operation_reader}
 use Rattle.plan_ir.specs.Expansion.{Project, name_or, operation_named, project_of, whole_fragment, whole_operation}
 use Rattle.plan_ir.specs.ReaderMeaning.{plan_reads}
 use Rattle.plan_ir.specs.Substitution.{default_named}
-use Rattle.plan_ir.specs.relay_dirs.Locals.{locals_of}
+use Rattle.plan_ir.specs.relay_marks.Locals.{locals_of}
 use Rattle.plan_build.specs.relay_model.Readings.{fragment_reads, operation_reads, with_marked}
 use Rattle.plan_ir.specs.schema_rules.Checked.{IsSound}
 use Rattle.plan_ir.specs.schema_tables.Types.{Text, Defs, possible, root}

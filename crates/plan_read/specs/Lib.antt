@@ -1,7 +1,8 @@
 pub use Rattle.plan_build.specs.doc_merge
+pub use Rattle.plan_expand.specs.doc_sites
 pub use Rattle.plan_build.specs as plan_build
 pub use Rattle.plan_expand.specs as plan_expand
-pub use Rattle.plan_build.specs.plan_text
+pub use Rattle.plan_build.specs.plan_collect
 pub use Rattle.plan_build.specs.relay_model
 pub mod Steps
 pub mod Plans

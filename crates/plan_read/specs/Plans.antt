@@ -2,7 +2,7 @@
 use Rattle.std.specs.Prelude.{List, Option, option_map}
 use Rattle.plan_ir.specs.gql_ast.declared.document.Document.{Document}
 use Rattle.plan_ir.specs.gql_ast.declared.place.Placed.{Placed}
-use Rattle.plan_expand.specs.Answers.{definitions_in, project}
+use Rattle.plan_ir.specs.Projects.{definitions_in, project}
 use Rattle.plan_ir.specs.Expansion.{operation_named}
 use Rattle.plan_ir.specs.Reader.{Reader}
 use Rattle.plan_ir.specs.declared.form.Form.{Form}

@@ -2,7 +2,7 @@
 use Rattle.std.specs.Prelude.{◌≡◌, true, List, IfSome}
 use Rattle.plan_ir.specs.gql_ast.declared.document.Document.{Document}
 use Rattle.plan_ir.specs.gql_ast.declared.place.Placed.{Placed}
-use Rattle.plan_expand.specs.Answers.{definitions_in}
+use Rattle.plan_ir.specs.Projects.{definitions_in}
 use Rattle.plan_ir.specs.declared.form.Form.{Form}
 use Rattle.plan_ir.specs.declared.form.Form.TheVariants as F
 use Rattle.plan_ir.specs.schema_tables.Types.{Text, Defs, is_composite}

@@ -1,7 +1,7 @@
 -- What stands ready to plan reads, and the steps that are made of it.
 use Rattle.std.specs.Prelude.{◌≡◌, List, [], ◌∷◌, Option, Some, length}
 use Rattle.plan_ir.specs.gql_ast.Sels.{Sels}
-use Rattle.plan_expand.specs.Answers.{definitions_in}
+use Rattle.plan_ir.specs.Projects.{definitions_in}
 use Rattle.plan_ir.specs.Expansion.{name_or}
 use Rattle.plan_ir.specs.Reader.{Reader}
 use Rattle.plan_ir.specs.Substitution.{Scope, mark_local, operation_scope}

@@ -9,7 +9,7 @@ use Rattle.plan_ir.specs.Expansion.{printed_conditions}
 use Rattle.plan_ir.specs.Reader.{Reader, done}
 use Rattle.plan_ir.specs.Substitution.{Scope, arguments_at_spread, default_named, value_of_local}
 use Rattle.plan_read.specs.Steps.{inline_steps, pointer_arguments, pointer_step, steps_with}
-use Rattle.plan_ir.specs.relay_dirs.Locals.{Local, locals_of}
+use Rattle.plan_ir.specs.relay_marks.Locals.{Local, locals_of}
 use Rattle.plan_build.specs.relay_model.Collection.{is_open}
 use Rattle.plan_ir.specs.schema_tables.Types.{Text, Defs}
 use Rattle.plan_ir.specs.schema_types.NameRules.{fragment_named}

@@ -7,7 +7,7 @@ use Rattle.plan_expand.specs.LocalsView.{find_default}
 use Rattle.plan_read.specs.Reading.{Find, Ready, ready_fragment}
 use Rattle.plan_read.specs.declared.fragments.Fragments.{Fragments}
 use Rattle.plan_read.specs.declared.fragments.ReadyFragment.{ReadyFragment}
-use Rattle.plan_ir.specs.relay_dirs.View.{local_view}
+use Rattle.plan_ir.specs.relay_marks.View.{local_view}
 use Rattle.plan_ir.specs.schema_tables.Types.{Text}
 use Rattle.plan_ir.specs.schema_types.Sites.{DefinitionAt, operation, fragment}
 

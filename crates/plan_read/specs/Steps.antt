@@ -12,8 +12,8 @@ use Rattle.plan_ir.specs.Expansion.{Project, name_or, printed_conditions, respon
 use Rattle.plan_ir.specs.Reader.{Reader, done, typename, leaf, object, guarded, pointer, pointer_inline, reader_append}
 use Rattle.plan_ir.specs.Substitution.{Arguments, Scope, arguments_at_spread, operation_scope, scope_at_spread, scope_of_own, substitute_in, value_or}
 use Rattle.plan_ir.specs.declared.guard.Condition.{Condition}
-use Rattle.plan_ir.specs.relay_dirs.Connections.{connection_among, value_of_name}
-use Rattle.plan_ir.specs.relay_dirs.Locals.{Local, locals_of}
+use Rattle.plan_ir.specs.relay_marks.Connections.{connection_among, value_of_name}
+use Rattle.plan_ir.specs.relay_marks.Locals.{Local, locals_of}
 use Rattle.plan_build.specs.relay_model.Collection.{is_inline, is_open}
 use Rattle.plan_ir.specs.schema_tables.Types.{Text, Defs, base_of, is_composite, possible, root}
 use Rattle.plan_ir.specs.schema_types.NameRules.{fragment_named}

@@ -4,7 +4,8 @@ ghost use Rattle.plan_read.specs.Plans.{reader_in};
 ghost use Rattle.plan_read.specs.Premises.{IsOnComposite};
 
 use crate::reader::Readers;
-use plan_ir::{Documents, Form, Name, NoMemory, ReaderPlan, Schema, definitions_at};
+use plan_expand::definitions_at;
+use plan_ir::{Documents, Form, Name, NoMemory, ReaderPlan, Schema};
 use std::alloc::Global;
 
 /// The plan by which the operation or the fragment of that name is read (this project's own).

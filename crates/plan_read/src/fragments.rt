@@ -2,7 +2,7 @@
 ghost use Rattle.std.specs.Prelude.{◌≡◌, None, map, option_map, IfOk, OnOk};
 ghost use Rattle.std.specs.Option.{option_or};
 ghost use Rattle.plan_ir.specs.gql_graph.Texts.{Text};
-ghost use Rattle.plan_ir.specs.doc_sites.SitesView.{definition_of, fragment_of};
+ghost use Rattle.plan_expand.specs.doc_sites.SitesView.{definition_of, fragment_of};
 ghost use Rattle.plan_read.specs.Reading.{HasFragments, ready_fragment};
 ghost use Rattle.plan_read.specs.ReadyView.{find_in, ready_in, ready_named, ready_of};
 ghost use Rattle.plan_ir.specs.schema_types.NameRules as rules;
@@ -10,7 +10,8 @@ ghost use Rattle.plan_ir.specs.schema_types.NameRules as rules;
 use crate::masks::is_inline;
 use crate::variables::locals_of;
 use plan_expand::locals::Locals;
-use plan_ir::{DefinitionAt, FragmentAt, NoMemory, Selections, VariableDefs};
+use plan_expand::{DefinitionAt, FragmentAt};
+use plan_ir::{NoMemory, Selections, VariableDefs};
 use std::alloc::Global;
 use std::collections::BTreeMap;
 

@@ -15,10 +15,11 @@ mod types;
 mod variables;
 
 pub use definition::reader_plan;
-pub use plan_build::{
-    Artifact, MergeFault, PlaceFault, artifact_line, check_merge, normal_plan, operation_text,
+pub use plan_build::{MergeFault, PlaceFault, check_merge, normal_plan};
+pub use plan_expand::{
+    ArgumentAt, DefinitionAt, DirectiveAt, ExpandFault, Expander, Form, FragmentAt, Site,
+    definitions_at,
 };
-pub use plan_expand::{ExpandFault, Expander, Form};
 pub use reader::Readers;
 
 /// Passed on from the crates below.

@@ -1,12 +1,13 @@
 //! Which spreads are not masked, and which fragments are read where they stand, after Relay.
 ghost use Rattle.std.specs.Prelude.{◌≡◌, ◌&&◌, map, codes, option_map, bytes_eq};
 ghost use Rattle.plan_ir.specs.gql_ast.ValueView.{value_of};
-ghost use Rattle.plan_ir.specs.doc_sites.SitesView.{directive_of};
-ghost use Rattle.plan_ir.specs.relay_dirs.Connections as connections;
+ghost use Rattle.plan_expand.specs.doc_sites.SitesView.{directive_of};
+ghost use Rattle.plan_ir.specs.relay_marks.Connections as connections;
 ghost use Rattle.plan_build.specs.relay_model.Collection as spec;
 ghost use Rattle.plan_read.specs.Reading.{are_inline};
 
-use plan_ir::{Arguments, Directive, DirectiveAt, Directives, ValueTree};
+use plan_expand::DirectiveAt;
+use plan_ir::{Arguments, Directive, Directives, ValueTree};
 
 /// The value of the argument of a name, where it is given; takes no memory. Of several of one name
 /// the first counts.

@@ -2,11 +2,12 @@
 ghost use Rattle.std.specs.Prelude.{◌≡◌, None, map, option_map, IfOk, OnOk};
 ghost use Rattle.std.specs.Option.{option_or};
 ghost use Rattle.plan_ir.specs.gql_graph.Texts.{Text};
-ghost use Rattle.plan_ir.specs.doc_sites.SitesView.{definition_of};
+ghost use Rattle.plan_expand.specs.doc_sites.SitesView.{definition_of};
 ghost use Rattle.plan_read.specs.OperationsView.{HasOperations, find_operation, operation_in, operation_view, ready_named};
 ghost use Rattle.plan_ir.specs.schema_types.NameRules as rules;
 
-use plan_ir::{DefinitionAt, Kind, NoMemory, Selections};
+use plan_expand::DefinitionAt;
+use plan_ir::{Kind, NoMemory, Selections};
 use std::alloc::Global;
 use std::collections::BTreeMap;
 

@@ -4,7 +4,7 @@ ghost use Rattle.plan_ir.specs.gql_ast.ValueView.{value_of};
 ghost use Rattle.plan_expand.specs.ScopeView.{find_gift, scope_of};
 ghost use Rattle.plan_ir.specs.Substitution.{value_or};
 ghost use Rattle.plan_read.specs.Steps as spec;
-ghost use Rattle.plan_ir.specs.relay_dirs.View.{local_view};
+ghost use Rattle.plan_ir.specs.relay_marks.View.{local_view};
 
 use plan_expand::scope::{Gifts, Scope, gifts_at};
 use plan_ir::{Argument, Arguments, Directives, NoMemory, VariableDef, VariableDefs};

@@ -1,6 +1,6 @@
 //! The operations and fragments of a project, ready to be planned.
 ghost use Rattle.std.specs.Prelude.{◌≡◌, [], ◌∷◌, true, Some, is_some, option_copied, IfOk};
-ghost use Rattle.plan_ir.specs.doc_sites.Definitions.{AreIn};
+ghost use Rattle.plan_expand.specs.doc_sites.Definitions.{AreIn};
 ghost use Rattle.plan_build.specs.AroundView.{IsOfComposite, types_of};
 ghost use Rattle.plan_expand.specs.ScopeView.{scope_of};
 ghost use Rattle.plan_ir.specs.Expansion.{name_or};
@@ -20,9 +20,8 @@ use crate::types::{root_name, root_type};
 use plan_build::around::Around;
 use plan_build::kept::Kept;
 use plan_expand::scope::Scope;
-use plan_ir::{
-    DefinitionAt, Documents, Form, Name, NoMemory, ReaderPlan, Schema, Selections, count_fragments,
-};
+use plan_expand::{DefinitionAt, count_fragments};
+use plan_ir::{Documents, Form, Name, NoMemory, ReaderPlan, Schema, Selections};
 use std::alloc::Global;
 
 /// What stands ready to plan the reads of the operations and fragments of a project. It is made once

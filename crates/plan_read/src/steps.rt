@@ -25,8 +25,8 @@ use crate::types::text_or_empty;
 use plan_build::around::Around;
 use plan_build::classes::{Class, Target};
 use plan_build::kept::Kept;
+use plan_expand::below;
 use plan_expand::scope::{Scope, scope_at_spread};
-use plan_ir::around::below;
 use plan_ir::{
     Conditions, Directives, Ids, Name, NoMemory, ReaderList, ReaderPlan, ReaderStep, ReaderSteps,
     Schema, Selection, Selections,

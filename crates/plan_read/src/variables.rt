@@ -3,11 +3,12 @@
 ghost use Rattle.std.specs.Prelude.{◌≡◌, ◌++◌, map, IfOk, OnOk};
 ghost use Rattle.plan_ir.specs.gql_ast.ValueView.{value_of};
 ghost use Rattle.plan_ir.specs.gql_graph.Rules.{each};
-ghost use Rattle.plan_ir.specs.doc_sites.SitesView.{argument_of, directive_of};
-ghost use Rattle.plan_ir.specs.relay_dirs.Locals as spec;
-ghost use Rattle.plan_ir.specs.relay_dirs.View.{local_view};
+ghost use Rattle.plan_expand.specs.doc_sites.SitesView.{argument_of, directive_of};
+ghost use Rattle.plan_ir.specs.relay_marks.Locals as spec;
+ghost use Rattle.plan_ir.specs.relay_marks.View.{local_view};
 
-use plan_ir::{ArgumentAt, DirectiveAt, NoMemory, ValueTree, VariableDefs, local_of};
+use plan_expand::{ArgumentAt, DirectiveAt};
+use plan_ir::{NoMemory, ValueTree, VariableDefs, local_of};
 use std::alloc::Global;
 
 /// Puts the local variable that an argument defines, where it defines one.

@@ -1,6 +1,3 @@
-pub mod AddedFields
-pub mod Collects
-pub mod Evaluating
 pub mod Ints
 pub mod Joining
 pub mod Listing
@@ -14,4 +11,3 @@ pub mod Sorting
 pub mod Spelling
 pub mod Using
 pub mod ValuesRead
-pub mod WholeForm

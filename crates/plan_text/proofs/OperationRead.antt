@@ -24,7 +24,7 @@ use Rattle.plan_text.proofs.ReadBack.{comma_read, space_read, spread_read}
 use Rattle.plan_text.proofs.Spelling.{Opens, Reads, at_sign_stands, bang_stands, behind_reads, chain, close_brace_stands, close_bracket_stands, close_paren_stands, colon_stands, dollar_stands, enclosed_reads, equals_stands, joined_reads, name_reads, nothing_left, nothing_reads, open_brace_stands, open_bracket_stands, open_paren_stands, then_reads}
 use Rattle.plan_text.proofs.ValuesRead.{arguments_open, arguments_read, mark, value_reads}
 use Rattle.plan_text.specs.Documents.{FormedNodes, SomeNode, SpellsPrinted}
-use Rattle.plan_text.specs.Printed.{alias_of, printed_operation, printed_arguments, printed_default, printed_directives, printed_selections, printed_value, printed_variable}
+use Rattle.plan_collect.specs.Printed.{alias_of, printed_operation, printed_arguments, printed_default, printed_directives, printed_selections, printed_value, printed_variable}
 use Rattle.plan_ir.specs.schema_tables.Types.{Text}
 
 -- ---- directives

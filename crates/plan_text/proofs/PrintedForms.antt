@@ -20,7 +20,7 @@ use Rattle.plan_text.proofs.OperationRead.{all-filter, spells_printed}
 use Rattle.plan_text.proofs.ValuesRead.{all-by_name}
 use Rattle.plan_text.specs.Documents as document
 use Rattle.plan_text.specs.Documents.{FormedExpanded, FormedNodes, IsOneDocument, SomeNode}
-use Rattle.plan_text.specs.Printed.{printed_operation, printed_arguments, printed_default, printed_directives, printed_members, printed_pair, printed_selections, printed_value, printed_values, printed_variable}
+use Rattle.plan_collect.specs.Printed.{printed_operation, printed_arguments, printed_default, printed_directives, printed_members, printed_pair, printed_selections, printed_value, printed_values, printed_variable}
 use Rattle.plan_ir.specs.schema_tables.Types.{Text}
 
 -- ---- values

@@ -3,7 +3,7 @@ use Rattle.gql_parse.proofs.Whole.{one_document}
 use Rattle.plan_ir.specs.Expansion.{whole_operation}
 use Rattle.plan_ir.specs.OperationText.{operation_text}
 use Rattle.plan_ir.specs.declared.expanded.Expanded.{Expanded}
-use Rattle.plan_text.proofs.Collects.{text_collects_the_same}
+use Rattle.plan_collect.proofs.Collects.{text_collects_the_same}
 use Rattle.plan_text.proofs.OperationRead.{spells_printed}
 use Rattle.plan_text.proofs.PrintedForms.{is_one_document}
 use Rattle.plan_text.specs.Documents.{document_of}

@@ -19,7 +19,7 @@ use Rattle.plan_text.proofs.Quoted.{text_read}
 use Rattle.plan_text.proofs.ReadBack.{comma_read}
 use Rattle.plan_text.proofs.Spelling.{IsFree, Opens, Reads, behind_reads, close_brace_stands, close_bracket_stands, close_paren_stands, colon_stands, dollar_stands, enclosed_reads, ends_of, free_quote, joined_reads, name_reads, nothing_reads, open_brace_stands, open_bracket_stands, open_paren_stands, then_reads}
 use Rattle.plan_text.specs.Pairs.{named_texts}
-use Rattle.plan_text.specs.Printed.{printed_arguments, printed_members, printed_pair, printed_value, printed_values}
+use Rattle.plan_collect.specs.Printed.{printed_arguments, printed_members, printed_pair, printed_value, printed_values}
 use Rattle.plan_ir.specs.schema_tables.Types.{Text}
 
 abbrev pub mark : Mark Tok

@@ -16,7 +16,7 @@ use Rattle.plan_ir.specs.gql_syntax.Words.{IsName}
 use Rattle.plan_ir.specs.Nodes.{Nodes, end, field, inline}
 use Rattle.plan_ir.specs.OperationText.{operation_text}
 use Rattle.plan_ir.specs.declared.expanded.Expanded.{Expanded}
-use Rattle.plan_text.specs.Printed.{printed_operation}
+use Rattle.plan_collect.specs.Printed.{printed_operation}
 
 abbrev pub SomeNode : Nodes → Type 0
 SomeNode end = ⊥

@@ -10,8 +10,8 @@ use Rattle.plan_ir.specs.gql_syntax.Texts.{nesting_limit}
 use Rattle.plan_ir.specs.Expansion.{Project, whole_operation}
 use Rattle.plan_ir.specs.OperationText.{operation_text}
 use Rattle.plan_text.specs.Documents.{FormedExpanded, document_of, document_parts}
-use Rattle.plan_text.specs.Printed.{printed_operation}
-use Rattle.plan_text.specs.SameGroups.{AsksTheSame}
+use Rattle.plan_collect.specs.Printed.{printed_operation}
+use Rattle.plan_collect.specs.SameGroups.{AsksTheSame}
 use Rattle.plan_ir.specs.schema_tables.Types.{Text}
 use Rattle.plan_ir.specs.schema_types.Sites.{OperationAt}
 

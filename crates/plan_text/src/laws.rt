@@ -1,6 +1,6 @@
 //! What holds of every text.
 ghost use Rattle.plan_text.specs.Documents.{IsOneDocument, SpellsPrinted};
-ghost use Rattle.plan_text.specs.SameGroups.{TextCollectsTheSame};
+ghost use Rattle.plan_collect.specs.SameGroups.{TextCollectsTheSame};
 ghost use Rattle.plan_text.specs.Saying.{TextSaysTheOperation};
 
 /// Law: the text of an expanded operation has the tokens of the printed operation: it is the text of

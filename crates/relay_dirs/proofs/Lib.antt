@@ -1,12 +1,2 @@
-pub use Rattle.schema_values.proofs.gql_graph_laws
-pub use Rattle.gql_syntax.proofs.gql_lex_laws
-pub use Rattle.gql_syntax.proofs as gql_syntax_laws
-pub use Rattle.schema_values.proofs.schema_rules_laws
-pub use Rattle.schema_values.proofs.schema_tables_laws
-pub use Rattle.schema_values.proofs.schema_trees_laws
-pub use Rattle.schema_values.proofs.schema_types_laws
-pub use Rattle.schema_values.proofs as schema_values_laws
-pub mod Rows
-pub mod RulePlaces
+pub use Rattle.relay_rules.proofs as relay_rules_laws
 pub mod SpreadSteps
-pub mod TypeSteps

@@ -4,14 +4,14 @@ use Rattle.std.proofs.Math.Seq.{drop-cons}
 use Rattle.std.proofs.lemmas.List.{drop_all}
 use Rattle.std.specs.List.{list_all}
 use Rattle.gql_syntax.specs.gql_plain.Order.{has_text}
-use Rattle.schema_values.specs.gql_graph.Rules.{each}
-use Rattle.schema_values.specs.gql_graph.Texts.{Text}
-use Rattle.schema_values.specs.schema_types.ArgumentRules.{is_given, is_null}
-use Rattle.schema_values.specs.schema_types.NameRules.{fragment_named, fragments}
-use Rattle.schema_values.specs.schema_types.Sites.{ArgumentAt, FragmentAt, DefinitionAt, operation, fragment}
+use Rattle.constant_values.specs.gql_graph.Rules.{each}
+use Rattle.constant_values.specs.gql_graph.Texts.{Text}
+use Rattle.constant_values.specs.schema_types.ArgumentRules.{is_given, is_null}
+use Rattle.constant_values.specs.schema_types.NameRules.{fragment_named, fragments}
+use Rattle.constant_values.specs.schema_types.Sites.{ArgumentAt, FragmentAt, DefinitionAt, operation, fragment}
 use Rattle.relay_dirs.specs.GivenNames.{given_names}
-use Rattle.relay_dirs.specs.Locals.{Local, local_named, locals_of}
-use Rattle.relay_dirs.specs.Spreads.{is_served, locals_named, locals_of_found, must_be_given}
+use Rattle.relay_marks.specs.Locals.{Local, local_named, locals_of}
+use Rattle.relay_rules.specs.Spreads.{is_served, locals_named, locals_of_found, must_be_given}
 use Rattle.relay_dirs.specs.Tables.{fragment_locals, locals_among, required_name}
 
 -- an element that passes, and one that does not

@@ -3,12 +3,12 @@ use Rattle.std.specs.Prelude.{◌≡◌, cond, List, [], ◌∷◌, map, Option,
 use Rattle.std.specs.BTreeMap.{get_by}
 use Rattle.std.specs.Cmp.Lexicographic.{slice_cmp}
 use Rattle.std.specs.Ordering.{nat_cmp}
-use Rattle.schema_values.specs.gql_graph.Rules.{each}
-use Rattle.schema_values.specs.gql_graph.Texts.{Text}
-use Rattle.schema_values.specs.schema_types.Sites.{FragmentAt, DefinitionAt, operation, fragment}
-use Rattle.relay_dirs.specs.Locals.{Local, local_named, locals_of}
-use Rattle.relay_dirs.specs.Spreads.{locals_named, must_be_given}
-use Rattle.relay_dirs.specs.View.{local_view}
+use Rattle.constant_values.specs.gql_graph.Rules.{each}
+use Rattle.constant_values.specs.gql_graph.Texts.{Text}
+use Rattle.constant_values.specs.schema_types.Sites.{FragmentAt, DefinitionAt, operation, fragment}
+use Rattle.relay_marks.specs.Locals.{Local, local_named, locals_of}
+use Rattle.relay_rules.specs.Spreads.{locals_named, must_be_given}
+use Rattle.relay_marks.specs.View.{local_view}
 use Rattle.relay_dirs.specs.declared.fragments.FragmentLocals.{FragmentLocals}
 use Rattle.relay_dirs.specs.declared.fragments.Fragments.{Fragments}
 use Rattle.relay_dirs.specs.declared.fragments.Locals.{Locals}

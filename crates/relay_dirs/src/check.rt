@@ -2,9 +2,9 @@
 ghost use Rattle.std.specs.Prelude.{◌≡◌, map, IfErr, IfOk, OnOk};
 ghost use Rattle.doc_uses.specs.doc_sites.Definitions.{AreIn};
 ghost use Rattle.doc_uses.specs.doc_sites.SitesView.{definition_of};
-ghost use Rattle.schema_values.specs.gql_graph.Rules as rules;
-ghost use Rattle.schema_values.specs.schema_types.DocumentRules.{AreFaulty, Meet};
-ghost use Rattle.relay_dirs.specs.RelayRules.{relay_rules};
+ghost use Rattle.constant_values.specs.gql_graph.Rules as rules;
+ghost use Rattle.constant_values.specs.schema_types.DocumentRules.{AreFaulty, Meet};
+ghost use Rattle.relay_rules.specs.RelayRules.{relay_rules};
 
 use crate::rules::aliases::aliases_wrong;
 use crate::rules::connections::connections_wrong;
@@ -12,12 +12,12 @@ use crate::rules::keys::keys_wrong;
 use crate::rules::locals::locals_wrong;
 use crate::rules::masks::masks_wrong;
 use crate::rules::spreads::spreads_wrong;
+use constant_values::first::First;
+use constant_values::least::Least;
+use constant_values::{NodeFault, Rule, RuleFault, Schema};
 use doc_uses::{DefinitionAt, definitions_at};
 use gql_syntax::gql_ast::Documents;
 use gql_syntax::gql_plain::NoMemory;
-use schema_values::first::First;
-use schema_values::least::Least;
-use schema_values::{NodeFault, Rule, RuleFault, Schema};
 use std::alloc::Global;
 
 /// Checks the rules on the directives after Relay and on aliases, in this order. Their profile is this

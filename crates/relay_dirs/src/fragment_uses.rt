@@ -1,20 +1,20 @@
 //! The variables that the spreads in fragments give.
 ghost use Rattle.std.specs.Prelude.{◌++◌, List, map, IfOk, OnOk};
-ghost use Rattle.schema_values.specs.schema_types.ArgumentRules as rules;
-ghost use Rattle.schema_values.specs.schema_types.NameRules.{fragments};
-ghost use Rattle.schema_values.specs.schema_types.Sites as parts;
-ghost use Rattle.schema_values.specs.gql_graph.Texts.{Text};
+ghost use Rattle.constant_values.specs.schema_types.ArgumentRules as rules;
+ghost use Rattle.constant_values.specs.schema_types.NameRules.{fragments};
+ghost use Rattle.constant_values.specs.schema_types.Sites as parts;
+ghost use Rattle.constant_values.specs.gql_graph.Texts.{Text};
 ghost use Rattle.doc_uses.specs.doc_sites.SitesView.{definition_of};
 ghost use Rattle.doc_uses.specs.FragmentUses.{Describes};
 ghost use Rattle.doc_uses.specs.UsesByName.{Gathers, named_in, uses_among};
-ghost use Rattle.relay_dirs.specs.Spreads.{uses_in_fragment};
+ghost use Rattle.relay_rules.specs.Spreads.{uses_in_fragment};
 ghost use Rattle.relay_dirs.specs.Tables.{Suits};
 
 use crate::fragments::Fragments;
 use crate::spread_uses::uses_in_spreads;
+use constant_values::Schema;
 use doc_uses::{DefinitionAt, FragmentUses, UsesByName};
 use gql_syntax::gql_plain::NoMemory;
-use schema_values::Schema;
 use std::alloc::Global;
 
 /// What is known of the variables that the spreads in the fragments among definitions give.

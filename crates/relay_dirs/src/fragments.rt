@@ -4,19 +4,19 @@ ghost use Rattle.std.specs.Prelude.{◌≡◌, ◌∷◌, ◌++◌, List, map, o
 ghost use Rattle.std.specs.BTreeMap.{get_by};
 ghost use Rattle.std.specs.Cmp.Lexicographic.{slice_cmp};
 ghost use Rattle.std.specs.Ordering.{nat_cmp};
-ghost use Rattle.schema_values.specs.gql_graph.Rules.{each};
-ghost use Rattle.schema_values.specs.gql_graph.Texts.{Text};
+ghost use Rattle.constant_values.specs.gql_graph.Rules.{each};
+ghost use Rattle.constant_values.specs.gql_graph.Texts.{Text};
 ghost use Rattle.doc_uses.specs.doc_sites.SitesView.{definition_of};
-ghost use Rattle.relay_dirs.specs.Locals as spec;
-ghost use Rattle.relay_dirs.specs.Spreads.{must_be_given};
+ghost use Rattle.relay_marks.specs.Locals as spec;
+ghost use Rattle.relay_rules.specs.Spreads.{must_be_given};
 ghost use Rattle.relay_dirs.specs.Tables.{NamesFragments, Serves, fragment_locals, pair_of, required_name, table_found};
-ghost use Rattle.relay_dirs.specs.View.{local_view};
+ghost use Rattle.relay_marks.specs.View.{local_view};
 
-use crate::local_variables::locals_of;
+use crate::located_locals::locals_of;
+use constant_values::type_forms::is_non_null;
 use doc_uses::DefinitionAt;
 use gql_syntax::gql_ast::{VariableDef, VariableDefs};
 use gql_syntax::gql_plain::NoMemory;
-use schema_values::type_forms::is_non_null;
 use std::alloc::Global;
 use std::collections::BTreeMap;
 

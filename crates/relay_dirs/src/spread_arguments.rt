@@ -3,23 +3,23 @@ ghost use Rattle.std.specs.Prelude.{◌≡◌, ◌++◌, [], List, map, option_m
 ghost use Rattle.std.specs.List.{list_all};
 ghost use Rattle.gql_syntax.specs.gql_ast.ValueView.{value_of};
 ghost use Rattle.gql_syntax.specs.gql_plain.Order.{has_text};
-ghost use Rattle.schema_values.specs.schema_types.ArgumentRules.{is_null};
-ghost use Rattle.schema_values.specs.gql_graph.Seen.{Knows};
-ghost use Rattle.schema_values.specs.gql_graph.Texts.{Text};
-ghost use Rattle.schema_values.specs.schema_tables.Types.{Defs};
+ghost use Rattle.constant_values.specs.schema_types.ArgumentRules.{is_null};
+ghost use Rattle.constant_values.specs.gql_graph.Seen.{Knows};
+ghost use Rattle.constant_values.specs.gql_graph.Texts.{Text};
+ghost use Rattle.constant_values.specs.schema_tables.Types.{Defs};
 ghost use Rattle.doc_uses.specs.doc_sites.SitesView.{argument_of, directive_of};
 ghost use Rattle.relay_dirs.specs.GivenNames.{given_name, given_names};
-ghost use Rattle.relay_dirs.specs.Locals.{Local};
-ghost use Rattle.relay_dirs.specs.Spreads as spec;
+ghost use Rattle.relay_marks.specs.Locals.{Local};
+ghost use Rattle.relay_rules.specs.Spreads as spec;
 ghost use Rattle.relay_dirs.specs.Tables.{Finds, Serves};
-ghost use Rattle.relay_dirs.specs.View.{local_view};
+ghost use Rattle.relay_marks.specs.View.{local_view};
 
 use crate::fragments::Locals;
+use constant_values::Schema;
+use constant_values::seen::Seen;
 use doc_uses::{ArgumentAt, DirectiveAt};
 use gql_syntax::gql_ast::{ValueTree, VariableDef};
 use gql_syntax::gql_plain::NoMemory;
-use schema_values::Schema;
-use schema_values::seen::Seen;
 use std::alloc::Global;
 
 /// The arguments that the directives of a spread give.

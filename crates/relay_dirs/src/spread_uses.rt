@@ -1,22 +1,22 @@
 //! The variables that spreads give to local variables by `@arguments`, each at its place; they are told
 //! at the name of the spread.
 ghost use Rattle.std.specs.Prelude.{◌≡◌, ◌++◌, List, map, option_map, IfOk, OnOk};
-ghost use Rattle.schema_values.specs.gql_graph.Rules.{each};
-ghost use Rattle.schema_values.specs.schema_types.Sites as parts;
+ghost use Rattle.constant_values.specs.gql_graph.Rules.{each};
+ghost use Rattle.constant_values.specs.schema_types.Sites as parts;
 ghost use Rattle.doc_uses.specs.doc_sites.SitesView.{argument_of, site_of};
 ghost use Rattle.doc_uses.specs.UseView.{place_of, use_of};
-ghost use Rattle.relay_dirs.specs.Locals.{Local, local_named};
-ghost use Rattle.relay_dirs.specs.Spreads as spec;
+ghost use Rattle.relay_marks.specs.Locals.{Local, local_named};
+ghost use Rattle.relay_rules.specs.Spreads as spec;
 ghost use Rattle.relay_dirs.specs.Tables.{Finds, Suits};
-ghost use Rattle.relay_dirs.specs.View.{local_view};
+ghost use Rattle.relay_marks.specs.View.{local_view};
 
 use crate::fragments::{Fragments, Locals};
 use crate::spread_arguments::spread_arguments;
+use constant_values::Schema;
+use constant_values::located::NameAt;
 use doc_uses::{ArgumentAt, Place, Site, Use, put_argument};
 use gql_syntax::gql_ast::VariableDef;
 use gql_syntax::gql_plain::NoMemory;
-use schema_values::Schema;
-use schema_values::located::NameAt;
 use std::alloc::Global;
 
 /// The variables that spreads among selections give.

@@ -6,7 +6,7 @@ use Rattle.plan_ir.specs.gql_ast.declared.value.ValueTree.{ValueTree}
 use Rattle.plan_ir.specs.gql_ast.declared.variable.VariableDef.{VariableDef}
 use Rattle.plan_ir.specs.gql_plain.Order.{member_at}
 use Rattle.plan_ir.specs.gql_plain.Tree.{Tree}
-use Rattle.plan_ir.specs.relay_dirs.View.{local_view}
+use Rattle.plan_ir.specs.relay_marks.View.{local_view}
 use Rattle.relay_machine.specs.Machine as machine
 use Rattle.plan_ir.specs.schema_tables.Fits.{is_non_null}
 use Rattle.plan_ir.specs.schema_tables.Types.{Defs}

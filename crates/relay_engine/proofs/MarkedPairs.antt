@@ -9,8 +9,8 @@ use Rattle.plan_ir.specs.gql_plain.Tree.{Tree}
 use Rattle.relay_engine.specs.Marked.{marked}
 use Rattle.relay_machine.specs.relay_model.Readings.{with_marked}
 use Rattle.plan_ir.specs.schema_types.Environments.{Values, with_pair}
-use Rattle.plan_ir.proofs.schema_values_laws.Placing.{Entries, put_all, put_all-first}
-use Rattle.plan_ir.specs.schema_values.Listed.{first_of_each}
+use Rattle.plan_ir.proofs.constant_values_laws.Placing.{Entries, put_all, put_all-first}
+use Rattle.plan_ir.specs.constant_values.Listed.{first_of_each}
 
 put_all-append : (ps qs : List (List ℕ × Tree)) (done : Values) → put_all with_pair (ps ++ qs) done ≡ put_all with_pair ps (put_all with_pair qs done)
 put_all-append [] qs done = refl

@@ -20,7 +20,7 @@ use Rattle.relay_machine.specs.relay_model.Responses.{operation_says}
 use Rattle.plan_ir.specs.schema_tables.Types.{Text, Defs}
 use Rattle.plan_ir.specs.schema_types.Environments.{Values, environment}
 use Rattle.plan_ir.specs.schema_types.Sites.{FragmentAt, OperationAt}
-use Rattle.plan_ir.specs.schema_values.declared.env.Env.{Env}
+use Rattle.plan_ir.specs.constant_values.declared.env.Env.{Env}
 use Rattle.serde_json.specs.Data as J
 use Rattle.plan_ir.specs.store_model.Records.{Records}
 use Rattle.plan_ir.specs.store_model.Verdicts.{Verdict}

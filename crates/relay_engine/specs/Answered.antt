@@ -12,8 +12,8 @@ use Rattle.relay_machine.specs.Printed.{refusal_line}
 use Rattle.relay_machine.specs.Refusals.{variables}
 use Rattle.plan_ir.specs.schema_tables.Types.{Text}
 use Rattle.plan_ir.specs.schema_types.Environments.{Failure}
-use Rattle.plan_ir.specs.schema_values.Failures.{Tells}
-use Rattle.plan_ir.specs.schema_values.declared.env.VarFault.{VarFault}
+use Rattle.schema_values.specs.Failures.{Tells}
+use Rattle.schema_values.specs.declared.fault.VarFault.{VarFault}
 use Rattle.plan_ir.specs.store_model.Events.{Line}
 use Rattle.plan_ir.specs.store_model.declared.entry.Entry.{Entry}
 

@@ -4,7 +4,7 @@ use Rattle.std.specs.List.{AllByRecursion}
 use Rattle.plan_ir.specs.gql_ast.declared.document.Document.{Document}
 use Rattle.plan_ir.specs.gql_ast.declared.place.Placed.{Placed}
 use Rattle.plan_ir.specs.gql_plain.Order.{has_text}
-use Rattle.relay_machine.specs.plan_expand.Answers.{project}
+use Rattle.plan_ir.specs.Projects.{project}
 use Rattle.plan_ir.specs.Expansion.{name_or}
 use Rattle.plan_ir.specs.NormalReach.{plan_reaches}
 use Rattle.plan_project.specs.Lookups.{operation_in}

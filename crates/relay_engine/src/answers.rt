@@ -7,8 +7,9 @@ ghost use Rattle.store_watch.specs.store_read.Reading.{reading_of};
 
 use crate::lines::Lines;
 use event_script::LineFault;
-use plan_ir::{NoMemory, VarFault, Words};
+use plan_ir::{NoMemory, Words};
 use relay_lines::{Refusal, collect_line, event_line, read_line, refusal_line, watch_line};
+use schema_values::VarFault;
 use std::alloc::Global;
 use store_watch::Snapshot;
 

@@ -1,17 +1,16 @@
 //! The environments in which fragments are read.
 ghost use Rattle.std.specs.Prelude.{◌≡◌, ◌++◌, codes, map, None, IfErr, IfOk, OnOk};
 ghost use Rattle.plan_ir.specs.gql_plain.Shown.{shown_members};
-ghost use Rattle.plan_ir.specs.relay_dirs.View.{local_view};
+ghost use Rattle.plan_ir.specs.relay_marks.View.{local_view};
 ghost use Rattle.relay_engine.specs.Marked.{marked};
 ghost use Rattle.relay_machine.specs.Machine as machine;
 ghost use Rattle.relay_machine.specs.relay_model.Readings.{with_marked};
 ghost use Rattle.plan_ir.specs.schema_types.Environments.{environment};
-ghost use Rattle.plan_ir.specs.schema_values.Failures.{Tells};
-ghost use Rattle.plan_ir.specs.schema_values.Listed as listed;
+ghost use Rattle.schema_values.specs.Failures.{Tells};
+ghost use Rattle.plan_ir.specs.constant_values.Listed as listed;
 
-use plan_ir::{
-    Env, Name, NoMemory, Pairs, Plain, Schema, VarFault, VariableDefs, Words, variables,
-};
+use plan_ir::{Env, Name, NoMemory, Pairs, Plain, Schema, VariableDefs, Words};
+use schema_values::{VarFault, variables};
 use std::alloc::Global;
 use std::collections::BTreeMap;
 

@@ -13,9 +13,10 @@ ghost use Rattle.plan_ir.specs.schema_types.Sites.{OperationAt};
 use crate::answers::{accept, refuse, refuse_variables};
 use crate::engine::Engine;
 use crate::lines::Lines;
-use plan_ir::{NoMemory, Pairs, Words, variables};
+use plan_ir::{NoMemory, Pairs, Words};
 use plan_project::Compiled;
 use relay_lines::{Limited, Refusal};
+use schema_values::variables;
 use std::rc::Rc;
 use store_retain::{Held, RecordSource};
 

@@ -1,6 +1,6 @@
 -- What a line does: the entries that it confirms, those of the layers that are live after it, and the reads of its answer.
 use Rattle.std.specs.Prelude.{List, [], ◌∷◌, map, drop, length, Option, Some, None}
-use Rattle.plan_ir.specs.relay_dirs.Locals.{locals_of}
+use Rattle.plan_ir.specs.relay_marks.Locals.{locals_of}
 use Rattle.relay_machine.specs.Machine.{Confirmation, confirmed, swept, Handle, Layer, Project, State, definitions_in, fragment_read, handle_named, operation_read, scope_given, view}
 use Rattle.plan_ir.specs.schema_types.NameRules.{fragment_named, fragments}
 use Rattle.plan_ir.specs.schema_types.Sites.{FragmentAt}

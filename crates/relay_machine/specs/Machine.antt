@@ -6,10 +6,10 @@ use Rattle.std.specs.List.{filter, list_any}
 use Rattle.plan_ir.specs.gql_ast.Value.{Val}
 use Rattle.plan_ir.specs.gql_ast.declared.document.Document.{Document}
 use Rattle.plan_ir.specs.gql_ast.declared.place.Placed.{Placed}
-use Rattle.plan_expand.specs.Answers as expansions
 use Rattle.plan_ir.specs.Expansion as plans
 use Rattle.plan_ir.specs.Expansion.{operation_named, variable_trees}
-use Rattle.plan_ir.specs.relay_dirs.Locals.{Local, locals_of}
+use Rattle.plan_ir.specs.Projects as projects
+use Rattle.plan_ir.specs.relay_marks.Locals.{Local, locals_of}
 use Rattle.relay_machine.specs.Printed.{collect_line, event_line, notice_line, read_line, refusal_line, watch_line}
 use Rattle.relay_machine.specs.Refusals.{Refusal, not_json, event_shape, update_shape, line_too_long, unknown_operation, unknown_fragment, unknown_handle, handle_taken, handle_in_use, unknown_layer, layer_taken, unknown_watch, watch_taken, unknown_type, variables, payload, too_many, handles, layers, watches, most}
 use Rattle.relay_model.specs.Readings.{fragment_reads, no_place, operation_reads}
@@ -51,7 +51,7 @@ abbrev pub definitions_in : Project → List DefinitionAt
 definitions_in p = all_definitions p.defs (trees_of p.documents)
 
 abbrev pub documents_of : Project → plans.Project
-documents_of p = expansions.project p.defs p.documents
+documents_of p = projects.project p.defs p.documents
 
 -- a live handle: its operation, and the values of the operation's variables
 pub record Handle : Type 0 where

@@ -21,7 +21,7 @@ use Rattle.plan_ir.specs.gql_lex.Heads.{head}
 use Rattle.plan_ir.specs.gql_lex.Sources.{read}
 use Rattle.serde_json.proofs.OnLiterals.{serde_json_on_literals}
 use Rattle.plan_ir.specs.Expansion.{Project}
-use Rattle.plan_text.specs.Collection.{Setting, collect, part_of}
+use Rattle.plan_collect.specs.Collection.{Setting, collect, part_of}
 use Rattle.relay_model.specs.Responses.{operation_says}
 use Rattle.plan_ir.specs.schema_types.Environments.{Values}
 use Rattle.plan_ir.specs.schema_types.Sites.{ArgumentAt, FragmentAt, OperationAt}

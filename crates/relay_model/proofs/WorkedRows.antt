@@ -20,7 +20,7 @@ use Rattle.plan_ir.specs.gql_lex.Sources.{read}
 use Rattle.plan_ir.specs.gql_plain.Tree as t
 use Rattle.plan_ir.specs.gql_plain.declared.plain.Plain.TheVariants.{Null, Int, Text as Words}
 use Rattle.plan_ir.specs.Expansion.{Project}
-use Rattle.plan_text.specs.Collection.{Part, Setting, collect, part_of}
+use Rattle.plan_collect.specs.Collection.{Part, Setting, collect, part_of}
 use Rattle.relay_model.specs.Responses.{operation_says}
 use Rattle.plan_ir.specs.schema_tables.Types.{Text, Defs}
 use Rattle.plan_ir.specs.schema_types.Environments.{Values}

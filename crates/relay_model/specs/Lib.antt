@@ -1,5 +1,4 @@
-pub use Rattle.plan_text.specs.gql_parse
-pub use Rattle.plan_text.specs as plan_text
+pub use Rattle.plan_collect.specs as plan_collect
 pub mod Collection
 pub mod Responses
 pub mod Readings

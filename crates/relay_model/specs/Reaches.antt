@@ -4,7 +4,7 @@ use Rattle.std.specs.Prelude.{ℕ, zero, suc, ◌+◌, List, [], ◌∷◌, Some
 use Rattle.plan_ir.specs.gql_ast.Sels.{Sels}
 use Rattle.plan_ir.specs.gql_ast.declared.place.FilePlace.{FilePlace}
 use Rattle.plan_ir.specs.Expansion.{Project, name_or}
-use Rattle.plan_text.specs.Collection.{Part, Setting, collect, part_of, selections_of}
+use Rattle.plan_collect.specs.Collection.{Part, Setting, collect, part_of, selections_of}
 use Rattle.relay_model.specs.Readings.{depth_inside, depth_with}
 use Rattle.relay_model.specs.Responses.{whole_setting}
 use Rattle.plan_ir.specs.schema_tables.Types.{Text, root}

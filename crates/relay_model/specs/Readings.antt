@@ -4,7 +4,7 @@ use Rattle.plan_ir.specs.gql_ast.Sels as sels
 use Rattle.plan_ir.specs.gql_ast.Sels.{Sels}
 use Rattle.plan_ir.specs.gql_ast.declared.place.FilePlace.{FilePlace}
 use Rattle.plan_ir.specs.Expansion.{Project, name_or, spreads_in}
-use Rattle.plan_text.specs.Collection.{Part, Setting, collect, part_of}
+use Rattle.plan_collect.specs.Collection.{Part, Setting, collect, part_of}
 use Rattle.plan_ir.specs.schema_tables.Types.{Text, possible, root}
 use Rattle.plan_ir.specs.schema_types.Environments.{Values, with_pair}
 use Rattle.plan_ir.specs.schema_types.NameRules.{fragment_named}

@@ -2,8 +2,8 @@
 use Rattle.std.specs.Prelude.{[], ◌∷◌}
 use Rattle.plan_ir.specs.gql_ast.declared.place.FilePlace.{FilePlace}
 use Rattle.plan_ir.specs.Expansion.{Project, name_or}
-pub use Rattle.plan_text.specs.Collection.{whole_setting}
-use Rattle.plan_text.specs.Collection.{collect, part_of}
+pub use Rattle.plan_collect.specs.Collection.{whole_setting}
+use Rattle.plan_collect.specs.Collection.{collect, part_of}
 use Rattle.plan_ir.specs.schema_tables.Types.{root}
 use Rattle.plan_ir.specs.schema_types.Environments.{Values}
 use Rattle.plan_ir.specs.schema_types.Sites.{OperationAt}

@@ -5,7 +5,7 @@ use Rattle.plan_ir.specs.gql_ast.declared.document.Document.{Document}
 use Rattle.plan_ir.specs.gql_ast.declared.place.Placed.{Placed}
 use Rattle.plan_ir.specs.gql_graph.Rules.{each}
 use Rattle.plan_project.specs.Expansions.{line_lists, lines_at}
-use Rattle.relay_machine.specs.plan_expand.Answers.{definitions_in}
+use Rattle.plan_ir.specs.Projects.{definitions_in}
 use Rattle.plan_ir.specs.schema_tables.Types.{Text}
 use Rattle.relay_run.specs.Answers.{EndsLine}
 use Rattle.relay_run.specs.Output.{artifacts_text, text_of_lines}

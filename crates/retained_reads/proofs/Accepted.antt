@@ -6,8 +6,8 @@ use Rattle.plan_ir.specs.gql_ast.declared.document.Document.{Document}
 use Rattle.plan_ir.specs.gql_ast.declared.document.Operation.{Operation}
 use Rattle.plan_ir.specs.gql_ast.declared.place.Placed.{Placed}
 use Rattle.plan_ir.specs.gql_graph.Rules.{each}
-use Rattle.relay_machine.specs.plan_expand.Answers.{definitions_in, project}
-use Rattle.relay_machine.specs.plan_expand.Places.{place_in}
+use Rattle.plan_ir.specs.Projects.{definitions_in, project}
+use Rattle.plan_ir.specs.Projects.{place_in}
 use Rattle.plan_ir.specs.Expansion.{Project, operation_named}
 use Rattle.plan_project.proofs.ReadTrees.{ReadAt, ReadDefinition, ReadOperation, all_read}
 use Rattle.plan_project.proofs.SoundNodes.{SoundFragment}

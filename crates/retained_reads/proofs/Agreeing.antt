@@ -12,10 +12,10 @@ use Rattle.plan_ir.specs.gql_syntax.Words.{IsName}
 use Rattle.plan_ir.specs.Substitution.{Arguments, arguments_in}
 use Rattle.plan_project.proofs.SoundNodes.{SoundLocal, given_in, value_found}
 use Rattle.plan_project.proofs.SoundTrees.{SoundArguments, SoundDirective, SoundDirectives, SoundMembers, SoundValue, SoundValues}
-use Rattle.relay_machine.proofs.plan_text_laws.Evaluating.{found-with_pair}
-use Rattle.relay_machine.specs.plan_text.Collecting.{environment_inside, is_left_out, leaves_out, local_value, with_locals}
-use Rattle.plan_ir.specs.relay_dirs.Connections.{value_of_name}
-use Rattle.plan_ir.specs.relay_dirs.Locals.{Local, locals_of}
+use Rattle.relay_machine.proofs.plan_collect_laws.Evaluating.{found-with_pair}
+use Rattle.relay_machine.specs.plan_collect.Collecting.{environment_inside, is_left_out, leaves_out, local_value, with_locals}
+use Rattle.plan_ir.specs.relay_marks.Connections.{value_of_name}
+use Rattle.plan_ir.specs.relay_marks.Locals.{Local, locals_of}
 use Rattle.plan_ir.specs.schema_tables.Types.{Text}
 use Rattle.plan_ir.specs.schema_types.Environments.{Values, arguments_in_environment, evaluation, is_true, items_evaluated, or_null, pairs_evaluated, value_in, with_new_pair, with_pair}
 use Rattle.plan_ir.specs.schema_types.Sites.{FragmentAt}

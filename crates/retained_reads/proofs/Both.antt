@@ -5,7 +5,7 @@ use Rattle.plan_ir.specs.gql_ast.Sels as sels
 use Rattle.plan_ir.specs.gql_ast.Sels.{Sels, sels_append}
 use Rattle.plan_ir.specs.gql_ast.declared.directive.Directive.{Directive}
 use Rattle.plan_ir.specs.Expansion.{Project}
-use Rattle.relay_machine.specs.plan_text.Collecting.{applies, environment_inside, field_additions, is_left_out, with_additions}
+use Rattle.relay_machine.specs.plan_collect.Collecting.{applies, environment_inside, field_additions, is_left_out, with_additions}
 use Rattle.relay_machine.specs.relay_model.Collection.{Part, Setting, ask_of, collect_in, is_inline, is_open, scope_inside}
 use Rattle.relay_machine.specs.relay_model.Readings.{masked_setting, no_place}
 use Rattle.relay_machine.specs.relay_model.Responses.{whole_setting}

@@ -8,7 +8,7 @@ use Rattle.plan_project.proofs.plan_build_laws.PartDepths.{as_deep, left_below, 
 use Rattle.plan_ir.specs.Expansion.{Project}
 use Rattle.plan_project.proofs.SoundTrees.{SoundSelections}
 use Rattle.plan_project.proofs.SpreadChains.{AllSpreads, Bounded}
-use Rattle.relay_machine.specs.plan_text.Collecting.{applies, environment_inside, is_left_out}
+use Rattle.relay_machine.specs.plan_collect.Collecting.{applies, environment_inside, is_left_out}
 use Rattle.relay_machine.specs.relay_model.Collection.{ask_of, collect_in, is_open}
 use Rattle.relay_machine.specs.relay_model.Readings.{depth_inside, depth_of, depth_with, masked_setting, no_place, shadowed_by, with_marked}
 use Rattle.relay_machine.specs.relay_model.Responses.{whole_setting}

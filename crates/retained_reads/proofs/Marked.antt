@@ -11,16 +11,16 @@ use Rattle.plan_ir.specs.gql_plain.Tree.{Tree}
 use Rattle.plan_ir.specs.gql_syntax.Words.{IsName}
 use Rattle.plan_ir.specs.Substitution.{Arguments, arguments_in}
 use Rattle.plan_project.specs.plan_read.Constants.{HaveConstants, IsConstant}
-use Rattle.relay_machine.proofs.plan_text_laws.Evaluating.{found-with_pair}
-use Rattle.relay_machine.specs.plan_text.Collecting.{environment_inside, local_value, with_locals}
-use Rattle.plan_ir.specs.relay_dirs.Connections.{value_of_name}
-use Rattle.plan_ir.specs.relay_dirs.Locals.{Local, locals_of}
+use Rattle.relay_machine.proofs.plan_collect_laws.Evaluating.{found-with_pair}
+use Rattle.relay_machine.specs.plan_collect.Collecting.{environment_inside, local_value, with_locals}
+use Rattle.plan_ir.specs.relay_marks.Connections.{value_of_name}
+use Rattle.plan_ir.specs.relay_marks.Locals.{Local, locals_of}
 use Rattle.relay_machine.specs.relay_model.Readings.{shadowed_by, with_marked}
 use Rattle.retained_reads.proofs.Agreeing.{Agree}
 use Rattle.plan_ir.specs.schema_tables.Types.{Text}
 use Rattle.plan_ir.specs.schema_types.Environments.{Values}
 use Rattle.plan_ir.specs.schema_types.Sites.{FragmentAt}
-use Rattle.plan_ir.proofs.schema_values_laws.ConstantValues.{constant_value}
+use Rattle.plan_ir.proofs.constant_values_laws.ConstantValues.{constant_value}
 
 -- ---- names
 

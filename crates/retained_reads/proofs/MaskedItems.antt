@@ -12,9 +12,9 @@ use Rattle.plan_project.proofs.SoundTrees.{SoundArguments, SoundDirectives, Soun
 use Rattle.plan_project.proofs.SpreadChains.{AllSpreads, Bounded}
 use Rattle.plan_project.specs.plan_read.Constants.{HaveConstants}
 use Rattle.plan_project.proofs.plan_read_laws.Zips.{zip_kept, zip_where}
-use Rattle.relay_machine.specs.plan_text.Collecting.{applies, environment_inside, is_left_out}
-use Rattle.plan_ir.specs.relay_dirs.Connections.{connection_among}
-use Rattle.plan_ir.specs.relay_dirs.Locals.{locals_of}
+use Rattle.relay_machine.specs.plan_collect.Collecting.{applies, environment_inside, is_left_out}
+use Rattle.plan_ir.specs.relay_marks.Connections.{connection_among}
+use Rattle.plan_ir.specs.relay_marks.Locals.{locals_of}
 use Rattle.relay_machine.specs.relay_model.Collection.{Part, ask_of, collect, collect_in, collect_with, connection_asked, enter_where, form_on, is_open, part_inside, pointer_to, spread_items}
 use Rattle.relay_machine.specs.relay_model.Readings.{masked_setting}
 use Rattle.retained_reads.proofs.Agreeing.{Agree, arguments_same, inside_agree, left_same, scope_same}

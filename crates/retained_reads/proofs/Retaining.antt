@@ -8,8 +8,8 @@ use Rattle.plan_project.proofs.plan_build_laws.PartDepths.{selections_enough}
 use Rattle.plan_ir.specs.Expansion as plans
 use Rattle.plan_ir.specs.Expansion.{name_or, spreads_in}
 use Rattle.plan_project.proofs.SpreadChains.{Bounded}
-use Rattle.relay_machine.proofs.plan_text_laws.Collects.{sels_append-end}
-use Rattle.relay_machine.specs.plan_text.Collecting.{with_additions}
+use Rattle.relay_machine.proofs.plan_collect_laws.Collects.{sels_append-end}
+use Rattle.relay_machine.specs.plan_collect.Collecting.{with_additions}
 use Rattle.relay_machine.specs.Machine.{Project, Retained, documents_of, slots_of}
 use Rattle.relay_machine.specs.relay_model.Collection.{Part, collect, part_of}
 use Rattle.relay_machine.specs.relay_model.Reaches.{operation_reaches, whole_depth}

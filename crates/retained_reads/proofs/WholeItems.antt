@@ -6,7 +6,7 @@ use Rattle.plan_ir.specs.gql_ast.Sels.{Sels, sels_append}
 use Rattle.plan_ir.specs.gql_ast.declared.directive.Directive.{Directive}
 use Rattle.plan_ir.specs.Expansion.{Project}
 use Rattle.plan_project.proofs.plan_read_laws.Zips.{zip_kept, zip_where}
-use Rattle.relay_machine.specs.plan_text.Collecting.{applies, environment_inside, field_additions, is_left_out, with_additions}
+use Rattle.relay_machine.specs.plan_collect.Collecting.{applies, environment_inside, field_additions, is_left_out, with_additions}
 use Rattle.relay_machine.specs.relay_model.Collection.{Part, Setting, ask_of, collect, collect_in, collect_with, enter_where, spread_items}
 use Rattle.relay_machine.specs.relay_model.Readings.{no_place}
 use Rattle.relay_machine.specs.relay_model.Responses.{whole_setting}

@@ -9,7 +9,7 @@ use Rattle.plan_ir.specs.schema_types.Sites.{OperationAt}
 use Rattle.plan_project.specs.Lookups.{Agree, operation_in}
 use Rattle.plan_read.specs.Plans.{reader_in}
 use Rattle.plan_read.specs.Steps.{operation_reader}
-use Rattle.plan_read.specs.plan_expand.Answers.{project}
+use Rattle.plan_ir.specs.Projects.{project}
 
 pub is_there : {X Y : Type 0} (P : X → Y → Type 0) (x : Option X) (y : Option (Bor Y)) (none : Bool) → Agree P x (option_copied y) → is_some y ≡ not none → none ≡ false → is_some x ≡ true
 is_there P None None none agree is full = is ∙ ap not full

@@ -1,6 +1,7 @@
 //! What the directives after Relay say: the local variables of fragments, and connections.
 use crate::texts::{documents, schema};
-use plan_ir::{Conn, Definition, Selection, Words, check_relay, connection, locals};
+use plan_ir::{Conn, Definition, Selection, Words, connection, locals};
+use plan_project::check_relay;
 use std::alloc::Global;
 use std::process::Abort;
 use std::test::Fail;

@@ -3,9 +3,10 @@
 //! project.
 use crate::texts::{documents, schema, type_of, value_of};
 use plan_ir::{
-    Definition, Documents, Env, NoMemory, Pairs, Plain, Schema, VarFault, VariableDefs, Words,
-    evaluate, fits, plain_of, text_of, variables,
+    Definition, Documents, Env, NoMemory, Pairs, Plain, Schema, VariableDefs, Words, evaluate,
+    plain_of, text_of,
 };
+use schema_values::{VarFault, fits, variables};
 use serde_json::Value;
 use std::alloc::Global;
 use std::process::Abort;

@@ -3,7 +3,7 @@ use Rattle.std.proofs.Common.{◌≡◌, List, [], ◌∷◌, map, refl, ap}
 use Rattle.schema_types.specs.gql_ast.declared.variable.VariableDef.{VariableDef}
 use Rattle.schema_types.specs.gql_plain.Order.{member_at}
 use Rattle.schema_types.specs.Environments.{Values, environment, value_or_default, with_pair}
-use Rattle.schema_values.specs.Listed.{first_of_each, given_or_default}
+use Rattle.constant_values.specs.Listed.{first_of_each, given_or_default}
 
 pub environment-listed : (ds : List VariableDef) (given : Values) → environment ds given ≡ first_of_each (map (given_or_default given) ds)
 environment-listed [] given = refl

@@ -3,8 +3,8 @@ use Rattle.std.specs.Prelude.{◌≡◌, List, Option, Some}
 use Rattle.schema_types.specs.gql_ast.declared.variable.VariableDef.{VariableDef}
 use Rattle.schema_types.specs.Environments.{Failure, Values, first_failure, missing, unfit}
 use Rattle.schema_types.specs.schema_tables.Types.{Defs}
-use Rattle.schema_values.specs.declared.env.VarFault.{VarFault}
-use Rattle.schema_values.specs.declared.env.VarFault.TheVariants as F
+use Rattle.schema_values.specs.declared.fault.VarFault.{VarFault}
+use Rattle.schema_values.specs.declared.fault.VarFault.TheVariants as F
 
 -- the failure is the one that was found; want of memory says nothing
 abbrev pub Tells : Option Failure → VarFault → Type 0

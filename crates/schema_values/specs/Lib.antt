@@ -1,9 +1,2 @@
-pub use Rattle.schema_types.specs.gql_graph
-pub use Rattle.schema_types.specs.schema_rules
-pub use Rattle.schema_types.specs.schema_tables
-pub use Rattle.schema_types.specs.schema_trees
-pub use Rattle.schema_types.specs as schema_types
 pub mod Failures
-pub mod Fittings
-pub mod Listed
 pub mod Means

@@ -4,12 +4,11 @@ ghost use Rattle.schema_types.specs.gql_plain.Order.{member_at};
 ghost use Rattle.schema_types.specs.gql_plain.Shown.{tree_of, shown_members};
 ghost use Rattle.schema_types.specs.Environments as environments;
 ghost use Rattle.schema_values.specs.Failures.{Tells, IsFailure};
-ghost use Rattle.schema_values.specs.Listed.{given_or_default};
+ghost use Rattle.constant_values.specs.Listed.{given_or_default};
 
-use crate::env::{Env, VarFault};
-use crate::evaluated::evaluate_under;
-use crate::pairs::first_of_each;
+use crate::fault::VarFault;
 use crate::suited::fits;
+use constant_values::{Env, evaluate_under, first_of_each};
 use schema_types::type_forms::is_non_null;
 use schema_types::{
     Name, NoMemory, Pairs, Plain, Schema, ValueTree, VariableDef, VariableDefs, Words,

@@ -1,6 +1,6 @@
 -- What a response says to an operation of an accepted project is sound, and so is each state of the machine.
 use Rattle.std.proofs.Common.{◌≡◌, ℕ, ◌+◌, List, [], ◌∷◌, refl, sym, ◌∙◌}
-use Rattle.plan_build.specs.doc_merge.Faults.{field_differences}
+use Rattle.plan_project.specs.doc_merge.Faults.{field_differences}
 use Rattle.plan_ir.specs.gql_ast.declared.document.Document.{Document}
 use Rattle.plan_ir.specs.gql_ast.declared.place.Placed.{Placed}
 use Rattle.plan_build.proofs.ConnectedNodes.{operations_that_meet_are_connected}
@@ -12,7 +12,7 @@ use Rattle.plan_build.specs.Connected.{IsConnected}
 use Rattle.plan_build.specs.Meeting.{OperationMeetsRules}
 use Rattle.plan_build.specs.NodesMeaning.{Set, collect_nodes}
 use Rattle.plan_build.specs.Suited.{IsSuited}
-use Rattle.relay_machine.specs.plan_expand.Places.{place_in}
+use Rattle.plan_ir.specs.Projects.{place_in}
 use Rattle.plan_ir.specs.Expansion.{whole_operation}
 use Rattle.plan_ir.specs.declared.expanded.Expanded.{Expanded}
 use Rattle.plan_ir.specs.schema_rules.Checked.{IsSound as HasNoFault}

@@ -28,7 +28,7 @@ use Rattle.plan_ir.specs.schema_types.Sites.{typename_on}
 use Rattle.plan_ir.specs.store_model.Alike.{Among}
 use Rattle.plan_ir.specs.store_model.Items.{Asked, collect_all, grouped_onto, groups_at, groups_of}
 use Rattle.relay_machine.specs.relay_model.Collection.{connection_asked}
-use Rattle.relay_machine.specs.relay_model.plan_text.Collecting.{applies, is_left_out}
+use Rattle.relay_machine.specs.plan_collect.Collecting.{applies, is_left_out}
 
 -- ---- parts
 

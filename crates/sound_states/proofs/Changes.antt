@@ -1,7 +1,7 @@
 -- What is kept by each change that a line may make of a state is kept by each line.
 use Rattle.std.proofs.Common.{◌≡◌, ℕ, ◌==◌, Bool, true, false, not, cond, List, [], ◌∷◌, ◌++◌, map, take, drop, length, Option, Some, None, is_some, codes, refl, ap, ◌∙◌}
 use Rattle.plan_ir.specs.Expansion.{operation_named, variable_trees}
-use Rattle.plan_ir.specs.relay_dirs.Locals.{locals_of}
+use Rattle.plan_ir.specs.relay_marks.Locals.{locals_of}
 use Rattle.plan_ir.specs.schema_tables.Types.{Text}
 use Rattle.plan_ir.specs.schema_types.Environments.{Failure, Values, environment, first_failure}
 use Rattle.plan_ir.specs.schema_types.NameRules.{fragment_named, fragments, operations}

@@ -2,7 +2,7 @@
 use Rattle.std.specs.Prelude.{◌≡◌, ◌≤◌, length, Option, Some, None}
 use Rattle.std.specs.List.{AllByRecursion}
 use Rattle.plan_ir.specs.Expansion.{operation_named, variable_trees}
-use Rattle.plan_ir.specs.relay_dirs.Locals.{locals_of}
+use Rattle.plan_ir.specs.relay_marks.Locals.{locals_of}
 use Rattle.plan_ir.specs.schema_rules.Rules.{is_object}
 use Rattle.plan_ir.specs.schema_tables.Types.{Text}
 use Rattle.plan_ir.specs.schema_types.Environments.{Values, environment, first_failure}

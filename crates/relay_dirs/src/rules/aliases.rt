@@ -1,16 +1,16 @@
 //! V20, aliases, this project's own: an alias does not begin with `__`, and is `id` on the field `id`
 //! alone. `{ me { id: name } }` breaks it at `id`.
 ghost use Rattle.std.specs.Prelude.{◌≡◌, map, option_map};
-ghost use Rattle.schema_values.specs.gql_graph.Leasts.{least_from};
-ghost use Rattle.schema_values.specs.schema_trees.LocatedView.{name_of};
-ghost use Rattle.schema_values.specs.schema_types.NameRules.{sites_of};
-ghost use Rattle.schema_values.specs.schema_rules.Rules.{begins_with_underscores, each};
+ghost use Rattle.constant_values.specs.gql_graph.Leasts.{least_from};
+ghost use Rattle.constant_values.specs.schema_trees.LocatedView.{name_of};
+ghost use Rattle.constant_values.specs.schema_types.NameRules.{sites_of};
+ghost use Rattle.constant_values.specs.schema_rules.Rules.{begins_with_underscores, each};
 ghost use Rattle.doc_uses.specs.doc_sites.SitesView.{definition_of, site_of};
-ghost use Rattle.relay_dirs.specs.RelayRules as rules;
+ghost use Rattle.relay_rules.specs.RelayRules as rules;
 
+use constant_values::least::Least;
+use constant_values::located::NameAt;
 use doc_uses::{DefinitionAt, Site};
-use schema_values::least::Least;
-use schema_values::located::NameAt;
 
 /// V20: an alias does not begin with `__`, and is `id` on the field `id` alone.
 pub(crate) fn aliases_wrong(least: &mut Least, definitions: &[DefinitionAt<'_>])

@@ -5,17 +5,17 @@
 //! these has an argument that must be given, and no cursor and no page field is Float.
 //! `me { name @connection(key: "K_name") }` breaks it.
 ghost use Rattle.std.specs.Prelude.{◌≡◌, map};
-ghost use Rattle.schema_values.specs.gql_graph.Leasts.{least_from};
-ghost use Rattle.schema_values.specs.schema_types.NameRules.{sites_of};
-ghost use Rattle.schema_values.specs.schema_rules.Rules.{each, is_object};
+ghost use Rattle.constant_values.specs.gql_graph.Leasts.{least_from};
+ghost use Rattle.constant_values.specs.schema_types.NameRules.{sites_of};
+ghost use Rattle.constant_values.specs.schema_rules.Rules.{each, is_object};
 ghost use Rattle.doc_uses.specs.doc_sites.SitesView.{definition_of, directive_of, site_of};
-ghost use Rattle.relay_dirs.specs.Connections as spec;
+ghost use Rattle.relay_marks.specs.Connections as spec;
 
 use crate::rules::keys::field_defined;
+use constant_values::least::Least;
+use constant_values::type_forms::{base_of, item_of};
+use constant_values::{FieldDef, Schema, TypeKind};
 use doc_uses::{DefinitionAt, DirectiveAt, Site};
-use schema_values::least::Least;
-use schema_values::type_forms::{base_of, item_of};
-use schema_values::{FieldDef, Schema, TypeKind};
 
 /// V22: a field with `@connection` has the type of a connection.
 pub(crate) fn connections_wrong(

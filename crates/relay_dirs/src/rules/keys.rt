@@ -4,21 +4,21 @@
 ghost use Rattle.std.specs.Prelude.{◌≡◌, map, option_copied, option_map};
 ghost use Rattle.gql_syntax.specs.gql_ast.Value.{vals_of};
 ghost use Rattle.gql_syntax.specs.gql_ast.ValueView.{value_of};
-ghost use Rattle.schema_values.specs.gql_graph.Leasts.{least_from};
-ghost use Rattle.schema_values.specs.schema_trees.LocatedView.{name_of};
-ghost use Rattle.schema_values.specs.schema_types.NameRules.{sites_of};
-ghost use Rattle.schema_values.specs.gql_graph.Rules.{each};
+ghost use Rattle.constant_values.specs.gql_graph.Leasts.{least_from};
+ghost use Rattle.constant_values.specs.schema_trees.LocatedView.{name_of};
+ghost use Rattle.constant_values.specs.schema_types.NameRules.{sites_of};
+ghost use Rattle.constant_values.specs.gql_graph.Rules.{each};
 ghost use Rattle.gql_syntax.specs.gql_plain.Order.{has_text};
 ghost use Rattle.doc_uses.specs.doc_sites.SitesView.{argument_of, definition_of, directive_of, site_of};
-ghost use Rattle.relay_dirs.specs.Connections as spec;
+ghost use Rattle.relay_marks.specs.Connections as spec;
 
 use crate::values::value_named;
+use constant_values::least::Least;
+use constant_values::located::NameAt;
+use constant_values::{FieldDef, InputDefs, Schema};
 use doc_uses::{ArgumentAt, DefinitionAt, DirectiveAt, Site};
 use gql_syntax::gql_ast::{ValueTree, ValueTrees};
 use gql_syntax::gql_plain::is_name;
-use schema_values::least::Least;
-use schema_values::located::NameAt;
-use schema_values::{FieldDef, InputDefs, Schema};
 
 /// V21: the key of a connection is a Name that ends with `_` and the response key, with something in
 /// front, and its filters are a list of names of arguments.

@@ -3,25 +3,25 @@
 //! `fragment F on User @argumentDefinitions(n: { type: "Int" }) { ...P @arguments(size: $n) }` breaks it
 //! at `P`, where `size` is an `Int!`.
 ghost use Rattle.std.specs.Prelude.{◌≡◌, List, map, option_map, OnOk};
-ghost use Rattle.schema_values.specs.gql_graph.Leasts.{least_from};
-ghost use Rattle.schema_values.specs.gql_graph.Rules.{each};
-ghost use Rattle.schema_values.specs.schema_types.Sites as parts;
+ghost use Rattle.constant_values.specs.gql_graph.Leasts.{least_from};
+ghost use Rattle.constant_values.specs.gql_graph.Rules.{each};
+ghost use Rattle.constant_values.specs.schema_types.Sites as parts;
 ghost use Rattle.doc_uses.specs.doc_sites.Definitions.{on_fragment};
 ghost use Rattle.doc_uses.specs.doc_sites.SitesView.{definition_of, fragment_of};
 ghost use Rattle.doc_uses.specs.UseView.{place_of, use_of};
-ghost use Rattle.relay_dirs.specs.Locals as locals;
-ghost use Rattle.relay_dirs.specs.Spreads as spec;
+ghost use Rattle.relay_marks.specs.Locals as locals;
+ghost use Rattle.relay_rules.specs.Spreads as spec;
 ghost use Rattle.relay_dirs.specs.Tables.{Serves, Suits};
-ghost use Rattle.relay_dirs.specs.View.{local_view};
+ghost use Rattle.relay_marks.specs.View.{local_view};
 
 use crate::fragments::{Fragments, Locals};
-use crate::local_variables::locals_of;
+use crate::located_locals::locals_of;
 use crate::spread_uses::uses_in_spreads;
+use constant_values::Schema;
+use constant_values::least::Least;
 use doc_uses::{DefinitionAt, FragmentAt, Place, Use};
 use gql_syntax::gql_ast::VariableDef;
 use gql_syntax::gql_plain::NoMemory;
-use schema_values::Schema;
-use schema_values::least::Least;
 use std::alloc::Global;
 
 /// Uses of local variables in spreads that are not allowed.

@@ -4,21 +4,21 @@
 ghost use Rattle.std.specs.Prelude.{◌≡◌, map, option_map, IfOk, OnOk};
 ghost use Rattle.gql_syntax.specs.gql_ast.TypeView.{ty_of};
 ghost use Rattle.gql_syntax.specs.gql_ast.ValueView.{value_of};
-ghost use Rattle.schema_values.specs.schema_types.ArgumentRules as arguments;
-ghost use Rattle.schema_values.specs.gql_graph.Leasts.{least_from};
-ghost use Rattle.schema_values.specs.gql_graph.Rules.{each};
+ghost use Rattle.constant_values.specs.schema_types.ArgumentRules as arguments;
+ghost use Rattle.constant_values.specs.gql_graph.Leasts.{least_from};
+ghost use Rattle.constant_values.specs.gql_graph.Rules.{each};
 ghost use Rattle.doc_uses.specs.doc_sites.SitesView.{argument_of, definition_of, directive_of};
-ghost use Rattle.relay_dirs.specs.Locals as spec;
-ghost use Rattle.relay_dirs.specs.RelayRules as rules;
-ghost use Rattle.relay_dirs.specs.View.{local_view};
+ghost use Rattle.relay_marks.specs.Locals as spec;
+ghost use Rattle.relay_rules.specs.RelayRules as rules;
+ghost use Rattle.relay_marks.specs.View.{local_view};
 
-use crate::local_variables::local_of;
+use constant_values::least::Least;
+use constant_values::type_forms::base_of;
+use constant_values::{Schema, TypeKind, is_constant};
 use doc_uses::{ArgumentAt, DefinitionAt, DirectiveAt};
 use gql_syntax::gql_ast::{TypeTree, ValueTree, VariableDef};
 use gql_syntax::gql_plain::NoMemory;
-use schema_values::least::Least;
-use schema_values::type_forms::base_of;
-use schema_values::{Schema, TypeKind, is_constant};
+use relay_marks::local_of;
 use std::alloc::Global;
 
 /// V17: each argument of `@argumentDefinitions` says a local variable of an input type, whose default

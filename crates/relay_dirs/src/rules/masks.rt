@@ -2,16 +2,16 @@
 //! `...P @relay(mask: $m)` breaks it at `relay`.
 ghost use Rattle.std.specs.Prelude.{◌≡◌, map, option_map};
 ghost use Rattle.gql_syntax.specs.gql_ast.ValueView.{value_of};
-ghost use Rattle.schema_values.specs.gql_graph.Leasts.{least_from};
-ghost use Rattle.schema_values.specs.schema_types.NameRules.{sites_of};
-ghost use Rattle.schema_values.specs.gql_graph.Rules.{each};
+ghost use Rattle.constant_values.specs.gql_graph.Leasts.{least_from};
+ghost use Rattle.constant_values.specs.schema_types.NameRules.{sites_of};
+ghost use Rattle.constant_values.specs.gql_graph.Rules.{each};
 ghost use Rattle.doc_uses.specs.doc_sites.SitesView.{definition_of, directive_of, site_of};
-ghost use Rattle.relay_dirs.specs.RelayRules as rules;
+ghost use Rattle.relay_rules.specs.RelayRules as rules;
 
 use crate::values::value_named;
+use constant_values::least::Least;
 use doc_uses::{DefinitionAt, DirectiveAt, Site};
 use gql_syntax::gql_ast::ValueTree;
-use schema_values::least::Least;
 
 /// V19: the mask of `@relay` is a truth value, literally.
 pub(crate) fn masks_wrong(least: &mut Least, definitions: &[DefinitionAt<'_>])

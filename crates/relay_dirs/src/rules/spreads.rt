@@ -3,24 +3,24 @@
 //! without default is given, and not as `null`. `...P @arguments(size: "a")` breaks it at `P`, where
 //! `size` is an `Int`.
 ghost use Rattle.std.specs.Prelude.{◌≡◌, List, map, OnOk};
-ghost use Rattle.schema_values.specs.gql_graph.Leasts.{least_from};
-ghost use Rattle.schema_values.specs.gql_graph.Rules.{each};
-ghost use Rattle.schema_values.specs.schema_trees.LocatedView.{name_of};
-ghost use Rattle.schema_values.specs.schema_types.NameRules.{sites_of};
-ghost use Rattle.schema_values.specs.schema_types.Sites as parts;
+ghost use Rattle.constant_values.specs.gql_graph.Leasts.{least_from};
+ghost use Rattle.constant_values.specs.gql_graph.Rules.{each};
+ghost use Rattle.constant_values.specs.schema_trees.LocatedView.{name_of};
+ghost use Rattle.constant_values.specs.schema_types.NameRules.{sites_of};
+ghost use Rattle.constant_values.specs.schema_types.Sites as parts;
 ghost use Rattle.doc_uses.specs.doc_sites.SitesView.{definition_of, directive_of, site_of};
-ghost use Rattle.relay_dirs.specs.Spreads as spec;
+ghost use Rattle.relay_rules.specs.Spreads as spec;
 ghost use Rattle.relay_dirs.specs.Tables.{Suits};
 
 use crate::fragments::{Fragments, list_locals};
 use crate::rules::local_uses::note_local_uses;
 use crate::rules::variable_uses::note_variable_uses;
 use crate::spread_arguments::{are_given_well, spread_arguments};
+use constant_values::Schema;
+use constant_values::least::Least;
+use constant_values::located::NameAt;
 use doc_uses::{DefinitionAt, DirectiveAt, Site};
 use gql_syntax::gql_plain::NoMemory;
-use schema_values::Schema;
-use schema_values::least::Least;
-use schema_values::located::NameAt;
 use std::alloc::Global;
 
 /// V18: what spreads give fits, and each local variable is given that must be.

@@ -3,23 +3,23 @@
 //! (GraphQL, October 2021, section 5.8.5). `query Q($n: Int) { me { ...P @arguments(size: $n) } }`
 //! breaks it at `P`, where `size` is an `Int!`.
 ghost use Rattle.std.specs.Prelude.{◌≡◌, List, map, OnOk};
-ghost use Rattle.schema_values.specs.gql_graph.Leasts.{least_from};
-ghost use Rattle.schema_values.specs.gql_graph.Rules.{each};
-ghost use Rattle.schema_values.specs.schema_types.NameRules.{fragments};
-ghost use Rattle.schema_values.specs.schema_types.Sites as parts;
+ghost use Rattle.constant_values.specs.gql_graph.Leasts.{least_from};
+ghost use Rattle.constant_values.specs.gql_graph.Rules.{each};
+ghost use Rattle.constant_values.specs.schema_types.NameRules.{fragments};
+ghost use Rattle.constant_values.specs.schema_types.Sites as parts;
 ghost use Rattle.doc_uses.specs.doc_sites.Definitions.{on_operation};
 ghost use Rattle.doc_uses.specs.doc_sites.SitesView.{definition_of, operation_of};
 ghost use Rattle.doc_uses.specs.FragmentUses.{Describes};
-ghost use Rattle.relay_dirs.specs.Spreads as spec;
+ghost use Rattle.relay_rules.specs.Spreads as spec;
 ghost use Rattle.relay_dirs.specs.Tables.{Suits};
 
 use crate::fragment_uses::fragment_uses;
 use crate::fragments::Fragments;
 use crate::spread_uses::uses_in_spreads;
+use constant_values::Schema;
+use constant_values::least::Least;
 use doc_uses::{DefinitionAt, FragmentUses, OperationAt, note_wrong_uses};
 use gql_syntax::gql_plain::NoMemory;
-use schema_values::Schema;
-use schema_values::least::Least;
 use std::alloc::Global;
 
 /// Uses of variables in spreads that are not defined, or not allowed.

@@ -3,7 +3,7 @@ use Rattle.std.proofs.Common.{◌≡◌, ◌+◌, ◌*◌, map, drop, option_map
 use Rattle.std.specs.Prelude.{option_copied}
 use Rattle.plan_ir.specs.gql_ast.Value.{members_of, vals_of, val_depth, vals_depth, members_depth}
 use Rattle.plan_ir.specs.gql_ast.ValueView.{value_of, argument_of}
-use Rattle.plan_ir.specs.doc_uses.UseView.{fields_of_name, place_of}
+use Rattle.doc_uses.specs.UseView.{fields_of_name, place_of}
 use Rattle.doc_merge.specs.Values.{items_are_allowed, members_are_allowed}
 use Rattle.doc_merge.proofs.values.+uses.Given as goal
 

@@ -1,6 +1,6 @@
 -- The definitions are those of the documents, and so is what stands ready.
 use Rattle.std.proofs.Common.{map, Option, is_some, ap, subst, ◌∙◌}
-use Rattle.plan_ir.specs.doc_sites.SitesView.{definition_of}
+use Rattle.doc_sites.specs.SitesView.{definition_of}
 use Rattle.plan_ir.specs.Expansion.{Whole}
 use Rattle.plan_expand.specs.Answers.{IsAnswer, whole_in}
 use Rattle.plan_expand.proofs.definition.expand.Goals as goal

@@ -1,6 +1,6 @@
 -- What is copied and what is left are the whole.
 use Rattle.std.proofs.Common.{◌≡◌, ◌++◌, map, drop}
-use Rattle.plan_ir.specs.doc_sites.SitesView.{argument_of}
+use Rattle.doc_sites.specs.SitesView.{argument_of}
 use Rattle.plan_ir.specs.Expansion.{argument_pairs}
 use Rattle.plan_expand.proofs.directives.copy_arguments.Given as goal
 

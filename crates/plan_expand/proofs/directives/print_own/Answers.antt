@@ -1,6 +1,6 @@
 -- One more directive, and all of them.
 use Rattle.std.proofs.Common.{◌∷◌, [], map, refl, arith}
-use Rattle.plan_ir.specs.doc_sites.SitesView.{directive_of}
+use Rattle.doc_sites.specs.SitesView.{directive_of}
 use Rattle.plan_ir.specs.Expansion.{directive_tree, directive_trees, is_printed, printed_directives}
 use Rattle.plan_ir.specs.Substitution.{operation_scope}
 use Rattle.plan_expand.proofs.DirectiveSteps.{such_before}

@@ -1,6 +1,6 @@
 -- What is printed and what is left are the whole.
 use Rattle.std.proofs.Common.{◌≡◌, ◌++◌, map, drop}
-use Rattle.plan_ir.specs.doc_sites.SitesView.{directive_of}
+use Rattle.doc_sites.specs.SitesView.{directive_of}
 use Rattle.plan_ir.specs.Expansion.{printed_directives, directive_trees}
 use Rattle.plan_ir.specs.Substitution.{operation_scope}
 use Rattle.plan_expand.proofs.directives.print_own.Given as goal

@@ -1,7 +1,7 @@
 -- It is printed as it stands: there are no local variables in it.
 use Rattle.std.proofs.Common.{◌≡◌, OnOk, true, List, [], ◌∷◌, ◌++◌, map, ap, sym, subst, ◌∙◌}
-use Rattle.plan_ir.specs.doc_sites.SitesView.{argument_of, directive_of}
-use Rattle.plan_ir.specs.doc_sites.declared.site.ArgumentAt.{ArgumentAt}
+use Rattle.doc_sites.specs.SitesView.{argument_of, directive_of}
+use Rattle.doc_sites.specs.declared.site.ArgumentAt.{ArgumentAt}
 use Rattle.plan_ir.specs.gql_ast.declared.directive.Directive.{Directive}
 use Rattle.plan_ir.specs.Expansion.{argument_pairs, directive_tree, is_printed}
 use Rattle.plan_ir.specs.Substitution.{operation_scope}

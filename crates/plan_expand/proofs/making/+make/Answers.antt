@@ -3,7 +3,7 @@ use Rattle.std.proofs.Common.{◌≡◌, ◌<◌, ◌-◌, get_or, Some, ap, sym
 use Rattle.std.specs.Prelude.{option_copied, option_map}
 use Rattle.plan_ir.specs.gql_ast.declared.place.FilePlace.{FilePlace}
 use Rattle.plan_ir.specs.Nodes.{end, inline}
-use Rattle.plan_expand.specs.Places.{first_place}
+use Rattle.plan_ir.specs.Projects.{first_place}
 use Rattle.plan_expand.specs.Making.{Ready, making, ready_scope, spread_node}
 use Rattle.plan_expand.proofs.Depths.{entered_deep, selection_below, spread_depth}
 use Rattle.plan_expand.specs.ReadyView.{find_in, ready_of}

@@ -1,6 +1,6 @@
 -- What is copied and what is left are the whole.
 use Rattle.std.proofs.Common.{◌≡◌, ◌++◌, map, drop}
-use Rattle.plan_ir.specs.doc_sites.SitesView.{variable_of}
+use Rattle.doc_sites.specs.SitesView.{variable_of}
 use Rattle.plan_ir.specs.Expansion.{variable_trees}
 use Rattle.plan_expand.proofs.operations.variables_of.Given as goal
 

@@ -1,7 +1,8 @@
 -- What is put and what is left are the whole.
 use Rattle.std.proofs.Common.{◌≡◌, ◌++◌, map, drop}
-use Rattle.plan_ir.specs.doc_sites.SitesView.{site_of}
-use Rattle.plan_expand.specs.Places.{place_in, site_places_in}
+use Rattle.doc_sites.specs.SitesView.{site_of}
+use Rattle.plan_expand.specs.Places.{site_places_in}
+use Rattle.plan_ir.specs.Projects.{place_in}
 use Rattle.plan_expand.proofs.places.site_places.Given as goal
 
 abbrev pub invariant-sites : goal.invariant-sites

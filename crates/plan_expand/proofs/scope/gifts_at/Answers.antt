@@ -1,7 +1,7 @@
 -- One more directive, and all of them.
 use Rattle.std.proofs.Common.{refl, ap, ◌∙◌, arith}
 use Rattle.std.specs.Option.{option_or}
-use Rattle.plan_ir.specs.relay_dirs.Connections.{value_of_name}
+use Rattle.plan_ir.specs.relay_marks.Connections.{value_of_name}
 use Rattle.plan_ir.specs.Substitution.{arguments_at_spread, arguments_in, substitute_in}
 use Rattle.plan_expand.specs.ScopeView.{scope_of}
 use Rattle.plan_expand.proofs.Tables.{directive_before, or_end, or_next}

@@ -2,7 +2,7 @@
 use Rattle.std.proofs.Common.{option_map, refl, ap, ◌∙◌, arith}
 use Rattle.std.specs.Option.{option_or}
 use Rattle.plan_ir.specs.gql_graph.Rules.{each}
-use Rattle.plan_ir.specs.relay_dirs.Connections.{value_of_name}
+use Rattle.plan_ir.specs.relay_marks.Connections.{value_of_name}
 use Rattle.plan_ir.specs.Substitution.{arguments_in}
 use Rattle.plan_expand.specs.Sizes.{size_in}
 use Rattle.plan_expand.specs.SizesView.{sizes_of}

@@ -1,11 +1,11 @@
 -- The rules on documents, and then those on what operations and fragments become.
 use Rattle.std.proofs.Common.{map, ap, subst, sym, ◌∙◌}
 use Rattle.std.proofs.lemmas.Result.{IfErr-weaker}
-use Rattle.plan_ir.specs.doc_sites.SitesView.{definition_of}
+use Rattle.plan_read.specs.doc_sites.SitesView.{definition_of}
 use Rattle.plan_project.proofs.RuleLaws.{expansions_faulty, rules_broken}
 use Rattle.plan_project.proofs.checking.check_documents.Goals as goal
 use Rattle.plan_project.specs.Noting.{IsFaultOfDocuments, IsFaultOfExpansions}
-use Rattle.plan_ir.specs.relay_dirs.RelayRules.{document_rules}
+use Rattle.relay_dirs.specs.relay_rules.RelayRules.{document_rules}
 use Rattle.plan_project.specs.declared.fault.DocumentsFault.TheVariants as D
 use Rattle.plan_ir.specs.schema_rules.declared.fault.NodeFault.{NodeFault}
 use Rattle.plan_ir.specs.schema_types.DocumentRules.{AreFaulty}

@@ -2,7 +2,7 @@
 use Rattle.std.proofs.lemmas.Result.{IfErr-weaker, on_ok_weaker, err_from_is_err_and}
 use Rattle.plan_project.proofs.RuleLaws.{names_faulty, fields_faulty, arguments_faulty, relay_faulty, all_met}
 use Rattle.plan_project.proofs.checking.check_rules.Goals as goal
-use Rattle.plan_ir.specs.relay_dirs.RelayRules.{document_rules, relay_rules}
+use Rattle.relay_dirs.specs.relay_rules.RelayRules.{document_rules, relay_rules}
 use Rattle.plan_ir.specs.schema_types.DocumentRules.{AreFaulty}
 
 pub returns-in_err-check_names_of-clause-fault : goal.returns-in_err-check_names_of-clause-fault

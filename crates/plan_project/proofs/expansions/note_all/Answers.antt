@@ -1,7 +1,7 @@
 -- One definition more, and all of them.
 use Rattle.std.proofs.Common.{List, map, subst}
 use Rattle.std.proofs.lemmas.List.{drop_all}
-use Rattle.plan_ir.specs.doc_sites.SitesView.{definition_of}
+use Rattle.plan_read.specs.doc_sites.SitesView.{definition_of}
 use Rattle.plan_ir.specs.gql_ast.declared.document.Document.{Document}
 use Rattle.plan_ir.specs.gql_ast.declared.place.Placed.{Placed}
 use Rattle.plan_project.proofs.NotingSteps.{noted_all, noted_first, noted_next}

@@ -1,6 +1,6 @@
 -- What is noted and what is left are the whole.
 use Rattle.std.proofs.Common.{drop, map}
-use Rattle.plan_ir.specs.doc_sites.SitesView.{definition_of}
+use Rattle.plan_read.specs.doc_sites.SitesView.{definition_of}
 use Rattle.plan_project.proofs.NotingSteps.{AreNoted}
 use Rattle.plan_project.proofs.expansions.note_all.Given as goal
 

@@ -1,6 +1,6 @@
 -- None so far is `@inline`.
 use Rattle.std.proofs.Common.{◌≡◌, map, drop}
-use Rattle.plan_ir.specs.doc_sites.SitesView.{directive_of}
+use Rattle.plan_expand.specs.doc_sites.SitesView.{directive_of}
 use Rattle.plan_read.specs.Reading.{are_inline}
 use Rattle.plan_read.proofs.masks.is_inline.Given as goal
 

@@ -1,7 +1,7 @@
 -- None so far has the name.
 use Rattle.std.proofs.Common.{◌≡◌, map, drop}
 use Rattle.plan_ir.specs.gql_ast.ValueView.{argument_of}
-use Rattle.plan_ir.specs.relay_dirs.Connections.{value_of_name}
+use Rattle.plan_ir.specs.relay_marks.Connections.{value_of_name}
 use Rattle.plan_read.proofs.masks.value_of_name.Given as goal
 
 abbrev pub invariant-arguments : goal.invariant-arguments

@@ -2,7 +2,7 @@
 use Rattle.std.proofs.Common.{◌≡◌, ◌++◌, map, drop}
 use Rattle.plan_expand.specs.ScopeView.{scope_of}
 use Rattle.plan_read.specs.Steps.{pointer_arguments}
-use Rattle.plan_ir.specs.relay_dirs.View.{local_view}
+use Rattle.plan_ir.specs.relay_marks.View.{local_view}
 use Rattle.plan_read.proofs.pointers.pointer_arguments.Given as goal
 
 abbrev pub invariant-variables : goal.invariant-variables

@@ -1,9 +1,9 @@
 -- What is put and what is left are the whole.
 use Rattle.std.proofs.Common.{◌≡◌, ◌++◌, map, drop}
 use Rattle.plan_ir.specs.gql_graph.Rules.{each}
-use Rattle.plan_ir.specs.doc_sites.SitesView.{directive_of}
-use Rattle.plan_ir.specs.relay_dirs.Locals.{locals_at, locals_of}
-use Rattle.plan_ir.specs.relay_dirs.View.{local_view}
+use Rattle.plan_expand.specs.doc_sites.SitesView.{directive_of}
+use Rattle.plan_ir.specs.relay_marks.Locals.{locals_at, locals_of}
+use Rattle.plan_ir.specs.relay_marks.View.{local_view}
 use Rattle.plan_read.proofs.variables.locals_of.Given as goal
 
 abbrev pub invariant-directives : goal.invariant-directives

@@ -1,4 +1,4 @@
-use Rattle.plan_text.proofs.Collects.{text_collects_the_same}
+use Rattle.plan_collect.proofs.Collects.{text_collects_the_same}
 use Rattle.plan_text.proofs.laws.text_collects_the_same.Goals as goal
 
 pub returns : goal.returns

@@ -1,8 +1,8 @@
 -- The definitions are those of the documents.
 use Rattle.std.proofs.Common.{List, sym, ap, ◌∙◌}
-use Rattle.relay_dirs.specs.RelayRules.{relay_rules}
-use Rattle.schema_values.specs.gql_graph.Rules.{first_broken}
-use Rattle.schema_values.specs.schema_types.Sites.{DefinitionAt}
+use Rattle.relay_rules.specs.RelayRules.{relay_rules}
+use Rattle.constant_values.specs.gql_graph.Rules.{first_broken}
+use Rattle.constant_values.specs.schema_types.Sites.{DefinitionAt}
 use Rattle.relay_dirs.proofs.check.check_relay_of.Goals as goal
 
 pub returns-in-Some-clause-fault : goal.returns-in-Some-clause-fault

@@ -1,14 +1,14 @@
 -- Each rule is settled.
 use Rattle.std.proofs.Common.{ℕ, List, drop, map, Option, ap, ◌∙◌}
-use Rattle.schema_values.specs.gql_graph.Rules.{first_from}
-use Rattle.schema_values.proofs.gql_graph_laws.LeastSteps.{found_last, noted_alone}
+use Rattle.constant_values.specs.gql_graph.Rules.{first_from}
+use Rattle.constant_values.proofs.gql_graph_laws.LeastSteps.{found_last, noted_alone}
 use Rattle.doc_uses.specs.doc_sites.SitesView.{definition_of}
-use Rattle.schema_values.specs.schema_rules.declared.fault.Rule.{Rule}
-use Rattle.schema_values.specs.schema_tables.Types.{Defs}
-use Rattle.schema_values.specs.schema_types.Sites.{DefinitionAt}
-use Rattle.relay_dirs.specs.Connections.{keys_wrong, connections_wrong}
-use Rattle.relay_dirs.specs.RelayRules.{relay_rules, locals_wrong, masks_wrong, aliases_wrong}
-use Rattle.relay_dirs.specs.Spreads.{spreads_wrong}
+use Rattle.constant_values.specs.schema_rules.declared.fault.Rule.{Rule}
+use Rattle.constant_values.specs.schema_tables.Types.{Defs}
+use Rattle.constant_values.specs.schema_types.Sites.{DefinitionAt}
+use Rattle.relay_marks.specs.Connections.{keys_wrong, connections_wrong}
+use Rattle.relay_rules.specs.RelayRules.{relay_rules, locals_wrong, masks_wrong, aliases_wrong}
+use Rattle.relay_rules.specs.Spreads.{spreads_wrong}
 use Rattle.relay_dirs.proofs.check.first_broken.Goals as goal
 
 pub returns : goal.returns

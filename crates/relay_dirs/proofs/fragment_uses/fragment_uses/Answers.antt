@@ -1,5 +1,5 @@
 -- What is gathered is in each fragment.
-use Rattle.relay_dirs.specs.Spreads.{uses_in_fragment}
+use Rattle.relay_rules.specs.Spreads.{uses_in_fragment}
 use Rattle.relay_dirs.proofs.fragment_uses.fragment_uses.Goals as goal
 
 pub returns : goal.returns

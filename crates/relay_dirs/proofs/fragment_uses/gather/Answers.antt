@@ -1,12 +1,12 @@
 -- One more definition, and all of them.
 use Rattle.std.proofs.Common.{[], List, ◌++◌, map, refl, ◌∙◌, arith}
-use Rattle.schema_values.specs.schema_types.ArgumentRules.{Use}
-use Rattle.schema_values.specs.schema_types.Sites.{FragmentAt}
+use Rattle.constant_values.specs.schema_types.ArgumentRules.{Use}
+use Rattle.constant_values.specs.schema_types.Sites.{FragmentAt}
 use Rattle.doc_uses.specs.doc_sites.SitesView.{definition_of}
 use Rattle.doc_uses.proofs.doc_sites_laws.ListSteps.{collect_next, collect_end}
 use Rattle.doc_uses.specs.UsesByName.{named_in}
 use Rattle.doc_uses.proofs.UseSteps.{gathered_all}
-use Rattle.relay_dirs.specs.Spreads.{uses_in_fragment}
+use Rattle.relay_rules.specs.Spreads.{uses_in_fragment}
 use Rattle.relay_dirs.proofs.fragment_uses.gather.Goals as goal
 
 pub definitions-init : goal.definitions-init

@@ -1,8 +1,8 @@
 -- An operation, and a fragment with the uses that are left.
 use Rattle.std.proofs.Common.{◌≡◌, OnOk, List, ◌++◌, map, ap, sym, subst, ◌∙◌}
 use Rattle.std.proofs.lemmas.List.{append-nil}
-use Rattle.schema_values.specs.schema_types.ArgumentRules as rules
-use Rattle.schema_values.specs.schema_types.Sites as parts
+use Rattle.constant_values.specs.schema_types.ArgumentRules as rules
+use Rattle.constant_values.specs.schema_types.Sites as parts
 use Rattle.doc_uses.specs.doc_sites.SitesView.{definition_of, fragment_of, site_of}
 use Rattle.doc_uses.specs.doc_sites.declared.site.DefinitionAt.{DefinitionAt}
 use Rattle.doc_uses.specs.doc_sites.declared.site.Site.{Site}
@@ -10,7 +10,7 @@ use Rattle.doc_uses.specs.Parts.{free_part}
 use Rattle.doc_uses.specs.UsesByName.{Gathers, named_in, named_uses}
 use Rattle.doc_uses.specs.UseView.{use_of}
 use Rattle.doc_uses.specs.declared.uses.Use.{Use}
-use Rattle.relay_dirs.specs.Spreads.{uses_in_fragment, uses_in_spreads}
+use Rattle.relay_rules.specs.Spreads.{uses_in_fragment, uses_in_spreads}
 use Rattle.relay_dirs.proofs.fragment_uses.put_definition.Goals as goal
 
 pub returns-in-Operation : goal.returns-in-Operation

@@ -6,10 +6,10 @@ use Rattle.std.specs.Cmp.Lexicographic.{slice_cmp}
 use Rattle.std.specs.Ordering.{nat_cmp}
 use Rattle.std.specs.Prelude.{ℕ}
 use Rattle.gql_syntax.specs.gql_ast.declared.variable.VariableDef.{VariableDef}
-use Rattle.schema_values.specs.gql_graph.Texts.{Text}
-use Rattle.schema_values.proofs.gql_graph_laws.Graphs.{map_cond}
-use Rattle.relay_dirs.specs.Locals.{local_named}
-use Rattle.relay_dirs.specs.View.{local_view}
+use Rattle.constant_values.specs.gql_graph.Texts.{Text}
+use Rattle.constant_values.proofs.gql_graph_laws.Graphs.{map_cond}
+use Rattle.relay_marks.specs.Locals.{local_named}
+use Rattle.relay_marks.specs.View.{local_view}
 use Rattle.relay_dirs.proofs.SpreadSteps.{local_next}
 use Rattle.relay_dirs.proofs.fragments.index.Goals as goal
 use denote.Ref.{Bor}

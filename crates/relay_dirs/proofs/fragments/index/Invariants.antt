@@ -3,9 +3,9 @@ use Rattle.std.proofs.Common.{◌≡◌, ◌≤◌, length, map, drop, option_ma
 use Rattle.std.specs.BTreeMap.{get_by}
 use Rattle.std.specs.Cmp.Lexicographic.{slice_cmp}
 use Rattle.std.specs.Ordering.{nat_cmp}
-use Rattle.schema_values.specs.gql_graph.Texts.{Text}
-use Rattle.relay_dirs.specs.Locals.{local_named}
-use Rattle.relay_dirs.specs.View.{local_view}
+use Rattle.constant_values.specs.gql_graph.Texts.{Text}
+use Rattle.relay_marks.specs.Locals.{local_named}
+use Rattle.relay_marks.specs.View.{local_view}
 use Rattle.relay_dirs.proofs.fragments.index.Given as goal
 
 abbrev pub decreases-locals : goal.decreases-locals

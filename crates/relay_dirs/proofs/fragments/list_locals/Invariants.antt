@@ -1,6 +1,6 @@
 -- What is put and what is left are the whole.
 use Rattle.std.proofs.Common.{◌≡◌, ◌++◌, map, drop}
-use Rattle.schema_values.specs.gql_graph.Rules.{each}
+use Rattle.constant_values.specs.gql_graph.Rules.{each}
 use Rattle.doc_uses.specs.doc_sites.SitesView.{definition_of}
 use Rattle.relay_dirs.specs.Tables.{fragment_locals, pair_of}
 use Rattle.relay_dirs.proofs.fragments.list_locals.Given as goal

@@ -1,8 +1,8 @@
 -- What is put and what is left are the whole.
 use Rattle.std.proofs.Common.{◌≡◌, ◌++◌, map, drop}
-use Rattle.schema_values.specs.gql_graph.Rules.{each}
+use Rattle.constant_values.specs.gql_graph.Rules.{each}
 use Rattle.relay_dirs.specs.Tables.{required_name}
-use Rattle.relay_dirs.specs.View.{local_view}
+use Rattle.relay_marks.specs.View.{local_view}
 use Rattle.relay_dirs.proofs.fragments.required_names.Given as goal
 
 abbrev pub invariant-locals : goal.invariant-locals

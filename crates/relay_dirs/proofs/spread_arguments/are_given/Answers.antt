@@ -1,8 +1,8 @@
 -- One that is given, and one that is not.
 use Rattle.std.proofs.Common.{[], get_or, sym, ◌∙◌, arith}
-use Rattle.schema_values.specs.gql_graph.Texts.{Text}
+use Rattle.constant_values.specs.gql_graph.Texts.{Text}
 use Rattle.gql_syntax.specs.gql_plain.Order.{has_text}
-use Rattle.schema_values.proofs.schema_rules_laws.FoundAt.{get_or_own}
+use Rattle.constant_values.proofs.schema_rules_laws.FoundAt.{get_or_own}
 use Rattle.relay_dirs.proofs.SpreadSteps.{all_end, all_next, all_stop}
 use Rattle.relay_dirs.proofs.spread_arguments.are_given.Goals as goal
 use denote.Ref.{Bor}

@@ -1,8 +1,8 @@
 -- Each so far is given.
 use Rattle.std.proofs.Common.{◌≡◌, List, map, drop}
 use Rattle.std.specs.List.{list_all}
-use Rattle.schema_values.specs.gql_graph.Seen.{Knows}
-use Rattle.schema_values.specs.gql_graph.Texts.{Text}
+use Rattle.constant_values.specs.gql_graph.Seen.{Knows}
+use Rattle.constant_values.specs.gql_graph.Texts.{Text}
 use Rattle.gql_syntax.specs.gql_plain.Order.{has_text}
 use Rattle.relay_dirs.proofs.spread_arguments.are_given.Given as goal
 

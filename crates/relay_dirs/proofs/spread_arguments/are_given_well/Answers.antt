@@ -1,8 +1,8 @@
 -- By the local variables of a fragment, or by none.
 use Rattle.std.proofs.Common.{◌≡◌, List, [], Option, map, option_map, ap, sym, subst, ◌∙◌}
 use Rattle.doc_uses.specs.doc_sites.SitesView.{argument_of}
-use Rattle.relay_dirs.specs.Locals.{Local}
-use Rattle.relay_dirs.specs.Spreads.{are_given_well}
+use Rattle.relay_marks.specs.Locals.{Local}
+use Rattle.relay_rules.specs.Spreads.{are_given_well}
 use Rattle.relay_dirs.specs.Tables.{Finds}
 use Rattle.relay_dirs.specs.declared.fragments.Locals.{Locals}
 use Rattle.relay_dirs.proofs.spread_arguments.are_given_well.Goals as goal

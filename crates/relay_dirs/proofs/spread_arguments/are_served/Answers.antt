@@ -1,12 +1,12 @@
 -- What is given fits, and what must be given is.
 use Rattle.std.proofs.Common.{rules as common, ◌≡◌, List, map, ◌&&◌, ap, ◌∙◌}
 use Rattle.std.specs.List.{list_all}
-use Rattle.schema_values.specs.gql_graph.Texts.{Text}
+use Rattle.constant_values.specs.gql_graph.Texts.{Text}
 use Rattle.gql_syntax.specs.gql_plain.Order.{has_text}
-use Rattle.schema_values.specs.schema_types.Sites as sites
+use Rattle.constant_values.specs.schema_types.Sites as sites
 use Rattle.doc_uses.specs.doc_sites.SitesView.{argument_of}
 use Rattle.relay_dirs.specs.GivenNames.{given_names}
-use Rattle.relay_dirs.specs.Spreads.{is_served}
+use Rattle.relay_rules.specs.Spreads.{is_served}
 use Rattle.relay_dirs.proofs.SpreadSteps.{required_all}
 use Rattle.relay_dirs.proofs.spread_arguments.are_served.Goals as goal
 use denote.Ref.{Bor}

@@ -2,8 +2,8 @@
 use Rattle.std.proofs.Common.{◌≡◌, Option, ap, sym, ◌∙◌, arith}
 use Rattle.doc_uses.specs.doc_sites.SitesView.{argument_of}
 use Rattle.gql_syntax.specs.gql_ast.ValueView.{value_of}
-use Rattle.relay_dirs.specs.Locals.{Local}
-use Rattle.relay_dirs.specs.Spreads.{fits_found, fits_local}
+use Rattle.relay_marks.specs.Locals.{Local}
+use Rattle.relay_rules.specs.Spreads.{fits_found, fits_local}
 use Rattle.relay_dirs.proofs.SpreadSteps.{all_end, all_next, all_stop}
 use Rattle.relay_dirs.proofs.spread_arguments.fit_locals.Goals as goal
 

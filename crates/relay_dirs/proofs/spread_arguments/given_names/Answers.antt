@@ -1,8 +1,8 @@
 -- One more argument in front.
 use Rattle.std.proofs.Common.{◌≡◌, ◌+◌, ◌-◌, ◌<◌, ◌++◌, List, length, map, drop, subst, arith}
 use Rattle.std.specs.Prelude.{ℕ}
-use Rattle.schema_values.specs.gql_graph.Seen.{Knows}
-use Rattle.schema_values.specs.gql_graph.Texts.{Text}
+use Rattle.constant_values.specs.gql_graph.Seen.{Knows}
+use Rattle.constant_values.specs.gql_graph.Texts.{Text}
 use Rattle.doc_uses.specs.doc_sites.SitesView.{argument_of}
 use Rattle.relay_dirs.specs.GivenNames.{given_name, given_names}
 use Rattle.relay_dirs.proofs.SpreadSteps.{each_from}

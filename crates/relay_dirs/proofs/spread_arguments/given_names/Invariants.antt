@@ -1,6 +1,6 @@
 -- The names that are passed are seen.
 use Rattle.std.proofs.Common.{◌≤◌, length, map, drop}
-use Rattle.schema_values.specs.gql_graph.Seen.{Knows}
+use Rattle.constant_values.specs.gql_graph.Seen.{Knows}
 use Rattle.doc_uses.specs.doc_sites.SitesView.{argument_of}
 use Rattle.relay_dirs.specs.GivenNames.{given_names}
 use Rattle.relay_dirs.proofs.spread_arguments.given_names.Given as goal

@@ -1,8 +1,8 @@
 -- What is collected and what is left are the whole.
 use Rattle.std.proofs.Common.{◌≡◌, ◌++◌, map, drop}
-use Rattle.schema_values.specs.gql_graph.Rules.{each}
+use Rattle.constant_values.specs.gql_graph.Rules.{each}
 use Rattle.doc_uses.specs.doc_sites.SitesView.{argument_of, directive_of}
-use Rattle.relay_dirs.specs.Spreads.{spread_arguments, arguments_by}
+use Rattle.relay_rules.specs.Spreads.{spread_arguments, arguments_by}
 use Rattle.relay_dirs.proofs.spread_arguments.spread_arguments.Given as goal
 
 abbrev pub invariant-directives : goal.invariant-directives

@@ -1,6 +1,6 @@
 -- One that is found, and none where there are none.
 use Rattle.std.proofs.Common.{◌≡◌, List, [], Option, option_map, ap, sym, subst}
-use Rattle.relay_dirs.specs.Locals.{Local, local_named}
+use Rattle.relay_marks.specs.Locals.{Local, local_named}
 use Rattle.relay_dirs.specs.Tables.{Finds}
 use Rattle.relay_dirs.specs.declared.fragments.Locals.{Locals}
 use Rattle.relay_dirs.proofs.spread_uses.find_local.Goals as goal

@@ -1,7 +1,7 @@
 -- One more argument, and all of them.
 use Rattle.std.proofs.Common.{arith}
 use Rattle.doc_uses.specs.doc_sites.SitesView.{argument_of}
-use Rattle.relay_dirs.specs.Spreads.{uses_of_given}
+use Rattle.relay_rules.specs.Spreads.{uses_of_given}
 use Rattle.doc_uses.proofs.doc_sites_laws.ListSteps.{collect_next, collect_end}
 use Rattle.relay_dirs.proofs.spread_uses.put_given.Goals as goal
 

@@ -1,9 +1,9 @@
 -- What is put and what is left are the whole.
 use Rattle.std.proofs.Common.{◌≡◌, ◌++◌, List, map, drop, option_map}
-use Rattle.schema_values.specs.gql_graph.Rules.{each}
+use Rattle.constant_values.specs.gql_graph.Rules.{each}
 use Rattle.doc_uses.specs.doc_sites.SitesView.{argument_of}
-use Rattle.relay_dirs.specs.Locals.{Local}
-use Rattle.relay_dirs.specs.Spreads.{uses_of_given}
+use Rattle.relay_marks.specs.Locals.{Local}
+use Rattle.relay_rules.specs.Spreads.{uses_of_given}
 use Rattle.relay_dirs.specs.Tables.{Finds}
 use Rattle.doc_uses.specs.UseView.{use_of}
 use Rattle.relay_dirs.proofs.spread_uses.put_given.Given as goal

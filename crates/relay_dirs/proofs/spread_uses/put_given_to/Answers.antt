@@ -1,10 +1,10 @@
 -- The uses at the place of the local variable, told at the node.
 use Rattle.std.proofs.Common.{◌≡◌, OnOk, ◌++◌, List, Option, map, option_map, ap, subst, ◌∙◌}
-use Rattle.schema_values.specs.gql_graph.Texts.{Text}
-use Rattle.schema_values.specs.schema_types.ArgumentRules as rules
+use Rattle.constant_values.specs.gql_graph.Texts.{Text}
+use Rattle.constant_values.specs.schema_types.ArgumentRules as rules
 use Rattle.doc_uses.specs.doc_sites.SitesView.{argument_of}
-use Rattle.relay_dirs.specs.Locals.{local_named}
-use Rattle.relay_dirs.specs.Spreads.{move_use, place_of_local}
+use Rattle.relay_marks.specs.Locals.{local_named}
+use Rattle.relay_rules.specs.Spreads.{move_use, place_of_local}
 use Rattle.doc_uses.specs.UseView.{place_of, use_of, uses_at}
 use Rattle.doc_uses.specs.declared.uses.Use.{Use}
 use Rattle.relay_dirs.proofs.spread_uses.put_given_to.Goals as goal

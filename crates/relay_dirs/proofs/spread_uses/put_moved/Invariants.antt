@@ -1,6 +1,6 @@
 -- What is put and what is left are the whole.
 use Rattle.std.proofs.Common.{◌≡◌, ◌++◌, map, drop}
-use Rattle.relay_dirs.specs.Spreads.{move_use}
+use Rattle.relay_rules.specs.Spreads.{move_use}
 use Rattle.doc_uses.specs.UseView.{use_of}
 use Rattle.relay_dirs.proofs.spread_uses.put_moved.Given as goal
 

@@ -1,14 +1,14 @@
 -- A spread gives what it gives; other selections give nothing.
 use Rattle.std.proofs.Common.{◌≡◌, OnOk, ◌++◌, List, Option, map, ap, sym, subst, ◌∙◌}
 use Rattle.std.proofs.lemmas.List.{append-nil}
-use Rattle.schema_values.specs.schema_types.ArgumentRules.{Use}
-use Rattle.schema_values.specs.gql_graph.Rules.{each}
-use Rattle.schema_values.specs.schema_types.Sites.{ArgumentAt}
+use Rattle.constant_values.specs.schema_types.ArgumentRules.{Use}
+use Rattle.constant_values.specs.gql_graph.Rules.{each}
+use Rattle.constant_values.specs.schema_types.Sites.{ArgumentAt}
 use Rattle.doc_uses.specs.doc_sites.SitesView.{argument_of, directive_of, site_of}
 use Rattle.doc_uses.specs.doc_sites.declared.site.ArgumentAt as code
 use Rattle.doc_uses.specs.doc_sites.declared.site.DirectiveAt.{DirectiveAt}
 use Rattle.doc_uses.specs.doc_sites.declared.site.Site.{Site}
-use Rattle.relay_dirs.specs.Spreads.{spread_arguments, locals_named, uses_at_spread, uses_of_given}
+use Rattle.relay_rules.specs.Spreads.{spread_arguments, locals_named, uses_at_spread, uses_of_given}
 use Rattle.relay_dirs.specs.Tables.{Finds}
 use Rattle.doc_uses.specs.UseView.{use_of}
 use Rattle.relay_dirs.specs.declared.fragments.Locals.{Locals}

@@ -1,7 +1,7 @@
 -- One more selection, and all of them.
 use Rattle.std.proofs.Common.{arith}
 use Rattle.doc_uses.specs.doc_sites.SitesView.{site_of}
-use Rattle.relay_dirs.specs.Spreads.{uses_at_spread}
+use Rattle.relay_rules.specs.Spreads.{uses_at_spread}
 use Rattle.doc_uses.proofs.doc_sites_laws.ListSteps.{collect_next, collect_end}
 use Rattle.relay_dirs.proofs.spread_uses.uses_in_spreads.Goals as goal
 

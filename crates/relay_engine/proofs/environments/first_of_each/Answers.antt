@@ -3,7 +3,7 @@ use Rattle.std.proofs.Common.{ap, ◌∙◌}
 use Rattle.plan_ir.specs.gql_plain.Shown.{shown_members}
 use Rattle.relay_engine.proofs.environments.first_of_each.Goals as goal
 use Rattle.plan_ir.specs.schema_types.Environments.{with_pair}
-use Rattle.plan_ir.proofs.schema_values_laws.Placing.{put_all, put_all-step, put_all-first, shown-insert_entry}
+use Rattle.plan_ir.proofs.constant_values_laws.Placing.{put_all, put_all-step, put_all-first, shown-insert_entry}
 
 pub pairs-init : goal.pairs-init
 pairs-init c =

@@ -3,7 +3,7 @@ use Rattle.std.proofs.Common.{◌≡◌, Option, None, IfErr, IfOk, OnOk, subst}
 use Rattle.relay_engine.proofs.LocalScopes.{same_failures, same_scopes}
 use Rattle.relay_engine.proofs.environments.scope_given.Goals as goal
 use Rattle.plan_ir.specs.schema_types.Environments.{Failure, Values}
-use Rattle.plan_ir.specs.schema_values.Failures.{Tells}
+use Rattle.schema_values.specs.Failures.{Tells}
 
 pub returns-clause-sound : goal.returns-clause-sound
 returns-clause-sound c =

@@ -5,7 +5,7 @@ use Rattle.relay_engine.proofs.MarkedPairs.{marked_first}
 use Rattle.relay_engine.proofs.environments.with_marked.Goals as goal
 use Rattle.relay_engine.specs.Marked.{marked}
 use Rattle.plan_ir.specs.schema_types.Environments.{Values}
-use Rattle.plan_ir.specs.schema_values.Listed.{first_of_each}
+use Rattle.plan_ir.specs.constant_values.Listed.{first_of_each}
 
 pub returns : goal.returns
 returns c =

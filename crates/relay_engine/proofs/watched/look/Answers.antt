@@ -3,7 +3,7 @@ use Rattle.std.proofs.Common.{◌≡◌, ◌+◌, ◌≤◌, IfOk, subst, ◌∙
 use Rattle.plan_ir.specs.ReaderMeaning.{plan_reads}
 use Rattle.plan_ir.specs.declared.reader.ReaderPlan.{ReaderPlan}
 use Rattle.relay_engine.proofs.watched.look.Goals as goal
-use Rattle.plan_ir.specs.schema_values.declared.env.Env.{Env}
+use Rattle.plan_ir.specs.constant_values.declared.env.Env.{Env}
 use Rattle.plan_ir.specs.store_model.Walks.{reading, standings, type_of_record}
 use Rattle.store_watch.specs.store_read.Reading.{reading_of, slots}
 

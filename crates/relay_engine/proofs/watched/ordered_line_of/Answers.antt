@@ -3,7 +3,7 @@ use Rattle.std.proofs.Common.{◌≡◌, ◌+◌, ◌≤◌, ◌++◌, ◌∷◌
 use Rattle.plan_ir.specs.ReaderMeaning.{plan_reads}
 use Rattle.relay_engine.proofs.watched.ordered_line_of.Goals as goal
 use Rattle.relay_machine.specs.Printed as printed
-use Rattle.plan_ir.specs.schema_values.declared.env.Env.{Env}
+use Rattle.plan_ir.specs.constant_values.declared.env.Env.{Env}
 use Rattle.plan_ir.specs.store_model.Walks.{reading, standings, type_of_record}
 use Rattle.store_watch.specs.store_read.Reading.{slots}
 use Rattle.relay_lines.proofs.store_show_laws.AlikeReadings.{plan_readings, plan_standings}

@@ -3,7 +3,7 @@ use Rattle.std.proofs.Common.{◌||◌, sym, ap, ◌∙◌, subst, rules}
 use Rattle.plan_ir.specs.gql_plain.Order.{has_text}
 use Rattle.plan_ir.specs.NormalReach.{records_below}
 use Rattle.plan_ir.specs.declared.normal.NormalPlan.{NormalPlan}
-use Rattle.plan_ir.specs.schema_values.declared.env.Env.{Env}
+use Rattle.plan_ir.specs.constant_values.declared.env.Env.{Env}
 use Rattle.store_retain.proofs.MarkSteps.{mark_is}
 use Rattle.store_retain.proofs.TableSteps.{begins_self}
 use Rattle.store_retain.proofs.mark.mark_held.Goals as goal

@@ -4,7 +4,7 @@ use Rattle.std.specs.Prelude.{Ok}
 use Rattle.plan_ir.specs.Nodes.{Nodes}
 use Rattle.plan_ir.specs.Substitution.{mark_local}
 use Rattle.plan_ir.specs.declared.expanded.Expanded.{Expanded}
-use Rattle.plan_expand.specs.Places.{Places}
+use Rattle.plan_ir.specs.Projects.{Places}
 use Rattle.plan_expand.specs.Making.{Ready}
 use Rattle.plan_expand.specs.Preparing.{extent_made, fragment_with, nodes_made}
 use Rattle.plan_expand.specs.ReadyView.{ready_of}

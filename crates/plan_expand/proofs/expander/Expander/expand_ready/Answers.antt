@@ -4,7 +4,7 @@ use Rattle.std.specs.Prelude.{Ok}
 use Rattle.plan_ir.specs.Nodes.{Nodes}
 use Rattle.plan_ir.specs.Substitution.{operation_scope}
 use Rattle.plan_ir.specs.declared.expanded.Expanded.{Expanded}
-use Rattle.plan_expand.specs.Places.{Places}
+use Rattle.plan_ir.specs.Projects.{Places}
 use Rattle.plan_expand.specs.OperationsView.{ReadyOperation, operation_view}
 use Rattle.plan_expand.specs.Preparing.{extent_made, nodes_made, operation_with}
 use Rattle.plan_expand.specs.Verdicts.{IsOutcome}

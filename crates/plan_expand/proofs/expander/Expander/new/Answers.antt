@@ -2,7 +2,7 @@
 use Rattle.std.proofs.Common.{option_map, length, ap, ◌∙◌}
 use Rattle.plan_ir.specs.Expansion.{operation_named}
 use Rattle.plan_ir.specs.schema_types.NameRules.{fragment_named, fragments, operations}
-use Rattle.plan_expand.specs.Places.{place_in}
+use Rattle.plan_ir.specs.Projects.{place_in}
 use Rattle.plan_expand.specs.OperationsView.{ready_operation}
 use Rattle.plan_expand.specs.ReadyView.{ready_fragment}
 use Rattle.plan_expand.proofs.expander.Expander.new.Goals as goal

@@ -1,8 +1,8 @@
 -- One more definition, and all of them.
 use Rattle.std.proofs.Common.{map, option_map, refl, ap, arith}
 use Rattle.std.specs.Option.{option_or}
-use Rattle.plan_ir.specs.doc_sites.SitesView.{definition_of}
-use Rattle.plan_expand.specs.Places.{place_in}
+use Rattle.doc_sites.specs.SitesView.{definition_of}
+use Rattle.plan_ir.specs.Projects.{place_in}
 use Rattle.plan_ir.specs.schema_types.NameRules.{fragment_named, fragments}
 use Rattle.plan_expand.specs.ReadyView.{ready_fragment, ready_in}
 use Rattle.plan_expand.proofs.Tables.{fragment_before, or_end, or_next}

@@ -1,8 +1,8 @@
 -- What is put and what is left are the whole.
 use Rattle.std.proofs.Common.{◌≡◌, map, drop, option_map}
 use Rattle.std.specs.Option.{option_or}
-use Rattle.plan_ir.specs.doc_sites.SitesView.{definition_of}
-use Rattle.plan_expand.specs.Places.{place_in}
+use Rattle.doc_sites.specs.SitesView.{definition_of}
+use Rattle.plan_ir.specs.Projects.{place_in}
 use Rattle.plan_ir.specs.schema_types.NameRules.{fragment_named, fragments}
 use Rattle.plan_ir.specs.schema_tables.Types.{Text}
 use Rattle.plan_expand.specs.ReadyView.{find_in, ready_fragment}

@@ -1,9 +1,9 @@
 -- An operation is passed over, and a fragment is put under its name.
 use Rattle.std.proofs.Common.{ap, sym, ◌∙◌}
 use Rattle.std.specs.Option.{option_or}
-use Rattle.plan_ir.specs.doc_sites.SitesView.{definition_of}
-use Rattle.plan_ir.specs.doc_sites.declared.site.DefinitionAt.{DefinitionAt}
-use Rattle.plan_expand.specs.Places.{place_in}
+use Rattle.doc_sites.specs.SitesView.{definition_of}
+use Rattle.doc_sites.specs.declared.site.DefinitionAt.{DefinitionAt}
+use Rattle.plan_ir.specs.Projects.{place_in}
 use Rattle.plan_expand.specs.Making.{Ready}
 use Rattle.plan_expand.specs.ReadyView.{find_in, ready_in, ready_named}
 use Rattle.plan_expand.proofs.Tables.{or_none}

@@ -1,8 +1,8 @@
 -- One more directive, and all of them.
 use Rattle.std.proofs.Common.{map, refl, ap, arith}
 use Rattle.std.specs.Option.{option_or}
-use Rattle.plan_ir.specs.doc_sites.SitesView.{directive_of}
-use Rattle.plan_ir.specs.relay_dirs.Locals.{locals_at, locals_of}
+use Rattle.doc_sites.specs.SitesView.{directive_of}
+use Rattle.plan_ir.specs.relay_marks.Locals.{locals_at, locals_of}
 use Rattle.plan_ir.specs.Substitution.{default_named}
 use Rattle.plan_expand.proofs.Tables.{defining_before, or_end, or_next}
 use Rattle.plan_expand.proofs.locals.Locals.of.Goals as goal

@@ -1,8 +1,8 @@
 -- What is put and what is left are the whole.
 use Rattle.std.proofs.Common.{◌≡◌, map, drop}
 use Rattle.std.specs.Option.{option_or}
-use Rattle.plan_ir.specs.doc_sites.SitesView.{directive_of}
-use Rattle.plan_ir.specs.relay_dirs.Locals.{locals_of}
+use Rattle.doc_sites.specs.SitesView.{directive_of}
+use Rattle.plan_ir.specs.relay_marks.Locals.{locals_of}
 use Rattle.plan_ir.specs.Substitution.{default_named}
 use Rattle.plan_ir.specs.schema_tables.Types.{Text}
 use Rattle.plan_expand.specs.LocalsView.{find_default}

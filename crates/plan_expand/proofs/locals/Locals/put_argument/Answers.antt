@@ -1,8 +1,8 @@
 -- What the argument defines, or nothing.
 use Rattle.std.proofs.Common.{option_map, ap, sym, ◌∙◌}
 use Rattle.std.specs.Option.{option_or}
-use Rattle.plan_ir.specs.doc_sites.SitesView.{argument_of}
-use Rattle.plan_ir.specs.relay_dirs.View.{local_view}
+use Rattle.doc_sites.specs.SitesView.{argument_of}
+use Rattle.plan_ir.specs.relay_marks.View.{local_view}
 use Rattle.plan_expand.specs.LocalsView.{find_default}
 use Rattle.plan_expand.proofs.Tables.{local_is, no_local_is}
 use Rattle.plan_expand.proofs.locals.Locals.put_argument.Goals as goal

@@ -1,8 +1,8 @@
 -- One more argument, and all of them.
 use Rattle.std.proofs.Common.{map, refl, arith}
 use Rattle.plan_ir.specs.gql_graph.Rules.{each}
-use Rattle.plan_ir.specs.doc_sites.SitesView.{argument_of}
-use Rattle.plan_ir.specs.relay_dirs.Locals.{local_at}
+use Rattle.doc_sites.specs.SitesView.{argument_of}
+use Rattle.plan_ir.specs.relay_marks.Locals.{local_at}
 use Rattle.plan_ir.specs.Substitution.{default_named}
 use Rattle.plan_expand.proofs.Tables.{local_before, or_end, or_next}
 use Rattle.plan_expand.proofs.locals.Locals.put_arguments.Goals as goal

@@ -2,8 +2,8 @@
 use Rattle.std.proofs.Common.{◌≡◌, map, drop}
 use Rattle.std.specs.Option.{option_or}
 use Rattle.plan_ir.specs.gql_graph.Rules.{each}
-use Rattle.plan_ir.specs.doc_sites.SitesView.{argument_of}
-use Rattle.plan_ir.specs.relay_dirs.Locals.{local_at}
+use Rattle.doc_sites.specs.SitesView.{argument_of}
+use Rattle.plan_ir.specs.relay_marks.Locals.{local_at}
 use Rattle.plan_ir.specs.Substitution.{default_named}
 use Rattle.plan_ir.specs.schema_tables.Types.{Text}
 use Rattle.plan_expand.specs.LocalsView.{find_default}

@@ -1,10 +1,10 @@
 -- One more definition, and all of them.
 use Rattle.std.proofs.Common.{map, option_map, refl, ap, arith}
 use Rattle.std.specs.Option.{option_or}
-use Rattle.plan_ir.specs.doc_sites.SitesView.{definition_of}
+use Rattle.doc_sites.specs.SitesView.{definition_of}
 use Rattle.plan_ir.specs.Expansion.{operation_named}
 use Rattle.plan_ir.specs.schema_types.NameRules.{operations}
-use Rattle.plan_expand.specs.Places.{place_in}
+use Rattle.plan_ir.specs.Projects.{place_in}
 use Rattle.plan_expand.specs.OperationsView.{ready_operation, operation_in}
 use Rattle.plan_expand.proofs.Tables.{operation_before, or_end, or_next}
 use Rattle.plan_expand.proofs.operations.Operations.of.Goals as goal

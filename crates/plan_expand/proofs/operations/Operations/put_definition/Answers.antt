@@ -1,11 +1,11 @@
 -- A fragment and an operation without a name are passed over, and an operation is put under its name.
 use Rattle.std.proofs.Common.{Option, option_map, ap, sym, ◌∙◌}
 use Rattle.std.specs.Option.{option_or}
-use Rattle.plan_ir.specs.doc_sites.SitesView.{definition_of, operation_of}
-use Rattle.plan_ir.specs.doc_sites.declared.site.DefinitionAt.{DefinitionAt}
+use Rattle.doc_sites.specs.SitesView.{definition_of, operation_of}
+use Rattle.doc_sites.specs.declared.site.DefinitionAt.{DefinitionAt}
 use Rattle.plan_ir.specs.schema_trees.Located.{Located}
 use Rattle.plan_ir.specs.schema_trees.LocatedView.{name_of}
-use Rattle.plan_expand.specs.Places.{place_in}
+use Rattle.plan_ir.specs.Projects.{place_in}
 use Rattle.plan_expand.specs.OperationsView.{ReadyOperation, find_operation, ready_operation, operation_in, operation_under, ready_named}
 use Rattle.plan_expand.proofs.Tables.{or_none}
 use Rattle.plan_expand.proofs.operations.Operations.put_definition.Goals as goal

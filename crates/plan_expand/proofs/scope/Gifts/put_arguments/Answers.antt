@@ -2,7 +2,7 @@
 use Rattle.std.proofs.Common.{map, refl, ap, ◌∷◌, [], ◌∙◌, arith}
 use Rattle.std.specs.Option.{option_or}
 use Rattle.plan_ir.specs.gql_ast.ValueView.{argument_of}
-use Rattle.plan_ir.specs.relay_dirs.Connections.{value_of_name}
+use Rattle.plan_ir.specs.relay_marks.Connections.{value_of_name}
 use Rattle.plan_ir.specs.Substitution.{substitute, substitute_in}
 use Rattle.plan_expand.specs.ScopeView.{find_gift, scope_of}
 use Rattle.plan_expand.proofs.Tables.{argument_before, or_end, or_next}

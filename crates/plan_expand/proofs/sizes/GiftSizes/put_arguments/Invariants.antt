@@ -2,7 +2,7 @@
 use Rattle.std.proofs.Common.{◌≡◌, map, drop, option_map}
 use Rattle.std.specs.Option.{option_or}
 use Rattle.plan_ir.specs.gql_ast.ValueView.{argument_of}
-use Rattle.plan_ir.specs.relay_dirs.Connections.{value_of_name}
+use Rattle.plan_ir.specs.relay_marks.Connections.{value_of_name}
 use Rattle.plan_ir.specs.schema_tables.Types.{Text}
 use Rattle.plan_expand.specs.Sizes.{size_in}
 use Rattle.plan_expand.specs.SizesView.{find_size, sizes_of}

@@ -1,7 +1,7 @@
 -- What is made stands ready for the project.
 use Rattle.std.proofs.Common.{◌≡◌, sym, ◌∙◌}
 use Rattle.plan_ir.specs.gql_graph.Rules.{first_broken}
-use Rattle.plan_read.specs.plan_expand.Answers.{definitions_in}
+use Rattle.plan_ir.specs.Projects.{definitions_in}
 use Rattle.plan_project.proofs.ready.ReadyProject.of.Goals as goal
 use Rattle.plan_project.specs.Expansions.{size_rules}
 

@@ -1,7 +1,7 @@
 -- One more definition, and all of them.
 use Rattle.std.proofs.Common.{map, option_map, refl, ap, arith}
 use Rattle.std.specs.Option.{option_or}
-use Rattle.plan_ir.specs.doc_sites.SitesView.{definition_of}
+use Rattle.plan_expand.specs.doc_sites.SitesView.{definition_of}
 use Rattle.plan_read.specs.Reading.{ready_fragment}
 use Rattle.plan_read.specs.ReadyView.{ready_in}
 use Rattle.plan_ir.specs.schema_types.NameRules.{fragment_named, fragments}

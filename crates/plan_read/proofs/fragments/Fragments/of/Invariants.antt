@@ -1,7 +1,7 @@
 -- What is put and what is left are the whole.
 use Rattle.std.proofs.Common.{◌≡◌, map, drop, option_map}
 use Rattle.std.specs.Option.{option_or}
-use Rattle.plan_ir.specs.doc_sites.SitesView.{definition_of}
+use Rattle.plan_expand.specs.doc_sites.SitesView.{definition_of}
 use Rattle.plan_read.specs.Reading.{ready_fragment}
 use Rattle.plan_read.specs.ReadyView.{find_in}
 use Rattle.plan_ir.specs.schema_tables.Types.{Text}

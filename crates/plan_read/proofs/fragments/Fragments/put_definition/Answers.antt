@@ -1,8 +1,8 @@
 -- An operation is passed over, and a fragment is put under its name.
 use Rattle.std.proofs.Common.{ap, sym, ◌∙◌}
 use Rattle.std.specs.Option.{option_or}
-use Rattle.plan_ir.specs.doc_sites.SitesView.{definition_of}
-use Rattle.plan_ir.specs.doc_sites.declared.site.DefinitionAt.{DefinitionAt}
+use Rattle.plan_expand.specs.doc_sites.SitesView.{definition_of}
+use Rattle.plan_expand.specs.doc_sites.declared.site.DefinitionAt.{DefinitionAt}
 use Rattle.plan_read.specs.Reading.{Ready}
 use Rattle.plan_read.specs.ReadyView.{find_in, ready_in, ready_named}
 use Rattle.plan_read.proofs.Tables.{or_none}

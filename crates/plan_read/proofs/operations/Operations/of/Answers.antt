@@ -1,7 +1,7 @@
 -- One more definition, and all of them.
 use Rattle.std.proofs.Common.{map, option_map, refl, ap, arith}
 use Rattle.std.specs.Option.{option_or}
-use Rattle.plan_ir.specs.doc_sites.SitesView.{definition_of}
+use Rattle.plan_expand.specs.doc_sites.SitesView.{definition_of}
 use Rattle.plan_ir.specs.Expansion.{operation_named}
 use Rattle.plan_read.specs.OperationsView.{operation_in, ready_operation}
 use Rattle.plan_ir.specs.schema_types.NameRules.{operations}

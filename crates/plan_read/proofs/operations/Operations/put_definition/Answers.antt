@@ -1,8 +1,8 @@
 -- A fragment and an operation without a name are passed over, and an operation is put under its name.
 use Rattle.std.proofs.Common.{Option, option_map, ap, sym, ◌∙◌}
 use Rattle.std.specs.Option.{option_or}
-use Rattle.plan_ir.specs.doc_sites.SitesView.{definition_of, operation_of}
-use Rattle.plan_ir.specs.doc_sites.declared.site.DefinitionAt.{DefinitionAt}
+use Rattle.plan_expand.specs.doc_sites.SitesView.{definition_of, operation_of}
+use Rattle.plan_expand.specs.doc_sites.declared.site.DefinitionAt.{DefinitionAt}
 use Rattle.plan_read.specs.OperationsView.{ReadyOperation, find_operation, operation_in, operation_under, ready_operation}
 use Rattle.plan_ir.specs.schema_trees.Located.{Located}
 use Rattle.plan_ir.specs.schema_trees.LocatedView.{name_of}

@@ -2,8 +2,8 @@
 use Rattle.std.proofs.Common.{◌≡◌, ◌+◌, ◌-◌, ◌<◌, ◌∷◌, List, length, map, drop, get_or, add-one, ap, sym, subst, ◌∙◌, arith}
 use Rattle.std.proofs.Math.Seq.{drop-cons}
 use Rattle.std.specs.Prelude.{ℕ}
-use Rattle.schema_values.specs.gql_graph.Texts.{Text}
-use Rattle.relay_dirs.specs.Locals.{Local}
+use Rattle.constant_values.specs.gql_graph.Texts.{Text}
+use Rattle.relay_marks.specs.Locals.{Local}
 use Rattle.relay_dirs.specs.Tables.{NamesFragments, pair_of}
 use Rattle.relay_dirs.specs.declared.fragments.FragmentLocals.{FragmentLocals}
 use Rattle.relay_dirs.proofs.fragments.Fragments.of.Goals as goal

@@ -2,10 +2,10 @@
 use Rattle.std.proofs.Common.{Bool, true, false, List, map, Some, Option, bytes_eq, cond, sym, subst}
 use Rattle.std.proofs.lemmas.Map.Text.{btree_map_updates_str}
 use Rattle.gql_syntax.specs.gql_ast.declared.variable.VariableDef.{VariableDef}
-use Rattle.schema_values.specs.gql_graph.Texts.{Text}
-use Rattle.relay_dirs.specs.Locals.{Local}
+use Rattle.constant_values.specs.gql_graph.Texts.{Text}
+use Rattle.relay_marks.specs.Locals.{Local}
 use Rattle.relay_dirs.specs.Tables.{Finds, Serves, locals_among, table_found}
-use Rattle.relay_dirs.specs.View.{local_view}
+use Rattle.relay_marks.specs.View.{local_view}
 use Rattle.relay_dirs.specs.declared.fragments.Locals.{Locals}
 use Rattle.relay_dirs.proofs.fragments.Fragments.put.Goals as goal
 

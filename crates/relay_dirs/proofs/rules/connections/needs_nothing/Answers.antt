@@ -3,10 +3,10 @@ use Rattle.std.proofs.Common.{◌≡◌, ℕ, ◌==◌, false, not, ◌&&◌, Li
 use Rattle.std.proofs.lemmas.Bool.Decides.{Decides-eqb}
 use Rattle.std.specs.List.{list_all}
 use Rattle.gql_syntax.proofs.gql_plain_laws.Booleans.{both_ways, or_false}
-use Rattle.schema_values.proofs.schema_tables_laws.Counting.{count_gives, gives_by}
-use Rattle.schema_values.specs.schema_tables.Inputs.{must_be_given}
-use Rattle.schema_values.specs.schema_tables.Required.{required_names}
-use Rattle.schema_values.specs.schema_tables.Views.{InputDef}
+use Rattle.constant_values.proofs.schema_tables_laws.Counting.{count_gives, gives_by}
+use Rattle.constant_values.specs.schema_tables.Inputs.{must_be_given}
+use Rattle.constant_values.specs.schema_tables.Required.{required_names}
+use Rattle.constant_values.specs.schema_tables.Views.{InputDef}
 use Rattle.relay_dirs.proofs.rules.connections.needs_nothing.Goals as goal
 
 gives_none : (is : List InputDef) → gives_by (λ n. false) is ≡ list_all (λ (i : InputDef). not (must_be_given i)) is

@@ -1,9 +1,9 @@
 -- The first argument of the name, where there is one.
 use Rattle.std.proofs.Common.{◌≡◌, Bool, true, false, cond, ◌||◌, List, [], ◌∷◌, map, Option, Some, is_some, bytes_eq, refl, ap, ◌∙◌}
 use Rattle.gql_syntax.specs.gql_plain.Order.{has_text}
-use Rattle.schema_values.specs.gql_graph.Texts.{Text}
-use Rattle.schema_values.specs.schema_tables.Inputs.{input_among}
-use Rattle.schema_values.specs.schema_tables.Views.{InputDef}
+use Rattle.constant_values.specs.gql_graph.Texts.{Text}
+use Rattle.constant_values.specs.schema_tables.Inputs.{input_among}
+use Rattle.constant_values.specs.schema_tables.Views.{InputDef}
 use Rattle.relay_dirs.proofs.rules.keys.has_argument.Goals as goal
 
 some_or : (b : Bool) (i : InputDef) (o : Option InputDef) → is_some (cond b (Some i) o) ≡ (b || is_some o)

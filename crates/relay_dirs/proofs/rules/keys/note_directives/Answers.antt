@@ -1,8 +1,8 @@
 -- One more of the list.
 use Rattle.std.proofs.Common.{arith}
-use Rattle.schema_values.proofs.gql_graph_laws.LeastSteps.{each_next}
+use Rattle.constant_values.proofs.gql_graph_laws.LeastSteps.{each_next}
 use Rattle.doc_uses.specs.doc_sites.SitesView.{directive_of}
-use Rattle.relay_dirs.specs.Connections as spec
+use Rattle.relay_marks.specs.Connections as spec
 use Rattle.relay_dirs.proofs.rules.keys.note_directives.Goals as goal
 
 pub directives-preserved : goal.directives-preserved

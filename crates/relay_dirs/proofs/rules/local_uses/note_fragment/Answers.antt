@@ -1,17 +1,17 @@
 -- The uses in the spreads, by the local variables.
 use Rattle.std.proofs.Common.{◌≡◌, List, map, ap, ◌∙◌}
-use Rattle.schema_values.specs.gql_graph.Leasts.{least_from}
-use Rattle.schema_values.specs.gql_graph.Rules.{each}
-use Rattle.schema_values.specs.schema_types.ArgumentRules as rules
-use Rattle.schema_values.specs.schema_types.Sites as sites
+use Rattle.constant_values.specs.gql_graph.Leasts.{least_from}
+use Rattle.constant_values.specs.gql_graph.Rules.{each}
+use Rattle.constant_values.specs.schema_types.ArgumentRules as rules
+use Rattle.constant_values.specs.schema_types.Sites as sites
 use Rattle.gql_syntax.specs.gql_ast.declared.variable.VariableDef.{VariableDef}
 use Rattle.doc_uses.specs.doc_sites.SitesView.{directive_of, fragment_of, site_of}
 use Rattle.doc_uses.specs.doc_sites.declared.site.DirectiveAt.{DirectiveAt}
 use Rattle.doc_uses.specs.doc_sites.declared.site.Site.{Site}
-use Rattle.relay_dirs.specs.Locals.{Local, locals_of}
-use Rattle.relay_dirs.specs.Spreads.{local_use_wrong, uses_in_spreads}
+use Rattle.relay_marks.specs.Locals.{Local, locals_of}
+use Rattle.relay_rules.specs.Spreads.{local_use_wrong, uses_in_spreads}
 use Rattle.doc_uses.specs.UseView.{use_of}
-use Rattle.relay_dirs.specs.View.{local_view}
+use Rattle.relay_marks.specs.View.{local_view}
 use Rattle.doc_uses.specs.declared.uses.Use.{Use}
 use Rattle.relay_dirs.proofs.rules.local_uses.note_fragment.Goals as goal
 

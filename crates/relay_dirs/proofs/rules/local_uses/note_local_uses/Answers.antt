@@ -1,9 +1,9 @@
 -- One more definition, and all of them.
 use Rattle.std.proofs.Common.{arith}
-use Rattle.schema_values.proofs.gql_graph_laws.LeastSteps.{each_next}
+use Rattle.constant_values.proofs.gql_graph_laws.LeastSteps.{each_next}
 use Rattle.doc_uses.specs.doc_sites.Definitions.{on_fragment}
 use Rattle.doc_uses.specs.doc_sites.SitesView.{definition_of}
-use Rattle.relay_dirs.specs.Spreads.{local_uses_wrong}
+use Rattle.relay_rules.specs.Spreads.{local_uses_wrong}
 use Rattle.doc_uses.proofs.doc_sites_laws.ListSteps.{noted_end}
 use Rattle.relay_dirs.proofs.rules.local_uses.note_local_uses.Goals as goal
 

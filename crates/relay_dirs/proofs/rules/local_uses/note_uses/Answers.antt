@@ -1,8 +1,8 @@
 -- One more of the list, and all of them.
 use Rattle.std.proofs.Common.{Option, ap, option_map, ◌∙◌, arith}
-use Rattle.schema_values.proofs.gql_graph_laws.LeastSteps.{each_next}
-use Rattle.relay_dirs.specs.Locals.{Local}
-use Rattle.relay_dirs.specs.Spreads.{is_allowed, local_use_wrong}
+use Rattle.constant_values.proofs.gql_graph_laws.LeastSteps.{each_next}
+use Rattle.relay_marks.specs.Locals.{Local}
+use Rattle.relay_rules.specs.Spreads.{is_allowed, local_use_wrong}
 use Rattle.doc_uses.specs.UseView.{place_of, use_of}
 use Rattle.doc_uses.proofs.doc_sites_laws.ListSteps.{noted_end}
 use Rattle.doc_uses.proofs.Steps.{noted_if_not}

@@ -1,10 +1,10 @@
 -- What is noted and what is left are the whole.
 use Rattle.std.proofs.Common.{◌≡◌, List, map, drop}
-use Rattle.schema_values.specs.gql_graph.Leasts.{least_from}
-use Rattle.schema_values.specs.gql_graph.Rules.{each}
-use Rattle.relay_dirs.specs.Locals.{Local}
+use Rattle.constant_values.specs.gql_graph.Leasts.{least_from}
+use Rattle.constant_values.specs.gql_graph.Rules.{each}
+use Rattle.relay_marks.specs.Locals.{Local}
 use Rattle.relay_dirs.specs.Tables.{Serves}
-use Rattle.relay_dirs.specs.Spreads.{local_use_wrong}
+use Rattle.relay_rules.specs.Spreads.{local_use_wrong}
 use Rattle.doc_uses.specs.UseView.{use_of}
 use Rattle.relay_dirs.proofs.rules.local_uses.note_uses.Given as goal
 

@@ -1,9 +1,9 @@
 -- What is noted and what is left are the whole.
 use Rattle.std.proofs.Common.{◌≡◌, map, drop}
-use Rattle.schema_values.specs.gql_graph.Leasts.{least_from}
-use Rattle.schema_values.specs.gql_graph.Rules.{each}
+use Rattle.constant_values.specs.gql_graph.Leasts.{least_from}
+use Rattle.constant_values.specs.gql_graph.Rules.{each}
 use Rattle.doc_uses.specs.doc_sites.SitesView.{definition_of}
-use Rattle.relay_dirs.specs.RelayRules as rules
+use Rattle.relay_rules.specs.RelayRules as rules
 use Rattle.relay_dirs.proofs.rules.locals.locals_wrong.Given as goal
 
 abbrev pub invariant-definitions : goal.invariant-definitions

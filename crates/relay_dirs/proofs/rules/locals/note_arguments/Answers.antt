@@ -1,8 +1,8 @@
 -- One more of the list.
 use Rattle.std.proofs.Common.{arith}
-use Rattle.schema_values.proofs.gql_graph_laws.LeastSteps.{each_next}
+use Rattle.constant_values.proofs.gql_graph_laws.LeastSteps.{each_next}
 use Rattle.doc_uses.specs.doc_sites.SitesView.{argument_of}
-use Rattle.relay_dirs.specs.RelayRules as rules
+use Rattle.relay_rules.specs.RelayRules as rules
 use Rattle.doc_uses.proofs.Steps.{noted_if_not}
 use Rattle.relay_dirs.proofs.rules.locals.note_arguments.Goals as goal
 

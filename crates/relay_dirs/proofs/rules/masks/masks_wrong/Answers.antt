@@ -1,10 +1,10 @@
 -- One more of the list.
 use Rattle.std.proofs.Common.{arith}
-use Rattle.schema_values.specs.gql_graph.Rules.{each}
-use Rattle.schema_values.proofs.gql_graph_laws.LeastSteps.{each_next}
+use Rattle.constant_values.specs.gql_graph.Rules.{each}
+use Rattle.constant_values.proofs.gql_graph_laws.LeastSteps.{each_next}
 use Rattle.doc_uses.specs.doc_sites.SitesView.{definition_of}
-use Rattle.relay_dirs.specs.RelayRules as rules
-use Rattle.schema_values.specs.schema_types.NameRules.{sites_of}
+use Rattle.relay_rules.specs.RelayRules as rules
+use Rattle.constant_values.specs.schema_types.NameRules.{sites_of}
 use Rattle.relay_dirs.proofs.rules.masks.masks_wrong.Goals as goal
 
 pub definitions-preserved : goal.definitions-preserved

@@ -1,12 +1,12 @@
 -- One more definition, and all of them.
 use Rattle.std.proofs.Common.{ℕ, List, arith}
-use Rattle.schema_values.specs.gql_graph.Rules.{each}
-use Rattle.schema_values.proofs.gql_graph_laws.LeastSteps.{each_next}
-use Rattle.schema_values.specs.schema_tables.Types.{Defs}
-use Rattle.schema_values.specs.schema_types.NameRules.{sites_of}
-use Rattle.schema_values.specs.schema_types.Sites.{FragmentAt, DefinitionAt}
+use Rattle.constant_values.specs.gql_graph.Rules.{each}
+use Rattle.constant_values.proofs.gql_graph_laws.LeastSteps.{each_next}
+use Rattle.constant_values.specs.schema_tables.Types.{Defs}
+use Rattle.constant_values.specs.schema_types.NameRules.{sites_of}
+use Rattle.constant_values.specs.schema_types.Sites.{FragmentAt, DefinitionAt}
 use Rattle.doc_uses.specs.doc_sites.SitesView.{definition_of}
-use Rattle.relay_dirs.specs.Spreads.{given_wrong_at}
+use Rattle.relay_rules.specs.Spreads.{given_wrong_at}
 use Rattle.doc_uses.proofs.doc_sites_laws.ListSteps.{noted_end}
 use Rattle.relay_dirs.proofs.rules.spreads.note_given.Goals as goal
 

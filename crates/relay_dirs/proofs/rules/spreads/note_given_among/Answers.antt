@@ -1,8 +1,8 @@
 -- One more selection, and all of them.
 use Rattle.std.proofs.Common.{arith}
-use Rattle.schema_values.proofs.gql_graph_laws.LeastSteps.{each_next}
+use Rattle.constant_values.proofs.gql_graph_laws.LeastSteps.{each_next}
 use Rattle.doc_uses.specs.doc_sites.SitesView.{site_of}
-use Rattle.relay_dirs.specs.Spreads.{given_wrong_at}
+use Rattle.relay_rules.specs.Spreads.{given_wrong_at}
 use Rattle.doc_uses.proofs.doc_sites_laws.ListSteps.{noted_end}
 use Rattle.relay_dirs.proofs.rules.spreads.note_given_among.Goals as goal
 

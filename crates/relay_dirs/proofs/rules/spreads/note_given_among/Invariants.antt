@@ -1,10 +1,10 @@
 -- What is noted and what is left are the whole.
 use Rattle.std.proofs.Common.{◌≡◌, List, map, drop}
-use Rattle.schema_values.specs.gql_graph.Leasts.{least_from}
-use Rattle.schema_values.specs.gql_graph.Rules.{each}
-use Rattle.schema_values.specs.schema_types.Sites.{FragmentAt}
+use Rattle.constant_values.specs.gql_graph.Leasts.{least_from}
+use Rattle.constant_values.specs.gql_graph.Rules.{each}
+use Rattle.constant_values.specs.schema_types.Sites.{FragmentAt}
 use Rattle.doc_uses.specs.doc_sites.SitesView.{site_of}
-use Rattle.relay_dirs.specs.Spreads.{given_wrong_at}
+use Rattle.relay_rules.specs.Spreads.{given_wrong_at}
 use Rattle.relay_dirs.specs.Tables.{Suits}
 use Rattle.relay_dirs.proofs.rules.spreads.note_given_among.Given as goal
 

@@ -1,11 +1,11 @@
 -- A spread may be wrong; other selections are not.
 use Rattle.std.proofs.Common.{◌≡◌, OnOk, List, map, ap, sym, subst}
-use Rattle.schema_values.specs.gql_graph.Leasts.{least_from}
-use Rattle.schema_values.specs.schema_trees.LocatedView.{name_of}
+use Rattle.constant_values.specs.gql_graph.Leasts.{least_from}
+use Rattle.constant_values.specs.schema_trees.LocatedView.{name_of}
 use Rattle.doc_uses.specs.doc_sites.SitesView.{directive_of, site_of}
 use Rattle.doc_uses.specs.doc_sites.declared.site.DirectiveAt.{DirectiveAt}
 use Rattle.doc_uses.specs.doc_sites.declared.site.Site.{Site}
-use Rattle.relay_dirs.specs.Spreads.{given_wrong_at, spread_wrong}
+use Rattle.relay_rules.specs.Spreads.{given_wrong_at, spread_wrong}
 use Rattle.relay_dirs.proofs.rules.spreads.note_given_at.Goals as goal
 
 pub returns-in-Field : goal.returns-in-Field

@@ -1,9 +1,9 @@
 -- What is given, by the local variables of the fragment of that name.
 use Rattle.std.proofs.Common.{◌≡◌, List, Option, map, ap, subst, sym, ◌∙◌}
-use Rattle.schema_values.specs.schema_types.Sites as sites
+use Rattle.constant_values.specs.schema_types.Sites as sites
 use Rattle.doc_uses.specs.doc_sites.SitesView.{argument_of, directive_of}
 use Rattle.doc_uses.specs.doc_sites.declared.site.ArgumentAt.{ArgumentAt}
-use Rattle.relay_dirs.specs.Spreads.{are_given_well, spread_arguments, locals_named}
+use Rattle.relay_rules.specs.Spreads.{are_given_well, spread_arguments, locals_named}
 use Rattle.relay_dirs.specs.Tables.{Finds}
 use Rattle.relay_dirs.specs.declared.fragments.Locals.{Locals}
 use Rattle.doc_uses.proofs.Steps.{noted_if_not}

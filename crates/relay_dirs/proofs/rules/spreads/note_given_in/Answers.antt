@@ -1,9 +1,9 @@
 -- The selections of the definition.
 use Rattle.std.proofs.Common.{◌≡◌, OnOk, List, subst}
-use Rattle.schema_values.specs.gql_graph.Leasts.{least_from}
-use Rattle.schema_values.specs.gql_graph.Rules.{each}
-use Rattle.schema_values.specs.schema_types.Sites.{Site}
-use Rattle.relay_dirs.specs.Spreads.{given_wrong_at}
+use Rattle.constant_values.specs.gql_graph.Leasts.{least_from}
+use Rattle.constant_values.specs.gql_graph.Rules.{each}
+use Rattle.constant_values.specs.schema_types.Sites.{Site}
+use Rattle.relay_rules.specs.Spreads.{given_wrong_at}
 use Rattle.relay_dirs.proofs.rules.spreads.note_given_in.Goals as goal
 
 pub returns : goal.returns

@@ -1,15 +1,15 @@
 -- The three parts in turn.
 use Rattle.std.proofs.Common.{◌≡◌, ℕ, OnOk, List, ◌++◌, Option, map, ap, sym, subst, ◌∙◌}
-use Rattle.schema_values.specs.gql_graph.Leasts.{least_from}
-use Rattle.schema_values.specs.gql_graph.Rules.{each}
-use Rattle.schema_values.specs.gql_graph.Texts.{Text}
-use Rattle.schema_values.proofs.gql_graph_laws.LeastSteps.{noted-append}
-use Rattle.schema_values.specs.schema_tables.Types.{Defs}
-use Rattle.schema_values.specs.schema_types.NameRules.{fragments, operations}
-use Rattle.schema_values.specs.schema_types.Sites.{FragmentAt, DefinitionAt}
+use Rattle.constant_values.specs.gql_graph.Leasts.{least_from}
+use Rattle.constant_values.specs.gql_graph.Rules.{each}
+use Rattle.constant_values.specs.gql_graph.Texts.{Text}
+use Rattle.constant_values.proofs.gql_graph_laws.LeastSteps.{noted-append}
+use Rattle.constant_values.specs.schema_tables.Types.{Defs}
+use Rattle.constant_values.specs.schema_types.NameRules.{fragments, operations}
+use Rattle.constant_values.specs.schema_types.Sites.{FragmentAt, DefinitionAt}
 use Rattle.doc_uses.specs.doc_sites.SitesView.{definition_of}
-use Rattle.relay_dirs.specs.Locals.{Local}
-use Rattle.relay_dirs.specs.Spreads.{given_wrong, local_uses_wrong, uses_of_operation_wrong}
+use Rattle.relay_marks.specs.Locals.{Local}
+use Rattle.relay_rules.specs.Spreads.{given_wrong, local_uses_wrong, uses_of_operation_wrong}
 use Rattle.relay_dirs.specs.Tables.{Finds, Suits, fragment_locals, locals_among, pair_of, table_found}
 use Rattle.doc_uses.proofs.doc_sites_laws.DefinitionSteps.{over_fragments, over_operations}
 use Rattle.relay_dirs.proofs.SpreadSteps.{locals_found}

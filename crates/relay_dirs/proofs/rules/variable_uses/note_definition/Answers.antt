@@ -1,10 +1,10 @@
 -- An operation, and a fragment.
 use Rattle.std.proofs.Common.{◌≡◌, OnOk, ap, sym, subst}
-use Rattle.schema_values.specs.gql_graph.Leasts.{least_from}
+use Rattle.constant_values.specs.gql_graph.Leasts.{least_from}
 use Rattle.doc_uses.specs.doc_sites.Definitions.{on_operation}
 use Rattle.doc_uses.specs.doc_sites.SitesView.{definition_of}
 use Rattle.doc_uses.specs.doc_sites.declared.site.DefinitionAt.{DefinitionAt}
-use Rattle.relay_dirs.specs.Spreads.{uses_of_operation_wrong}
+use Rattle.relay_rules.specs.Spreads.{uses_of_operation_wrong}
 use Rattle.relay_dirs.proofs.rules.variable_uses.note_definition.Goals as goal
 
 pub returns-in-Operation : goal.returns-in-Operation

@@ -1,9 +1,9 @@
 -- One more definition, and all of them.
 use Rattle.std.proofs.Common.{arith}
-use Rattle.schema_values.proofs.gql_graph_laws.LeastSteps.{each_next}
+use Rattle.constant_values.proofs.gql_graph_laws.LeastSteps.{each_next}
 use Rattle.doc_uses.specs.doc_sites.Definitions.{on_operation}
 use Rattle.doc_uses.specs.doc_sites.SitesView.{definition_of}
-use Rattle.relay_dirs.specs.Spreads.{uses_of_operation_wrong}
+use Rattle.relay_rules.specs.Spreads.{uses_of_operation_wrong}
 use Rattle.doc_uses.proofs.doc_sites_laws.ListSteps.{noted_end}
 use Rattle.relay_dirs.proofs.rules.variable_uses.note_definitions.Goals as goal
 

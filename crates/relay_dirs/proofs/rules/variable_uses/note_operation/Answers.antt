@@ -1,15 +1,15 @@
 -- The uses that are looked at are those of the spreads.
 use Rattle.std.proofs.Common.{◌≡◌, OnOk, ℕ, [], List, ◌++◌, map, ap, subst, ◌∙◌}
-use Rattle.schema_values.specs.gql_graph.Leasts.{least_from}
-use Rattle.schema_values.specs.gql_graph.Rules.{each}
-use Rattle.schema_values.specs.schema_types.ArgumentRules as rules
-use Rattle.schema_values.specs.schema_types.Sites as parts
+use Rattle.constant_values.specs.gql_graph.Leasts.{least_from}
+use Rattle.constant_values.specs.gql_graph.Rules.{each}
+use Rattle.constant_values.specs.schema_types.ArgumentRules as rules
+use Rattle.constant_values.specs.schema_types.Sites as parts
 use Rattle.doc_uses.specs.doc_sites.SitesView.{operation_of, site_of}
 use Rattle.doc_uses.specs.doc_sites.declared.site.Site.{Site}
 use Rattle.doc_uses.specs.Parts.{uses_wrong_in}
 use Rattle.doc_uses.specs.UseView.{use_of}
 use Rattle.doc_uses.specs.declared.uses.Use.{Use}
-use Rattle.relay_dirs.specs.Spreads.{uses_in_fragment, uses_in_spreads}
+use Rattle.relay_rules.specs.Spreads.{uses_in_fragment, uses_in_spreads}
 use Rattle.relay_dirs.proofs.rules.variable_uses.note_operation.Goals as goal
 
 pub returns : goal.returns

@@ -1,7 +1,7 @@
 -- What is known is that of all fragments.
 use Rattle.std.proofs.Common.{List, map}
-use Rattle.schema_values.specs.schema_types.NameRules.{fragments}
-use Rattle.schema_values.specs.schema_types.Sites.{FragmentAt}
+use Rattle.constant_values.specs.schema_types.NameRules.{fragments}
+use Rattle.constant_values.specs.schema_types.Sites.{FragmentAt}
 use Rattle.doc_uses.specs.doc_sites.SitesView.{definition_of}
 use Rattle.relay_dirs.proofs.rules.variable_uses.note_variable_uses.Goals as goal
 

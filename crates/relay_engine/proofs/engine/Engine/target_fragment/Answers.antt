@@ -1,7 +1,7 @@
 use Rattle.std.proofs.Common.{◌≡◌, [], ◌∷◌, None, Some, Option, map, ap, sym, ◌∙◌}
 use Rattle.event_script.specs.Seen.{part_seen}
-use Rattle.plan_ir.specs.relay_dirs.Locals.{locals_of}
-use Rattle.plan_ir.specs.relay_dirs.View.{local_view}
+use Rattle.plan_ir.specs.relay_marks.Locals.{locals_of}
+use Rattle.plan_ir.specs.relay_marks.View.{local_view}
 use Rattle.relay_engine.proofs.StepLaws.{failing, same_step}
 use Rattle.relay_engine.proofs.TargetLaws.{under_scope}
 use Rattle.relay_engine.proofs.engine.Engine.target_fragment.Goals as goal

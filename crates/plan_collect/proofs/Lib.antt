@@ -1,0 +1,4 @@
+pub mod AddedFields
+pub mod Evaluating
+pub mod WholeForm
+pub mod Collects

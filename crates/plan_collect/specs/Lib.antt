@@ -1,0 +1,4 @@
+pub mod Printed
+pub mod Collecting
+pub mod Collection
+pub mod SameGroups

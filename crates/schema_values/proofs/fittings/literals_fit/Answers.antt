@@ -1,5 +1,0 @@
-use Rattle.schema_values.proofs.FittingLaws.{literals_fit}
-use Rattle.schema_values.proofs.fittings.literals_fit.Goals as goal
-
-pub returns : goal.returns
-returns c = literals_fit
