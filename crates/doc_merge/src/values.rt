@@ -14,8 +14,8 @@ ghost use Rattle.doc_merge.specs.Values as spec;
 use crate::least::Least;
 use crate::row::on_or;
 use crate::variables::Variables;
-use plan_ir::type_forms::base_of;
 use doc_uses::{Place, field_place, item_place, name_of_place, place_of_input};
+use plan_ir::type_forms::base_of;
 use plan_ir::{
     Argument, Arguments, Directive, Directives, Expanded, FilePlace, InputDef, InputDefs, NoMemory,
     Node, Nodes, Schema, ValueTree, ValueTrees, VariableDef,

@@ -19,103 +19,28 @@ pub mod reader;
 pub use copies::copy_of_conn;
 pub use expanded::Expanded;
 pub use form::Form;
-pub use guard::Condition;
-pub use guard::Conditions;
-pub use guard::Guard;
-pub use node::Node;
-pub use node::Nodes;
-pub use normal::NormalList;
-pub use normal::NormalPlan;
-pub use normal::NormalStep;
-pub use normal::NormalSteps;
-pub use reader::ReaderList;
-pub use reader::ReaderPlan;
-pub use reader::ReaderStep;
-pub use reader::ReaderSteps;
-pub use relay_marks::Argument;
-pub use relay_marks::Arguments;
-pub use relay_marks::Cursor;
-pub use relay_marks::Definition;
-pub use relay_marks::Directive;
-pub use relay_marks::Directives;
-pub use relay_marks::Document;
-pub use relay_marks::Documents;
-pub use relay_marks::Env;
-pub use relay_marks::FilePlace;
-pub use relay_marks::FilePlaces;
-pub use relay_marks::Fragment;
-pub use relay_marks::InputDef;
-pub use relay_marks::InputDefs;
-pub use relay_marks::Kind;
-pub use relay_marks::NESTING_LIMIT;
-pub use relay_marks::NodeFault;
-pub use relay_marks::Operation;
-pub use relay_marks::ParseFault;
-pub use relay_marks::Placed;
-pub use relay_marks::Rule;
-pub use relay_marks::RuleFault;
-pub use relay_marks::Schema;
-pub use relay_marks::Selection;
-pub use relay_marks::Selections;
-pub use relay_marks::SyntaxFault;
-pub use relay_marks::TypeBox;
-pub use relay_marks::TypeKind;
-pub use relay_marks::TypeTree;
-pub use relay_marks::ValueTree;
-pub use relay_marks::ValueTrees;
-pub use relay_marks::VariableDef;
-pub use relay_marks::VariableDefs;
-pub use relay_marks::connection;
-pub use relay_marks::connection_among;
-pub use relay_marks::evaluate;
-pub use relay_marks::evaluate_arguments;
-pub use relay_marks::local_of;
-pub use relay_marks::locals;
-pub use relay_marks::read_type;
-pub use relay_marks::read_value;
-pub use store_model::Answer;
-pub use store_model::Cause;
-pub use store_model::Command;
-pub use store_model::Commands;
-pub use store_model::EdgeEdit;
-pub use store_model::Entry;
-pub use store_model::FactList;
-pub use store_model::FactRow;
-pub use store_model::Facts;
-pub use store_model::HandleFact;
-pub use store_model::HandleFacts;
-pub use store_model::Part;
-pub use store_model::PathStep;
-pub use store_model::PathSteps;
-pub use store_model::PayloadFault;
-pub use store_model::Target;
-pub use store_model::gql_plain::Conn;
-pub use store_model::gql_plain::Counts;
-pub use store_model::gql_plain::Id;
-pub use store_model::gql_plain::Ids;
-pub use store_model::gql_plain::MAX_LINE;
-pub use store_model::gql_plain::Name;
-pub use store_model::gql_plain::NoMemory;
-pub use store_model::gql_plain::OptIds;
-pub use store_model::gql_plain::Pairs;
-pub use store_model::gql_plain::Plain;
-pub use store_model::gql_plain::PlainFault;
-pub use store_model::gql_plain::Plains;
-pub use store_model::gql_plain::SharedText;
-pub use store_model::gql_plain::Steps;
-pub use store_model::gql_plain::Words;
-pub use store_model::gql_plain::is_name;
-pub use store_model::gql_plain::plain_of;
-pub use store_model::gql_plain::text_of;
-pub use store_model::gql_plain::write_plain;
-pub use store_model::store_record::Field;
-pub use store_model::store_record::Fields;
-pub use store_model::store_record::Record;
-pub use store_model::store_record::SharedField;
-pub use store_model::store_record::Slot;
-pub use store_model::store_record::client_id;
-pub use store_model::store_record::field_key;
-pub use store_model::store_record::handle_key;
+pub use guard::{Condition, Conditions, Guard};
+pub use node::{Node, Nodes};
+pub use normal::{NormalList, NormalPlan, NormalStep, NormalSteps};
+pub use reader::{ReaderList, ReaderPlan, ReaderStep, ReaderSteps};
+pub use relay_marks::{
+    Argument, Arguments, Cursor, Definition, Directive, Directives, Document, Documents, Env,
+    FilePlace, FilePlaces, Fragment, InputDef, InputDefs, Kind, NESTING_LIMIT, NodeFault,
+    Operation, ParseFault, Placed, Rule, RuleFault, Schema, Selection, Selections, SyntaxFault,
+    TypeBox, TypeKind, TypeTree, ValueTree, ValueTrees, VariableDef, VariableDefs, connection,
+    connection_among, evaluate, evaluate_arguments, local_of, locals, read_type, read_value,
+};
+pub use store_model::gql_plain::{
+    Conn, Counts, Id, Ids, MAX_LINE, Name, NoMemory, OptIds, Pairs, Plain, PlainFault, Plains,
+    SharedText, Steps, Words, is_name, plain_of, text_of, write_plain,
+};
+pub use store_model::store_record::{
+    Field, Fields, Record, SharedField, Slot, client_id, field_key, handle_key,
+};
+pub use store_model::{
+    Answer, Cause, Command, Commands, EdgeEdit, Entry, FactList, FactRow, Facts, HandleFact,
+    HandleFacts, Part, PathStep, PathSteps, PayloadFault, Target,
+};
 
 /// Passed on from the crates below.
 pub mod least {

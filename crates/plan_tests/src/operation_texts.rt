@@ -4,11 +4,11 @@
 //! selections.
 ghost use Rattle.std.specs.Prelude.{◌<◌, length};
 
-use plan_text::{Artifact, artifact_line, operation_text, parse_document};
 use plan_ir::{
     Definition, Expanded, FilePlace, Kind, Name, Node, Nodes, Operation, Selection, Selections,
     TypeTree, Words,
 };
+use plan_text::{Artifact, artifact_line, operation_text, parse_document};
 use std::alloc::Global;
 use std::test::Fail;
 

@@ -2,9 +2,9 @@
 ghost use Rattle.std.specs.Prelude.{◌<◌, length};
 
 use gql_sdl::parse_schema;
-use plan_text::parse_document;
 use plan_expand::{ExpandFault, Expander, Form, definitions_at, expand};
 use plan_ir::{Documents, Expanded, Name, Schema, Words};
+use plan_text::parse_document;
 use std::alloc::Global;
 use std::process::Abort;
 use std::test::Fail;

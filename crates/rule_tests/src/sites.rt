@@ -1,7 +1,7 @@
 //! What stands in documents, with the type around it and the numbers of its nodes.
 use crate::texts::{documents, schema};
-use plan_ir::located::NameAt;
 use plan_ir::NoMemory;
+use plan_ir::located::NameAt;
 use plan_read::{ArgumentAt, DirectiveAt, Site, definitions_at};
 use std::alloc::Global;
 use std::test::Fail;
