@@ -3,7 +3,7 @@
 use Rattle.std.proofs.Common.{◌≡◌, ℕ, zero, suc, Bool, true, false, true≢false, cond, not, ◌&&◌, ◌||◌, List, [], ◌∷◌, codes, Option, Some, None, is_some, bytes_eq, refl, ap, sym, ◌∙◌}
 use Rattle.std.proofs.lemmas.Bool.{and_from, and_parts}
 use Rattle.std.specs.List.{AllByRecursion}
-use Rattle.doc_merge.specs.Gathering.{on_or}
+use Rattle.plan_build.specs.doc_merge.Gathering.{on_or}
 use Rattle.plan_build.proofs.ConnectedNodes.{field_connects}
 use Rattle.plan_build.proofs.Covariance.{object_alone}
 use Rattle.plan_build.proofs.CovarianceLists.{passes_all, passes_each}
