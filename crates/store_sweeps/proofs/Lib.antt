@@ -1,3 +1,5 @@
+pub mod Written
+pub mod NamedIds
 pub mod Writes
 pub mod Fields
 pub mod Commands

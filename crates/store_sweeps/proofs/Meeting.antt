@@ -1,10 +1,9 @@
 -- Sweeps of bases that differ at some ids.
-use Rattle.std.proofs.Common.{◌≡◌, Bool, true, false, true≢false, cond, ◌||◌, List, [], Option, Some, None, refl, sym, ap, ◌∙◌}
+use Rattle.std.proofs.Common.{◌≡◌, Bool, true, false, true≢false, cond, ◌||◌, [], None, refl, sym, ap, ◌∙◌}
 use Rattle.std.specs.Cmp.Lexicographic.{nat_list_cmp_total}
 use Rattle.std.specs.FinMap.{same_map}
 use Rattle.store_model.specs.gql_plain.Order.{has_text}
 use Rattle.store_model.specs.store_record.Keys.{Text}
-use Rattle.store_model.specs.store_record.declared.record.Slot.{Slot}
 use Rattle.store_model.specs.Enough.{SameAt}
 use Rattle.store_model.proofs.Led.{leads-least}
 use Rattle.store_model.specs.Leads.{leads}
