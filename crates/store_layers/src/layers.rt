@@ -20,6 +20,7 @@ ghost use Rattle.store_layers.specs.Work.{counted, weights};
 use crate::drafts::{Draft, Placing};
 use crate::fold::{Entries, copy_versions, newest};
 use crate::names::{copy_entries, count_of, is_named, place_of, put_layer, take_off, take_out};
+use crate::naming::ids_named;
 use crate::rebuild::{begin, confirm, finish, revert, sweep};
 use indexmap::IndexMap;
 use std::alloc::Global;
@@ -330,6 +331,13 @@ impl<S: RecordSource> Layers<S> {
         ensures { S.records result.now ≡ self.now.base }
     {
         &self.base
+    }
+
+    /// The ids that the entries of the live layers name, in byte order.
+    pub fn named(&self) -> Result<Ids, NoMemory>
+        ensures { (j : Text) → IfOk result (λ ids. has_text ids j ≡ has_text (all_named (entries_of self.now.live)) j) }
+    {
+        ids_named(*self.versions.allocator(), &self.entries)
     }
 
     /// Whether a layer of the name is live; takes no memory.

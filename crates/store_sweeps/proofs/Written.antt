@@ -1,8 +1,9 @@
 -- What is put at the end of a list, element by element, and what is left.
 use Rattle.std.proofs.Common.{◌≡◌, ℕ, ◌+◌, ◌<◌, ◌≤◌, Bool, true, false, ◌||◌, List, [], ◌∷◌, ◌++◌, drop, length, get_or, append-nil, append_assoc, bytes_eq, refl, sym, ap, ◌∙◌}
 use Rattle.std.proofs.lemmas.List.{drop_all, drop_more}
-use Rattle.store_model.specs.store_record.gql_plain.Order.{has_text}
+use Rattle.store_model.specs.store_record.gql_plain.Order.{AreSortedOf, has_text}
 use Rattle.store_model.specs.store_record.Keys.{Text}
+use Rattle.store_model.proofs.gql_plain_laws.SortedTexts.{AreSortedOf-is, has_text-sorted_texts}
 
 pub or_assoc : (a b c : Bool) → ((a || b) || c) ≡ (a || (b || c))
 or_assoc true b c = refl
@@ -43,3 +44,7 @@ module _ {X : Type 0} (own : X → List Text) (all : List X → List Text) (all_
   pub noted_end : all [] ≡ [] → (xs : List X) (i : ℕ) (old : List Text) (whole : Bool) (j : Text) → length xs ≤ i → (has_text old j || has_text (all (drop i xs)) j) ≡ whole → has_text old j ≡ whole
   noted_end none xs i old whole j past before =
       sym (or_false (has_text old j)) ∙ ap (λ ids. has_text old j || has_text ids j) (sym (ap all (drop_all i xs past) ∙ none)) ∙ before
+
+-- texts that are sorted are the same texts
+pub sorted_has : (xs sorted : List Text) (j : Text) → AreSortedOf xs sorted → has_text sorted j ≡ has_text xs j
+sorted_has xs sorted j h = ap (λ ts. has_text ts j) (AreSortedOf-is xs sorted h) ∙ has_text-sorted_texts xs j
