@@ -1,10 +1,12 @@
 -- What a call of the layers builds.
-use Rattle.std.proofs.Common.{◌≡◌, ℕ, suc, ◌+◌, ◌-◌, Bool, true, false, ◌||◌, List, [], ◌∷◌, ◌++◌, take, drop, length, length-drop, String, Global, refl, sym, ap, ◌∙◌, subst, arith}
+use Rattle.std.proofs.Common.{◌≡◌, ℕ, suc, ◌+◌, ◌-◌, Bool, true, false, ◌||◌, List, [], ◌∷◌, ◌++◌, take, drop, length, length-drop, append-nil, append_assoc, String, Global, refl, sym, ap, ◌∙◌, subst, arith}
 use Rattle.std.proofs.lemmas.List.{take_all, take-map, drop-map}
 use Rattle.std.specs.declared.rc.Rc.{Rc}
 use Rattle.store_update.specs.gql_plain.Order.{has_text}
 use Rattle.store_update.specs.store_record.Keys.{Text}
-use Rattle.store_update.specs.store_model.Entries.{apply, fold_entries, weight}
+use Rattle.store_update.specs.store_model.Entries.{apply, fold_entries, ids_named, weight}
+use Rattle.store_sweeps.proofs.Written.{has_append}
+use Rattle.store_sweeps.specs.Swept.{all_named}
 use Rattle.store_update.specs.store_model.Records.{Records}
 use Rattle.store_update.specs.store_model.declared.entry.Entry.{Entry}
 use Rattle.store_update.specs.Touched.{AreTouched, is_changed}
@@ -34,6 +36,18 @@ within_rest named from n is =
 
 pub within_all : (named : Named) (n : ℕ) → n ≡ length named → entries_within 0 n named ≡ entries named
 within_all named n is = within_rest named 0 n is
+
+-- ---- the ids that entries name
+
+named_append : (es fs : List Entry) → all_named (es ++ fs) ≡ all_named es ++ all_named fs
+named_append [] fs = refl
+named_append (e ∷ es) fs = ap (λ ids. ids_named e ++ ids) (named_append es fs) ∙ sym (append_assoc (ids_named e) (all_named es) (all_named fs))
+
+pub named_more : (es : List Entry) (e : Entry) (j : Text) → has_text (all_named (es ++ e ∷ [])) j ≡ (has_text (all_named es) j || has_text (ids_named e) j)
+named_more es e j =
+    ap (λ ids. has_text ids j) (named_append es (e ∷ []))
+    ∙ has_append (all_named es) (ids_named e ++ []) j
+    ∙ ap (λ ids. has_text (all_named es) j || has_text ids j) (append-nil (ids_named e))
 
 -- ---- versions
 

@@ -15,7 +15,7 @@ use Rattle.store_update.specs.store_record.declared.record.Slot.{Slot}
 use Rattle.store_update.specs.store_model.Records.{Records, slot_at}
 use Rattle.store_update.specs.store_model.Sweeps.{sweep, dropped}
 use Rattle.store_update.proofs.store_model_laws.SweptSlots.{ties_alone, slot_at-sweep, has_text-dropped}
-use Rattle.store_layers.specs.Layered.{Layered, Layer, swept}
+use Rattle.store_layers.specs.Layered.{Layered, swept}
 
 abbrev order : Text → Text → Ordering
 order = slice_cmp nat_cmp
@@ -83,9 +83,16 @@ pub noted_dropped : (keep : Text → Bool) (m : Records) (ids noted : List Text)
     → noted ≡ filter (λ id. not (keep id)) (take i ids) → noted ≡ dropped keep m
 noted_dropped keep m ids noted i all past is = is ∙ ap (filter (λ id. not (keep id))) (take_all i ids past ∙ all)
 
+pub no_texts : (ids : List Text) → length ids ≡ 0 → ids ≡ []
+no_texts [] e = refl
+no_texts (id ∷ ids) e = absurd (omega arith)
+
 -- where nothing goes all stays
-pub all_stays : (keep : Text → Bool) (m : Records) → dropped keep m ≡ [] → sweep keep m ≡ m
+all_stays : (keep : Text → Bool) (m : Records) → dropped keep m ≡ [] → sweep keep m ≡ m
 all_stays keep m none = sym (dropped_gone keep m) ∙ ap (λ gone. swept_of gone m) none ∙ none_gone m
+
+pub none_swept : (keep : List Text) (s : Layered) → dropped (has_text keep) s.base ≡ [] → s ≡ swept keep s
+none_swept keep s none = λ i. record { base = sym (all_stays (has_text keep) s.base none) i; live = s.live }
 
 -- ---- the order of the ids
 
@@ -113,20 +120,3 @@ keys_rise (e ∷ es) h = (keys_above e.0 es (first_holds _ _ h), keys_rise es (s
 
 pub dropped_in_order : (keep : Text → Bool) (m : Records) → AreInOrder (dropped keep m)
 dropped_in_order keep m = IsStrictlySortedBy-filter order (λ id. not (keep id)) (keys m) (keys_rise (entries m) (entries_sorted m))
-
--- ---- layers
-
-pub no_texts : (texts : List Text) → length texts ≡ 0 → texts ≡ []
-no_texts [] e = refl
-no_texts (text ∷ texts) e = absurd (omega arith)
-
--- where nothing goes the layers are as they were
-pub nothing_swept : (keep : List Text) (s : Layered) → dropped (has_text keep) s.base ≡ [] → s ≡ swept keep s
-nothing_swept keep s none = λ i. record { base = sym (all_stays (has_text keep) s.base none) i; live = s.live }
-
--- the base without what goes is the base swept
-pub base_swept : (keep gone : List Text) (m left : Records) (live : List Layer) → gone ≡ dropped (has_text keep) m → left ≡ swept_of gone m
-    → ◌≡◌ {A = Layered} (record { base = left; live = live }) (swept keep (record { base = m; live = live }))
-base_swept keep gone m left live is made =
-    let whole : left ≡ sweep (has_text keep) m = made ∙ ap (λ ids. swept_of ids m) is ∙ dropped_gone (has_text keep) m in
-    λ i. record { base = whole i; live = live }

@@ -1,5 +1,5 @@
 -- Changes of the layers that are built aside, and what is there once they are settled.
-use Rattle.std.specs.Prelude.{◌≡◌, ℕ, ◌+◌, ◌<◌, List, ◌++◌, Option, None, Some, take, drop, length, false}
+use Rattle.std.specs.Prelude.{◌≡◌, ℕ, ◌+◌, ◌<◌, List, Option, None, Some, take, drop, length, false}
 use Rattle.store_update.specs.store_model.Entries.{apply, fold_entries}
 use Rattle.store_update.specs.store_model.Records.{Records}
 use Rattle.store_update.specs.store_model.declared.entry.Entry.{Entry}
@@ -33,6 +33,7 @@ reverted_at at from = record { base = from.base; live = all_but at from.live }
 -- ---- the layers, once a change of them is settled
 
 abbrev pub placed_by : {S C : Type 0} → (S → Records) → Layered → Placing S C → Layered
+placed_by records from P.Kept = from
 placed_by records from (P.Begun name entry version) = begun name entry from
 placed_by records from (P.Reverted at versions) = reverted_at at from
 placed_by records from (P.Confirmed base gone versions) = record { base = records base; live = left_of gone from.live }
@@ -43,6 +44,7 @@ placed records from draft = placed_by records from draft.placing
 -- ---- what a change holds is right for the layers that it is of
 
 abbrev pub Suits : {S C : Type 0} → (S → Records) → Layered → Placing S C → Type 0
+Suits records from P.Kept = Unit {0}
 Suits records from (P.Begun name entry version) =
     (is_live from.live name ≡ false) × (records version.source ≡ apply entry (view_of from)) × AreTouched (view_of from) (records version.source) version.touched
 Suits records from (P.Reverted at versions) =

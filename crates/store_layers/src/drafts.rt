@@ -19,6 +19,8 @@ pub struct Draft<S: RecordSource> {
 /// What is put in place.
 #[derive(Drop)]
 pub enum Placing<S: RecordSource> {
+    /// Nothing: all stays as it is.
+    Kept,
     /// A layer above all others, and the version after it.
     Begun {
         name: Words,

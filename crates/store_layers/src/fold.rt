@@ -4,7 +4,10 @@ ghost use Rattle.store_update.specs.gql_plain.Counted.{next_count};
 ghost use Rattle.indexmap.specs.IndexMap.{index_map_len};
 ghost use Rattle.store_update.specs.store_model.Entries.{weight, fold_entries};
 ghost use Rattle.store_update.specs.store_model.declared.entry.Entry as E;
-ghost use Rattle.store_layers.specs.Versions.{shown, newest, AreVersions, entries_within};
+ghost use Rattle.std.specs.List.{AllByRecursion};
+ghost use Rattle.store_update.specs.store_model.Said.{HaveHandleKeys};
+ghost use Rattle.store_layers.specs.Layered.{entries_of};
+ghost use Rattle.store_layers.specs.Versions.{shown, newest, AreVersions, entries_within, layers_of};
 ghost use Rattle.store_layers.specs.Work.{counted, weights};
 
 use indexmap::IndexMap;
@@ -60,6 +63,7 @@ pub(crate) fn put_versions<S: RecordSource>(
     ensures versions { OnOk result ((before : List E.Entry) → AreVersions (S.records base.now) before (shown S.records versions.old.items)
         → AreVersions (S.records base.now) (before ++ entries_within from end entries.now.entries) (shown S.records versions.new.items)) }
     ensures exact { OnOk result (S.Count.applies steps.new ≡ counted (end - from) (S.Count.applies steps.old)) }
+    ensures none { from ≡ end → S.Count.applies steps.new ≡ S.Count.applies steps.old }
     ensures applies { S.Count.applies steps.new ≤ S.Count.applies steps.old + (end - from) }
     ensures looks { (before : List E.Entry) → AreVersions (S.records base.now) before (shown S.records versions.old.items)
         → S.Count.looks steps.new ≤ S.Count.looks steps.old + 8 * weights (entries_within from end entries.now.entries) (fold_entries before (S.records base.now)) }
@@ -92,4 +96,21 @@ fn copy_version<S: RecordSource>(version: &Changed<S>) -> Result<Changed<S>, NoM
     let source = version.source.version()?;
     let touched = version.touched.copy()?;
     Ok(Changed { source, touched })
+}
+
+/// Each page of the layers' entries goes under a key that is no field's; takes no memory.
+pub(crate) fn look_at_keys(entries: &Entries)
+    ensures { AllByRecursion (λ e. HaveHandleKeys e.facts.handles) (entries_of (layers_of entries.now.entries)) }
+{
+    let end = entries.len();
+    'layers: for at in 0..end {
+        look_at_key(&entries[at]);
+    }
+}
+
+/// Each page of an entry goes under such a key.
+fn look_at_key(entry: &Entry)
+    ensures { HaveHandleKeys entry.now.facts.handles }
+{
+    let _ = &entry.facts.handles;
 }

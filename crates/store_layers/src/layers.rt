@@ -4,7 +4,13 @@ ghost use Rattle.store_update.specs.gql_plain.Counted.{next_count};
 ghost use Rattle.store_update.specs.gql_plain.Order.{has_text};
 ghost use Rattle.store_update.specs.store_model.Entries.{weight, fold_entries};
 ghost use Rattle.store_update.specs.store_model.Records.{no_records};
-ghost use Rattle.store_update.specs.store_model.Sweeps.{dropped};
+ghost use Rattle.store_update.specs.store_record.Keys.{Text};
+ghost use Rattle.std.specs.List.{AllByRecursion};
+ghost use Rattle.store_update.specs.store_model.Said.{HaveHandleKeys};
+ghost use Rattle.store_update.specs.store_model.Leads.{leads};
+ghost use Rattle.store_update.specs.store_model.Records.{slot_at};
+ghost use Rattle.store_update.specs.store_model.Sweeps.{sweep, dropped};
+ghost use Rattle.store_sweeps.specs.Swept.{all_named};
 ghost use Rattle.store_layers.specs.Changed.{AreChanged};
 ghost use Rattle.store_layers.specs.Drafts.{Fits, placed};
 ghost use Rattle.store_layers.specs.Layered as spec;
@@ -14,8 +20,8 @@ ghost use Rattle.store_layers.specs.Work.{counted, weights};
 use crate::drafts::{Draft, Placing};
 use crate::fold::{Entries, copy_versions, newest};
 use crate::names::{copy_entries, count_of, is_named, place_of, put_layer, take_off, take_out};
-use crate::rebuild::{begin, confirm, finish, revert};
-use crate::sweep::{ids_to_drop, without_ids};
+use crate::naming::ids_named;
+use crate::rebuild::{begin, confirm, finish, revert, sweep};
 use indexmap::IndexMap;
 use std::alloc::Global;
 use std::marker::Model;
@@ -138,15 +144,18 @@ impl<S: RecordSource> Layers<S> {
         Ok(ids)
     }
 
-    /// Takes each id that is not in `keep` out of the base, and gives those that were taken out, in
-    /// byte order. Where nothing goes, the base stays the same version.
+    /// Takes each id that is not in `keep` out of the base, and gives those that were taken out, in byte
+    /// order. Each layer is applied again; where nothing goes, all stays the same version.
     pub fn sweep_base(&mut self, keep: &Ids, steps: &mut S::Count) -> Result<Ids, NoMemory>
-        requires alone { self.old.live ≡ [] }
+        requires kept { (j : Text) → has_text (leads self.old.base (all_named (entries_of self.old.live))) j ≡ true → has_text keep.now j ≡ true }
         ensures ok { OnOk result (self.new ≡ swept keep.now self.old) }
         ensures err { OnErr result (self.new ≡ self.old) }
         ensures dropped { IfOk result (λ ids. ids ≡ dropped (has_text keep.now) self.old.base) }
-        ensures applies { S.Count.applies steps.new ≡ S.Count.applies steps.old }
-        ensures looks { S.Count.looks steps.new ≡ S.Count.looks steps.old }
+        ensures changed { IfOk result (λ ids. (id : Text) → has_text ids id ≡ false → slot_at id (view_of (swept keep.now self.old)) ≡ slot_at id (view_of self.old)) }
+        ensures alone { self.old.live ≡ [] → S.Count.applies steps.new ≡ S.Count.applies steps.old }
+        ensures none { dropped (has_text keep.now) self.old.base ≡ [] → S.Count.applies steps.new ≡ S.Count.applies steps.old }
+        ensures applies { S.Count.applies steps.new ≤ S.Count.applies steps.old + length self.old.live }
+        ensures looks { S.Count.looks steps.new ≤ S.Count.looks steps.old + 8 * weights (entries_of self.old.live) (sweep (has_text keep.now) self.old.base) }
     {
         let draft = self.draft_sweep(keep, steps)?;
         let ids = draft.touched.copy()?;
@@ -245,26 +254,27 @@ impl<S: RecordSource> Layers<S> {
 
     /// What `sweep_base` would change.
     pub fn draft_sweep(&self, keep: &Ids, steps: &mut S::Count) -> Result<Draft<S>, NoMemory>
-        requires alone { self.now.live ≡ [] }
+        requires kept { (j : Text) → has_text (leads self.now.base (all_named (entries_of self.now.live))) j ≡ true → has_text keep.now j ≡ true }
         ensures fits { IfOk result (λ d. Fits S.records self.now d) }
         ensures placed { IfOk result (λ d. placed S.records self.now d ≡ swept keep.now self.now) }
         ensures dropped { IfOk result (λ d. d.touched ≡ dropped (has_text keep.now) self.now.base) }
-        ensures applies { S.Count.applies steps.new ≡ S.Count.applies steps.old }
-        ensures looks { S.Count.looks steps.new ≡ S.Count.looks steps.old }
+        ensures changed { IfOk result (λ d. (id : Text) → has_text d.touched id ≡ false → slot_at id (view_of (swept keep.now self.now)) ≡ slot_at id (view_of self.now)) }
+        ensures keys { AllByRecursion (λ e. HaveHandleKeys e.facts.handles) (entries_of self.now.live) }
+        ensures alone { self.now.live ≡ [] → S.Count.applies steps.new ≡ S.Count.applies steps.old }
+        ensures none { dropped (has_text keep.now) self.now.base ≡ [] → S.Count.applies steps.new ≡ S.Count.applies steps.old }
+        ensures applies { S.Count.applies steps.new ≤ S.Count.applies steps.old + length self.now.live }
+        ensures looks { S.Count.looks steps.new ≤ S.Count.looks steps.old + 8 * weights (entries_of self.now.live) (sweep (has_text keep.now) self.now.base) }
     {
         let alloc = *self.versions.allocator();
-        let touched = ids_to_drop(alloc, &self.base, keep)?;
-        let base = without_ids(&self.base, &touched, steps)?;
-        let view = base.version()?;
-        Ok(Draft {
-            view,
-            touched,
-            placing: Placing::Confirmed {
-                base,
-                gone: None,
-                versions: Vec::new(alloc),
-            },
-        })
+        let draft = sweep(
+            alloc,
+            &self.base,
+            &self.entries,
+            &self.versions,
+            keep,
+            steps,
+        )?;
+        Ok(draft)
     }
 
     /// Puts in place what was drafted from these very layers. It takes memory only for a layer that
@@ -282,6 +292,7 @@ impl<S: RecordSource> Layers<S> {
         drop(view);
         drop(touched);
         match placing {
+            Placing::Kept => Ok(()),
             Placing::Begun {
                 name,
                 entry,
@@ -320,6 +331,13 @@ impl<S: RecordSource> Layers<S> {
         ensures { S.records result.now ≡ self.now.base }
     {
         &self.base
+    }
+
+    /// The ids that the entries of the live layers name, in byte order.
+    pub fn named(&self) -> Result<Ids, NoMemory>
+        ensures { (j : Text) → IfOk result (λ ids. has_text ids j ≡ has_text (all_named (entries_of self.now.live)) j) }
+    {
+        ids_named(*self.versions.allocator(), &self.entries)
     }
 
     /// Whether a layer of the name is live; takes no memory.

@@ -6,6 +6,7 @@ mod fold;
 mod ids;
 pub mod layers;
 mod names;
+mod naming;
 mod rebuild;
 mod sweep;
 

@@ -1,19 +1,28 @@
 //! What a call of the layers changes, built aside.
-ghost use Rattle.std.specs.Prelude.{◌≡◌, ◌+◌, ◌*◌, ◌-◌, ◌<◌, ◌≤◌, ◌++◌, [], ◌∷◌, false, take, drop, length, IfOk, OnOk};
+ghost use Rattle.std.specs.Prelude.{◌≡◌, ◌+◌, ◌*◌, ◌-◌, ◌<◌, ◌≤◌, ◌++◌, [], ◌∷◌, true, false, take, drop, length, IfOk, OnOk};
+ghost use Rattle.store_update.specs.gql_plain.Order.{has_text};
+ghost use Rattle.store_update.specs.store_record.Keys.{Text};
+ghost use Rattle.std.specs.List.{AllByRecursion};
+ghost use Rattle.store_update.specs.store_model.Said.{HaveHandleKeys};
+ghost use Rattle.store_update.specs.store_model.Leads.{leads};
+ghost use Rattle.store_update.specs.store_model.Records.{slot_at};
+ghost use Rattle.store_update.specs.store_model.Sweeps.{sweep, dropped};
+ghost use Rattle.store_sweeps.specs.Swept.{all_named};
 ghost use Rattle.store_update.specs.gql_plain.Counted.{next_count};
 ghost use Rattle.indexmap.specs.IndexMap.{index_map_len};
 ghost use Rattle.store_update.specs.store_model.Entries.{weight, fold_entries};
 ghost use Rattle.store_layers.specs.Changed.{AreChanged};
 ghost use Rattle.store_layers.specs.Drafts.{Fits, placed, finished_at, reverted_at};
-ghost use Rattle.store_layers.specs.Layered.{begun, committed, entries_of, is_live, view_of};
+ghost use Rattle.store_layers.specs.Layered.{begun, committed, entries_of, is_live, swept, view_of};
 ghost use Rattle.store_layers.specs.Versions.{shown, AreKept, layers_of, layered_of, all_but};
 ghost use Rattle.store_layers.specs.Work.{counted, weights};
 
 use crate::drafts::{Draft, Placing};
-use crate::fold::{Entries, newest, put_versions};
+use crate::fold::{Entries, look_at_keys, newest, put_versions};
 use crate::ids::{ids_changed, ids_confirmed};
+use crate::sweep::{ids_to_drop, without_ids};
 use std::alloc::Global;
-use store_update::gql_plain::{NoMemory, Words};
+use store_update::gql_plain::{Ids, NoMemory, Words};
 use store_update::store_model::Entry;
 use store_update::store_source::RecordSource;
 use store_update::{Changed, apply};
@@ -149,6 +158,55 @@ pub(crate) fn revert<S: RecordSource>(
         touched,
         placing: Placing::Reverted {
             at,
+            versions: after,
+        },
+    })
+}
+
+/// Takes each id that is not in `keep` out of the base, and applies all layers to it again. The ids are
+/// those that were taken out, in byte order. Where nothing goes, nothing is applied.
+pub(crate) fn sweep<S: RecordSource>(
+    alloc: Global,
+    base: &S,
+    entries: &Entries,
+    versions: &[Changed<S>],
+    keep: &Ids,
+    steps: &mut S::Count,
+) -> Result<Draft<S>, NoMemory>
+    requires versions { AreKept (S.records base.now) (layers_of entries.now.entries) (shown S.records versions.now) }
+    requires kept { (j : Text) → has_text (leads (S.records base.now) (all_named (entries_of (layers_of entries.now.entries)))) j ≡ true → has_text keep.now j ≡ true }
+    ensures fits { IfOk result (λ d. Fits S.records (layered_of (S.records base.now) entries.now.entries) d) }
+    ensures placed { IfOk result (λ d. placed S.records (layered_of (S.records base.now) entries.now.entries) d ≡ swept keep.now (layered_of (S.records base.now) entries.now.entries)) }
+    ensures dropped { IfOk result (λ d. d.touched ≡ dropped (has_text keep.now) (S.records base.now)) }
+    ensures changed { IfOk result (λ d. (id : Text) → has_text d.touched id ≡ false
+        → slot_at id (view_of (swept keep.now (layered_of (S.records base.now) entries.now.entries))) ≡ slot_at id (view_of (layered_of (S.records base.now) entries.now.entries))) }
+    ensures keys { AllByRecursion (λ e. HaveHandleKeys e.facts.handles) (entries_of (layers_of entries.now.entries)) }
+    ensures alone { entries_of (layers_of entries.now.entries) ≡ [] → S.Count.applies steps.new ≡ S.Count.applies steps.old }
+    ensures none { dropped (has_text keep.now) (S.records base.now) ≡ [] → S.Count.applies steps.new ≡ S.Count.applies steps.old }
+    ensures applies { S.Count.applies steps.new ≤ S.Count.applies steps.old + length entries.now.entries }
+    ensures looks { S.Count.looks steps.new ≤ S.Count.looks steps.old + 8 * weights (entries_of (layers_of entries.now.entries)) (sweep (has_text keep.now) (S.records base.now)) }
+{
+    look_at_keys(entries);
+    let touched = ids_to_drop(alloc, base, keep)?;
+    if touched.is_empty() {
+        let view = newest(base, versions).version()?;
+        return Ok(Draft {
+            view,
+            touched,
+            placing: Placing::Kept,
+        });
+    }
+    let left = without_ids(base, &touched, steps)?;
+    let mut after = Vec::new(alloc);
+    let count = entries.len();
+    put_versions(&left, &mut after, entries, 0, count, steps)?;
+    let view = newest(&left, &after).version()?;
+    Ok(Draft {
+        view,
+        touched,
+        placing: Placing::Confirmed {
+            base: left,
+            gone: None,
             versions: after,
         },
     })

@@ -3,8 +3,7 @@ use Rattle.std.proofs.Common.{◌≡◌, ℕ, zero, suc, ◌+◌, ◌<◌, ◌�
 use Rattle.std.proofs.lemmas.List.{append-nil}
 use Rattle.std.specs.List.{list_all}
 use Rattle.plan_ir.proofs.gql_graph_laws.TextSteps.{same_self, same_text}
-use Rattle.plan_ir.proofs.gql_plain_laws.SortedTexts.{AreSortedOf-is, has_text-sorted_texts}
-use Rattle.plan_ir.specs.gql_plain.Order.{AreSortedOf, has_text}
+use Rattle.plan_ir.specs.gql_plain.Order.{has_text}
 use Rattle.plan_ir.specs.NormalMeaning.{condition_passes, guard_passes, type_passes}
 use Rattle.plan_ir.specs.declared.guard.Guard.{Guard}
 use Rattle.plan_ir.specs.schema_types.Environments.{Values}
@@ -17,9 +16,6 @@ drop_none [] zero h = refl
 drop_none [] (suc i) h = refl
 drop_none (x ∷ xs) zero h = absurd (omega (arith, h))
 drop_none (x ∷ xs) (suc i) h = drop_none xs i (omega (arith, h))
-
-pub sorted_has : (xs sorted : List Text) (j : Text) → AreSortedOf xs sorted → has_text sorted j ≡ has_text xs j
-sorted_has xs sorted j h = ap (λ ts. has_text ts j) (AreSortedOf-is xs sorted h) ∙ has_text-sorted_texts xs j
 
 -- ---- texts one after another
 

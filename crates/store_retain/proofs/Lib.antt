@@ -10,3 +10,4 @@ pub mod Reaching
 pub mod TableSteps
 pub mod KeptSteps
 pub mod MarkSteps
+pub mod LeadingSteps

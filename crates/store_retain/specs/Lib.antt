@@ -9,3 +9,4 @@ pub mod Stands
 pub mod Kept
 pub mod KeptCode
 pub mod KeptView
+pub mod Leading

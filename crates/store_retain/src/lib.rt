@@ -8,6 +8,7 @@
 
 mod found;
 pub mod held;
+pub mod leading;
 mod mark;
 mod paths;
 pub mod retained;
@@ -17,5 +18,6 @@ mod trail;
 mod walk;
 
 pub use held::Held;
+pub use leading::leads;
 pub use retained::Retained;
 pub use store_source::{Flat, RecordSource, Versions};

@@ -2,7 +2,8 @@
 use Rattle.std.proofs.Common.{◌≡◌, ◌&&◌, ap, ◌∙◌, arith}
 use Rattle.std.proofs.lemmas.Result.{IfOk-weaker}
 use Rattle.plan_ir.specs.gql_plain.Order.{AreSortedOf, has_text}
-use Rattle.store_retain.proofs.CommonSteps.{common_end, common_next, sorted_has}
+use Rattle.store_retain.proofs.CommonSteps.{common_end, common_next}
+use Rattle.store_sweeps.proofs.Written.{sorted_has}
 use Rattle.store_retain.proofs.table.common.Goals as goal
 
 pub texts-preserved : goal.texts-preserved

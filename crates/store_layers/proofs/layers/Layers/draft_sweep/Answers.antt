@@ -1,30 +1,28 @@
-use Rattle.std.proofs.Common.{◌≡◌, List, [], sym, ap, ◌∙◌, subst}
+use Rattle.std.proofs.Common.{◌≡◌, ◌+◌, ◌*◌, ◌≤◌, Bool, true, false, length, sym, subst}
 use Rattle.store_update.specs.gql_plain.Order.{has_text}
-use Rattle.store_update.specs.store_model.Sweeps.{dropped}
-use Rattle.store_layers.proofs.Swept.{base_swept}
+use Rattle.store_update.specs.store_record.Keys.{Text}
+use Rattle.store_update.specs.store_model.Leads.{leads}
+use Rattle.store_update.specs.store_model.Records.{slot_at}
+use Rattle.store_update.specs.store_model.Sweeps.{sweep, dropped}
+use Rattle.store_sweeps.specs.Swept.{all_named}
 use Rattle.store_layers.proofs.layers.Layers.draft_sweep.Goals as goal
-use Rattle.store_layers.specs.Layered.{Layered, Layer, entries_of, swept}
-use Rattle.store_layers.specs.Versions.{AreVersions, shown}
-use Rattle.store_update.specs.store_model.Entries.{fold_entries}
+use Rattle.store_layers.specs.Drafts.{Fits, placed}
+use Rattle.store_layers.specs.Layered.{Layered, entries_of, swept, view_of}
+use Rattle.store_layers.specs.Work.{weights}
+
+pub sweep-requires-clause-kept : goal.sweep-requires-clause-kept
+sweep-requires-clause-kept g c =
+    subst (λ (s : Layered). (j : Text) → has_text (leads s.base (all_named (entries_of s.live))) j ≡ true → has_text c.args.keep.now j ≡ true) (sym c.self.view_is) c.requires.kept
 
 pub returns-clause-fits : goal.returns-clause-fits
-returns-clause-fits g c =
-    let r = g.S.RecordSource.records in
-    let base = r c.in_ok-base.base in
-    let alone : c.args.self.now.live ≡ [] = c.requires.alone in
-    let none : AreVersions base (entries_of c.args.self.now.live) (shown r c.new.result.items) =
-    subst (λ ls. AreVersions base (entries_of ls) (shown r c.new.result.items)) (sym alone)
-    (subst (λ vs. AreVersions base [] (shown r vs)) (sym c.new.ensures.items) tt) in
-    record {
-      suits = (tt, none);
-      view = c.in_ok-view.ensures ∙ ap (λ (ls : List Layer). fold_entries (entries_of ls) base) (sym alone);
-    }
+returns-clause-fits g c = subst (λ (s : Layered). Fits g.S.RecordSource.records s c.in_ok-draft.draft) c.self.view_is c.in_ok-draft.ensures.fits
 
 pub returns-clause-placed : goal.returns-clause-placed
-returns-clause-placed g c =
-    let m = g.S.RecordSource.records c.self.inside.base in
-    base_swept c.args.keep.now c.in_ok-touched.touched m (g.S.RecordSource.records c.in_ok-base.base) c.args.self.now.live c.in_ok-touched.ensures c.in_ok-base.ensures.records
-    ∙ (λ i. swept c.args.keep.now (record { base = ap (λ (s : Layered). s.base) c.self.view_is i; live = c.args.self.now.live }))
+returns-clause-placed g c = subst (λ (s : Layered). placed g.S.RecordSource.records s c.in_ok-draft.draft ≡ swept c.args.keep.now s) c.self.view_is c.in_ok-draft.ensures.placed
 
 pub returns-clause-dropped : goal.returns-clause-dropped
-returns-clause-dropped g c = c.in_ok-touched.ensures ∙ ap (λ (s : Layered). dropped (has_text c.args.keep.now) s.base) c.self.view_is
+returns-clause-dropped g c = subst (λ (s : Layered). c.in_ok-draft.draft.touched ≡ dropped (has_text c.args.keep.now) s.base) c.self.view_is c.in_ok-draft.ensures.dropped
+
+pub returns-clause-changed : goal.returns-clause-changed
+returns-clause-changed g c =
+    subst (λ (s : Layered). (id : Text) → has_text c.in_ok-draft.draft.touched id ≡ false → slot_at id (view_of (swept c.args.keep.now s)) ≡ slot_at id (view_of s)) c.self.view_is c.in_ok-draft.ensures.changed

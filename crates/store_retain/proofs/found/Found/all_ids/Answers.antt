@@ -2,7 +2,8 @@
 use Rattle.std.proofs.Common.{◌≡◌, ap, ◌∙◌}
 use Rattle.std.proofs.lemmas.Result.{IfOk-weaker}
 use Rattle.plan_ir.specs.gql_plain.Order.{AreSortedOf, has_text}
-use Rattle.store_retain.proofs.CommonSteps.{sorted_has, texts_end, texts_next}
+use Rattle.store_retain.proofs.CommonSteps.{texts_end, texts_next}
+use Rattle.store_sweeps.proofs.Written.{sorted_has}
 use Rattle.store_retain.proofs.found.Found.all_ids.Goals as goal
 use Rattle.store_retain.specs.Steps.{Found}
 
