@@ -3,9 +3,9 @@ use Rattle.std.proofs.Common.{◌≡◌, Bool, true, false, true≢false, cond, 
 use Rattle.std.proofs.lemmas.Map.Text.{is_eq-slice_cmp}
 use Rattle.std.proofs.lemmas.Slice.Eq.{bytes_eq-Decides}
 use Rattle.std.specs.FinMap.Entries.{by_order, put as put_entry}
-use Rattle.store_model.specs.store_record.gql_plain.Order.{has_text, member_at}
-use Rattle.store_model.specs.store_record.gql_plain.declared.plain.Plain.{Plain}
-use Rattle.store_model.specs.store_record.gql_plain.declared.plain.Plain.TheVariants.{Text as Words}
+use Rattle.store_model.specs.gql_plain.Order.{has_text, member_at}
+use Rattle.store_model.specs.gql_plain.declared.plain.Plain.{Plain}
+use Rattle.store_model.specs.gql_plain.declared.plain.Plain.TheVariants.{Text as Words}
 use Rattle.store_model.specs.store_record.Keys.{Text}
 use Rattle.store_model.specs.store_record.declared.field.Field.{Field}
 use Rattle.store_model.specs.store_record.declared.field.Field.TheVariants.{Leaf}

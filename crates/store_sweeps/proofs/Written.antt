@@ -1,7 +1,7 @@
 -- What is put at the end of a list, element by element, and what is left.
 use Rattle.std.proofs.Common.{◌≡◌, ℕ, ◌+◌, ◌<◌, ◌≤◌, Bool, true, false, ◌||◌, List, [], ◌∷◌, ◌++◌, drop, length, get_or, append-nil, append_assoc, bytes_eq, refl, sym, ap, ◌∙◌}
 use Rattle.std.proofs.lemmas.List.{drop_all, drop_more}
-use Rattle.store_model.specs.store_record.gql_plain.Order.{AreSortedOf, has_text}
+use Rattle.store_model.specs.gql_plain.Order.{AreSortedOf, has_text}
 use Rattle.store_model.specs.store_record.Keys.{Text}
 use Rattle.store_model.proofs.gql_plain_laws.SortedTexts.{AreSortedOf-is, has_text-sorted_texts}
 

@@ -1,6 +1,6 @@
 //! The ids that entries name.
 ghost use Rattle.std.specs.Prelude.{◌≡◌, ◌||◌, ◌++◌, [], ◌∷◌, map, OnOk};
-ghost use Rattle.store_model.specs.store_record.gql_plain.Order.{has_text};
+ghost use Rattle.store_model.specs.gql_plain.Order.{has_text};
 ghost use Rattle.store_model.specs.store_record.Keys.{Text};
 ghost use Rattle.store_model.specs.Entries.{ids_named, named_by_command, named_by_commands, named_by_facts};
 ghost use Rattle.store_model.specs.FactRows.{AreFactRows, IsFactRow, facts_of, facts_of_row};

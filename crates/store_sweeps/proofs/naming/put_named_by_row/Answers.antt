@@ -1,5 +1,5 @@
 use Rattle.std.proofs.Common.{◌||◌, [], ◌∷◌, bytes_eq, ap, sym, ◌∙◌}
-use Rattle.store_model.specs.store_record.gql_plain.Order.{has_text}
+use Rattle.store_model.specs.gql_plain.Order.{has_text}
 use Rattle.store_model.specs.Leads.{ids_of_fields}
 use Rattle.store_sweeps.proofs.NamedIds.{row_named}
 use Rattle.store_sweeps.proofs.Written.{has_append, or_false, or_assoc}

@@ -1,5 +1,5 @@
 use Rattle.std.proofs.Common.{◌≡◌, ◌||◌, drop}
-use Rattle.store_model.specs.store_record.gql_plain.Order.{has_text}
+use Rattle.store_model.specs.gql_plain.Order.{has_text}
 use Rattle.store_model.specs.store_record.Keys.{Text}
 use Rattle.store_model.specs.Entries.{named_by_facts}
 use Rattle.store_model.specs.FactRows.{facts_of}
