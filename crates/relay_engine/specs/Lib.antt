@@ -4,6 +4,7 @@ pub mod Kept
 pub mod KeptCode
 pub mod LaterLines
 pub mod Marked
+pub mod Named
 pub mod Notices
 pub mod Operations
 pub mod Parts

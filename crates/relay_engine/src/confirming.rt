@@ -1,5 +1,5 @@
 //! Events that are confirmed at once: payloads and updates.
-ghost use Rattle.std.specs.Prelude.{◌≡◌, ◌+◌, ◌<◌, ◌≤◌, ◌^◌, true, length, option_map, IfOk, OnErr};
+ghost use Rattle.std.specs.Prelude.{◌≡◌, ◌+◌, ◌≤◌, true, length, option_map, IfOk, OnErr};
 ghost use Rattle.event_script.specs.Seen.{answer_seen};
 ghost use Rattle.relay_engine.specs.Steps.{HasStepped};
 ghost use Rattle.relay_engine.specs.Work.{ChangesWithin, EventWithin, confirming};
@@ -25,7 +25,6 @@ impl<S: RecordSource> Engine<S> {
         n: u64,
         steps: &mut S::Count,
     ) -> Result<Lines, NoMemory>
-        requires { n < 2 ^ 63 }
         ensures step { IfOk result (λ lines. HasStepped self.old self.new lines (λ p s.
             machine.noticed p n (length s.watches) (machine.result_of p s n (option_map answer_seen answer.now) commands (λ step. step) (λ entry. machine.accept (printed.event_line event.now n) (machine.confirm entry s))))) }
         ensures buffer { self.new.buffer ≡ self.old.buffer }
@@ -48,7 +47,6 @@ impl<S: RecordSource> Engine<S> {
         n: u64,
         steps: &mut S::Count,
     ) -> Result<Lines, NoMemory>
-        requires { n < 2 ^ 63 }
         ensures step { IfOk result (λ lines. HasStepped self.old self.new lines (λ p s. machine.noticed p n (length s.watches) (machine.accept (printed.event_line event.now n) (machine.confirm entry s)))) }
         ensures buffer { self.new.buffer ≡ self.old.buffer }
         ensures refused { IfOk result (λ lines. lines.refused ≡ true → self.new ≡ self.old) }

@@ -1,5 +1,5 @@
 //! Events of optimistic layers: their beginning, their end, and their revocation.
-ghost use Rattle.std.specs.Prelude.{◌≡◌, ◌+◌, ◌<◌, ◌≤◌, ◌^◌, codes, true, false, length, option_map, IfOk, OnErr};
+ghost use Rattle.std.specs.Prelude.{◌≡◌, ◌+◌, ◌≤◌, codes, true, false, length, option_map, IfOk, OnErr};
 ghost use Rattle.event_script.specs.Seen.{answer_seen};
 ghost use Rattle.relay_engine.specs.Steps.{HasStepped};
 ghost use Rattle.relay_engine.specs.Work.{ChangesWithin, EventWithin, confirming, starting};
@@ -30,7 +30,6 @@ impl<S: RecordSource> Engine<S> {
         n: u64,
         steps: &mut S::Count,
     ) -> Result<Lines, NoMemory>
-        requires { n < 2 ^ 63 }
         ensures step { IfOk result (λ lines. HasStepped self.old self.new lines (λ p s. machine.noticed p n (length s.watches) (machine.step_begin p s n layer (option_map answer_seen answer.now) commands))) }
         ensures buffer { self.new.buffer ≡ self.old.buffer }
         ensures refused { IfOk result (λ lines. lines.refused ≡ true → self.new ≡ self.old) }
@@ -56,7 +55,6 @@ impl<S: RecordSource> Engine<S> {
         n: u64,
         steps: &mut S::Count,
     ) -> Result<Lines, NoMemory>
-        requires within { n < 2 ^ 63 }
         requires free { layered.is_live self.old.layers.live layer ≡ false }
         ensures step { IfOk result (λ lines. HasStepped self.old self.new lines (λ p s. machine.noticed p n (length s.watches) (machine.accept (printed.event_line (codes "begin") n) (machine.with_layer layer entry s)))) }
         ensures buffer { self.new.buffer ≡ self.old.buffer }
@@ -80,7 +78,6 @@ impl<S: RecordSource> Engine<S> {
         n: u64,
         steps: &mut S::Count,
     ) -> Result<Lines, NoMemory>
-        requires { n < 2 ^ 63 }
         ensures step { IfOk result (λ lines. HasStepped self.old self.new lines (λ p s. machine.noticed p n (length s.watches) (machine.step_finish p s n layer.now (option_map answer_seen answer.now) commands))) }
         ensures buffer { self.new.buffer ≡ self.old.buffer }
         ensures refused { IfOk result (λ lines. lines.refused ≡ true → self.new ≡ self.old) }
@@ -105,7 +102,6 @@ impl<S: RecordSource> Engine<S> {
         n: u64,
         steps: &mut S::Count,
     ) -> Result<Lines, NoMemory>
-        requires within { n < 2 ^ 63 }
         requires live { layered.is_live self.old.layers.live layer.now ≡ true }
         ensures step { IfOk result (λ lines. HasStepped self.old self.new lines (λ p s. machine.noticed p n (length s.watches) (machine.accept (printed.event_line (codes "finish") n) (machine.confirm entry (machine.drop_layer layer.now s))))) }
         ensures buffer { self.new.buffer ≡ self.old.buffer }
@@ -126,7 +122,6 @@ impl<S: RecordSource> Engine<S> {
         n: u64,
         steps: &mut S::Count,
     ) -> Result<Lines, NoMemory>
-        requires { n < 2 ^ 63 }
         ensures step { IfOk result (λ lines. HasStepped self.old self.new lines (λ p s. machine.noticed p n (length s.watches) (machine.step_revert s n layer.now))) }
         ensures buffer { self.new.buffer ≡ self.old.buffer }
         ensures refused { IfOk result (λ lines. lines.refused ≡ true → self.new ≡ self.old) }

@@ -1,5 +1,5 @@
 //! The event that releases an operation.
-ghost use Rattle.std.specs.Prelude.{◌≡◌, ◌<◌, ◌^◌, true, IfOk, OnErr};
+ghost use Rattle.std.specs.Prelude.{◌≡◌, true, IfOk, OnErr};
 ghost use Rattle.relay_engine.specs.Steps.{HasStepped};
 ghost use Rattle.relay_machine.specs.Machine as machine;
 
@@ -13,7 +13,6 @@ use store_retain::RecordSource;
 impl<S: RecordSource> Engine<S> {
     /// Releases the operation of a handle with which no live watch was started.
     pub(crate) fn release(&mut self, handle: &Words, n: u64) -> Result<Lines, NoMemory>
-        requires { n < 2 ^ 63 }
         ensures step { IfOk result (λ lines. HasStepped self.old self.new lines (λ p s. machine.step_release s n handle.now)) }
         ensures buffer { self.new.buffer ≡ self.old.buffer }
         ensures refused { IfOk result (λ lines. lines.refused ≡ true → self.new ≡ self.old) }

@@ -56,5 +56,5 @@ returns-clause-looks g c = λ p s stands.
     (g.S.Count.Steps.looks c.args.steps.now) (g.S.Count.Steps.looks c.draft_finish.new.steps) c.draft_finish.ensures.looks c.in_ok-draft.draft.touched c.in_ok-draft.ensures.changed.only
     (placed g.S.RecordSource.records k.layers c.in_ok-draft.draft) (ap view_of made ∙ seen_finished k p s stands name e) (g.S.Count.Steps.looks c.change.new.steps) c.change.ensures.looks
 
-pub change-requires-clause-fits : goal.change-requires-clause-fits
-change-requires-clause-fits g c = subst (λ (x : Kept). Fits g.S.RecordSource.records x.layers c.in_ok-draft.draft) c.self.view_is c.in_ok-draft.ensures.fits
+pub change-requires : goal.change-requires
+change-requires g c = record { fits = subst (λ (x : Kept). Fits g.S.RecordSource.records x.layers c.in_ok-draft.draft) c.self.view_is c.in_ok-draft.ensures.fits }

@@ -121,5 +121,5 @@ returns-clause-exact g c =
     always c.change.result (λ lines. lines.refused ≡ false → g.S.Count.Steps.applies c.change.new.steps ≡ counted (length (above name c.args.self.now.layers.live)) before)
     (λ lines taken. c.change.ensures.applies ∙ c.in_ok-draft.ensures.exact ∙ ap (λ (l : Layered). counted (length (above name l.live)) before) same)
 
-pub change-requires-clause-fits : goal.change-requires-clause-fits
-change-requires-clause-fits g c = subst (λ (x : Kept). Fits g.S.RecordSource.records x.layers c.in_ok-draft.draft) c.self.view_is c.in_ok-draft.ensures.fits
+pub change-requires : goal.change-requires
+change-requires g c = record { fits = subst (λ (x : Kept). Fits g.S.RecordSource.records x.layers c.in_ok-draft.draft) c.self.view_is c.in_ok-draft.ensures.fits }

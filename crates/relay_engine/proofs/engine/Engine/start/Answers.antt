@@ -57,5 +57,5 @@ returns-clause-looks g c = λ p s stands.
     before between (one_weight before between e (view_of c.self.inside.layers) c.draft_begin.ensures.looks) c.in_ok-draft.draft.touched c.in_ok-draft.ensures.changed.only
     (placed g.S.RecordSource.records k.layers c.in_ok-draft.draft) (ap view_of made ∙ seen_begun k p s stands name e c.requires.free) (g.S.Count.Steps.looks c.change.new.steps) c.change.ensures.looks
 
-pub change-requires-clause-fits : goal.change-requires-clause-fits
-change-requires-clause-fits g c = subst (λ (x : Kept). Fits g.S.RecordSource.records x.layers c.in_ok-draft.draft) c.self.view_is c.in_ok-draft.ensures.fits
+pub change-requires : goal.change-requires
+change-requires g c = record { fits = subst (λ (x : Kept). Fits g.S.RecordSource.records x.layers c.in_ok-draft.draft) c.self.view_is c.in_ok-draft.ensures.fits }

@@ -51,5 +51,5 @@ returns-clause-step g c =
     (subst (λ d. AreLines (collect_line n d false) false answer) c.len.ensures c.in_ok-answer.ensures)))
     c.change.ensures.step
 
-pub change-requires-clause-fits : goal.change-requires-clause-fits
-change-requires-clause-fits g c = subst (λ (x : Kept). Fits g.S.RecordSource.records x.layers c.in_ok-draft.draft) c.self.view_is c.in_ok-draft.ensures.fits
+pub change-requires : goal.change-requires
+change-requires g c = record { fits = subst (λ (x : Kept). Fits g.S.RecordSource.records x.layers c.in_ok-draft.draft) c.self.view_is c.in_ok-draft.ensures.fits }
