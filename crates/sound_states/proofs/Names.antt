@@ -4,7 +4,7 @@ use Rattle.std.proofs.lemmas.Slice.Eq.{bytes_eq-Decides}
 use Rattle.std.specs.List.{AllByRecursion}
 use Rattle.plan_ir.specs.schema_tables.Types.{Text}
 use Rattle.relay_machine.specs.Machine.{Handle, Layer, Watch, handle_named, is_in_use, is_layer, without_handle, without_layer}
-use Rattle.sound_states.specs.Sound.{AreApart, handle_name, is_named, layer_name}
+use Rattle.sound_states.specs.Named.{AreApart, handle_name, is_named, layer_name}
 
 abbrev pub Each : {X : Type 0} → (X → Type 0) → List X → Type 0
 Each P xs = AllByRecursion P xs
@@ -12,6 +12,10 @@ Each P xs = AllByRecursion P xs
 pub each_so : {X : Type 0} (P Q : X → Type 0) (xs : List X) → ((x : X) → P x → Q x) → Each P xs → Each Q xs
 each_so P Q [] f a = tt
 each_so P Q (x ∷ xs) f a = (f x a.0, each_so P Q xs f a.1)
+
+each_any : {X : Type 0} (xs : List X) → Each (λ x. Unit {0}) xs
+each_any [] = tt
+each_any (x ∷ xs) = (tt, each_any xs)
 
 pub each_push : {X : Type 0} (P : X → Type 0) (xs : List X) (x : X) → Each P xs → P x → Each P (xs ++ x ∷ [])
 each_push P [] x all here = (here, tt)
@@ -149,6 +153,10 @@ found P (x ∷ hs) n h all e = at (bytes_eq x.name n) refl e (found P hs n h all
     at : (b : Bool) → bytes_eq x.name n ≡ b → cond b (Some x) (handle_named hs n) ≡ Some h → (handle_named hs n ≡ Some h → P h × (h.name ≡ n)) → P h × (h.name ≡ n)
     at true is k later = subst (λ (y : Handle). P y × (y.name ≡ n)) (some_is x h k) (all.0, (bytes_eq-Decides x.name n).0 is)
     at false is k later = later k
+
+-- a handle that is found has the name
+pub named_so : (hs : List Handle) (n : Text) (h : Handle) → handle_named hs n ≡ Some h → h.name ≡ n
+named_so hs n h e = (found (λ x. Unit {0}) hs n h (each_any hs) e).1
 
 -- a handle that is found is found still, when one is put to the end
 pub found_push : (hs : List Handle) (x : Handle) (n : Text) (h : Handle) → handle_named hs n ≡ Some h → handle_named (hs ++ x ∷ []) n ≡ Some h

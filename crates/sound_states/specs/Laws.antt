@@ -1,17 +1,19 @@
--- What keeps states sound.
-use Rattle.std.specs.Prelude.{◌≡◌, ℕ}
+-- What keeps states named, and what keeps them sound.
+use Rattle.std.specs.Prelude.{ℕ}
 use Rattle.plan_ir.specs.schema_rules.Rules.{is_object}
 use Rattle.plan_ir.specs.schema_tables.Types.{Text}
-use Rattle.plan_ir.specs.store_model.Said.{Said}
-use Rattle.plan_ir.specs.store_model.Verdicts.{content}
-use Rattle.relay_machine.specs.Machine.{Handle, Project, State, base, beginning, said_to, step, view}
-use Rattle.serde_json.specs.Data as J
-use Rattle.sound_records.specs.Sound.{AreSound, IsSoundSaid}
-use Rattle.sound_states.specs.Sound.{IsSound, IsSoundHandle}
+use Rattle.relay_machine.specs.Machine.{Project, State, base, beginning, step, view}
+use Rattle.sound_records.specs.Sound.{AreSound}
+use Rattle.sound_states.specs.Named.{IsNamed}
+use Rattle.sound_states.specs.Says.{SaysSoundly}
+use Rattle.sound_states.specs.Sound.{IsSound}
 
--- what responses say to operations of the project is sound
-abbrev pub SaysSoundly : Project → Type 0
-SaysSoundly p = (h : Handle) (response : J.Data) (said : Said) → IsSoundHandle p h → said_to p h response ≡ content said → IsSoundSaid (is_object p.defs) said
+abbrev pub BeginningIsNamed : Type 0
+BeginningIsNamed = IsNamed beginning
+
+-- whatever the project and the bytes of the line
+abbrev pub StepsKeepNamed : Type 0
+StepsKeepNamed = (p : Project) (buffer : ℕ) (s : State) (n : ℕ) (line : Text) → IsNamed s → IsNamed (step p buffer s n line).state
 
 abbrev pub BeginningIsSound : Type 0
 BeginningIsSound = (p : Project) → IsSound p beginning

@@ -1,6 +1,6 @@
--- Sound states of the machine: what it keeps is of the project, and its entries are sound.
-use Rattle.std.specs.Prelude.{◌≡◌, ◌≤◌, Bool, false, List, [], ◌∷◌, length, bytes_eq, Option, Some, None}
-use Rattle.std.specs.List.{AllByRecursion, list_any}
+-- Sound states of the machine: they are named, what they keep is of the project, and their entries are sound.
+use Rattle.std.specs.Prelude.{◌≡◌, ◌≤◌, length, Option, Some, None}
+use Rattle.std.specs.List.{AllByRecursion}
 use Rattle.plan_ir.specs.Expansion.{operation_named, variable_trees}
 use Rattle.plan_ir.specs.relay_dirs.Locals.{locals_of}
 use Rattle.plan_ir.specs.schema_rules.Rules.{is_object}
@@ -8,21 +8,11 @@ use Rattle.plan_ir.specs.schema_tables.Types.{Text}
 use Rattle.plan_ir.specs.schema_types.Environments.{Values, environment, first_failure}
 use Rattle.plan_ir.specs.schema_types.NameRules.{fragment_named, fragments, operations}
 use Rattle.plan_ir.specs.schema_types.Sites.{OperationAt}
-use Rattle.relay_machine.specs.Machine.{Confirmation, confirmed, swept, Handle, Layer, PartShown, Project, Retained, State, Watch, definitions_in, first_local_failure, handle_named, scope_given}
+use Rattle.relay_machine.specs.Machine.{Confirmation, confirmed, swept, Handle, Layer, PartShown, Project, Retained, State, Watch, definitions_in, first_local_failure, scope_given}
 use Rattle.relay_machine.specs.Refusals as refusals
 use Rattle.sound_records.specs.Giving.{IsName}
 use Rattle.sound_records.specs.Sound.{IsId, IsSoundEntry}
-
--- ---- names
-
--- whether one of a list has the name
-abbrev pub is_named : {X : Type 0} → (X → Text) → List X → Text → Bool
-is_named name xs n = list_any (λ x. bytes_eq (name x) n) xs
-
--- no two of a list have one name
-abbrev pub AreApart : {X : Type 0} → (X → Text) → List X → Type 0
-AreApart name [] = Unit {0}
-AreApart name (x ∷ xs) = (is_named name xs (name x) ≡ false) × AreApart name xs
+use Rattle.sound_states.specs.Named.{IsNamed}
 
 -- ---- what is kept
 
@@ -56,32 +46,19 @@ abbrev pub IsSoundShown : Project → Option PartShown → Type 0
 IsSoundShown p None = Unit {0}
 IsSoundShown p (Some part) = IsSoundPart p part
 
--- the handle with which it was started is live
-pub record IsSoundWatch (p : Project) (hs : List Handle) (w : Watch) : Type 0 where
+pub record IsSoundWatch (p : Project) (w : Watch) : Type 0 where
   pub name : IsName w.name
-  pub held : handle_named hs w.handle.name ≡ Some w.handle
   pub part : IsSoundShown p w.part
 
 -- ---- states
 
-abbrev pub handle_name : Handle → Text
-handle_name h = h.name
-
-abbrev pub layer_name : Layer → Text
-layer_name l = l.name
-
-abbrev pub watch_name : Watch → Text
-watch_name w = w.name
-
 pub record IsSound (p : Project) (s : State) : Type 0 where
+  pub named : IsNamed s
   pub entries : AllByRecursion (IsSoundConfirmation p) s.entries
   pub layers : AllByRecursion (IsSoundLayer p) s.layers
   pub handles : AllByRecursion (IsSoundHandle p) s.handles
   pub released : AllByRecursion (IsSoundRetained p) s.released
-  pub watches : AllByRecursion (IsSoundWatch p s.handles) s.watches
-  pub layers_apart : AreApart layer_name s.layers
-  pub handles_apart : AreApart handle_name s.handles
-  pub watches_apart : AreApart watch_name s.watches
+  pub watches : AllByRecursion (IsSoundWatch p) s.watches
   pub most_layers : length s.layers ≤ refusals.most refusals.layers
   pub most_handles : length s.handles ≤ refusals.most refusals.handles
   pub most_watches : length s.watches ≤ refusals.most refusals.watches
