@@ -78,12 +78,7 @@ impl<S: RecordSource> Engine<S> {
     }
 
     /// The same, of which is said what is kept alone.
-    fn over(
-        alloc: Global,
-        project: Project,
-        buffer: u64,
-        source: S,
-    ) -> Result<Engine<S>, NoMemory>
+    fn over(alloc: Global, project: Project, buffer: u64, source: S) -> Result<Engine<S>, NoMemory>
         requires least { 1 ≤ buffer }
         requires most { buffer ≤ 100 }
         requires empty { S.records source ≡ no_records }

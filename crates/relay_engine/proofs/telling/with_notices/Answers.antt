@@ -10,18 +10,20 @@ use Rattle.store_watch.specs.declared.notices.Notice.{Notice}
 
 pub put_notice-requires : goal.put_notice-requires
 put_notice-requires c =
-    record { within =
-    let ws = c.args.watches.now in
-    let ns = c.as_slice-notice-items.result.now in
-    subst (λ (x : Notice). x.place < length ws) (sym c.notice-item.is)
-    (place_within (length ws) ns c.notices.notice-index c.notice-item.result
-    (subst (λ (ts : List Telling). AllByRecursion (λ (t : Telling). t.place < length ws) ts) (sym c.as_slice-notice-items.ensures) c.requires.within) c.notices-test.true) }
+    record {
+      within =
+          let ws = c.args.watches.now in
+          let ns = c.as_slice-notice-items.result.now in
+          subst (λ (x : Notice). x.place < length ws) (sym c.notice-item.is)
+          (place_within (length ws) ns c.notices.notice-index c.notice-item.result
+          (subst (λ (ts : List Telling). AllByRecursion (λ (t : Telling). t.place < length ws) ts) (sym c.as_slice-notice-items.ensures) c.requires.within) c.notices-test.true);
+    }
 
 pub notices-preserved : goal.notices-preserved
 notices-preserved c = record {
   text =
-    told_step (names_of c.args.watches.now) c.args.n c.as_slice-notice-items.result.now c.notices.notice-index c.notice-item.result
-    (written c.notices.texts.items) (written c.put_notice.new.texts.items) _ c.notices-test.true c.notice-item.is c.notices.invariant.text c.in_ok-put_notice.ensures.text;
+      told_step (names_of c.args.watches.now) c.args.n c.as_slice-notice-items.result.now c.notices.notice-index c.notice-item.result
+      (written c.notices.texts.items) (written c.put_notice.new.texts.items) _ c.notices-test.true c.notice-item.is c.notices.invariant.text c.in_ok-put_notice.ensures.text;
   single = λ all. c.in_ok-put_notice.ensures.single (c.notices.invariant.single all);
 }
 

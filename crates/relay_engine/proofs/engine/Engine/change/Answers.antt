@@ -17,8 +17,10 @@ use Rattle.store_watch.specs.Watching.{DifferAt, Telling, Watch}
 
 pub with_notices-requires : goal.with_notices-requires
 with_notices-requires g c =
-    record { within =
-    subst (λ (ts : List Telling). AllByRecursion (λ (t : Telling). t.place < length c.self.inside.watches) ts) (sym c.in_ok-notices.ensures.notices) c.notify.ensures.within }
+    record {
+      within =
+          subst (λ (ts : List Telling). AllByRecursion (λ (t : Telling). t.place < length c.self.inside.watches) ts) (sym c.in_ok-notices.ensures.notices) c.notify.ensures.within;
+    }
 
 pub returns-clause-step : goal.returns-clause-step
 returns-clause-step g c = λ p s step stands differ has.

@@ -36,8 +36,10 @@ returns-then-is_live-clause-step g c =
 
 pub start_watch-requires : goal.start_watch-requires
 start_watch-requires g c =
-    record { free =
-    sym (λ i. is_live (c.self.view_is i).watches (c.as_str.ensures i)) ∙ sym c.is_live.ensures ∙ c.if-is_live.false }
+    record {
+      free =
+          sym (λ i. is_live (c.self.view_is i).watches (c.as_str.ensures i)) ∙ sym c.is_live.ensures ∙ c.if-is_live.false;
+    }
 
 pub returns-in-Shown-clause-step : goal.returns-in-Shown-clause-step
 returns-in-Shown-clause-step g c =
