@@ -1,5 +1,5 @@
 -- One notice more, and all of them.
-use Rattle.std.proofs.Common.{◌<◌, ◌++◌, List, length, ap, sym, subst, ◌∙◌}
+use Rattle.std.proofs.Common.{◌<◌, ◌++◌, List, length, refl, ap, sym, subst, ◌∙◌}
 use Rattle.std.specs.List.{AllByRecursion}
 use Rattle.relay_engine.proofs.TellingLaws.{place_within, told_end, told_step}
 use Rattle.relay_engine.proofs.telling.with_notices.Goals as goal
@@ -34,3 +34,6 @@ returns-clause-text c =
 
 pub returns-clause-single : goal.returns-clause-single
 returns-clause-single c = c.notices.invariant.single
+
+pub notices-init : goal.notices-init
+notices-init c = record { text = refl; single = λ all. all }
