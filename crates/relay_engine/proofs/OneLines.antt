@@ -1,12 +1,12 @@
 -- Printed lines have no LF but the one that ends them, so a list of such texts is told by what is written of it.
-use Rattle.std.proofs.Common.{◌≡◌, ℕ, zero, suc, ◌+◌, ◌/◌, ◌%◌, ℤ, pos, negsuc, Bool, true, false, true≢false, ◌||◌, ◌==◌, ◌⊎◌, cond, nat_lt, List, [], ◌∷◌, ◌++◌, codes, length, drop, get_or, flat_map, inl, inr, append-nil, append_assoc, length-append, refl, sym, ap, subst, ◌∙◌, arith}
+use Rattle.std.proofs.Common.{◌≡◌, ℕ, zero, suc, ◌+◌, ◌/◌, ◌%◌, ℤ, pos, negsuc, Bool, true, false, true≢false, ◌||◌, ◌==◌, ◌⊎◌, cond, nat_lt, List, [], ◌∷◌, ◌++◌, codes, length, map, drop, get_or, inl, inr, append-nil, append_assoc, length-append, refl, sym, ap, subst, ◌∙◌, arith}
 use Rattle.std.proofs.lemmas.Bool.{eqb-true, ltb-true, ne_eqb, or_cases}
 use Rattle.std.specs.Char.{digit_char}
 use Rattle.std.specs.Fmt.{decimal, digit_glyph, digits, digits_onto, signed_decimal}
 use Rattle.std.specs.List.{AllByRecursion}
 use Rattle.json.specs.Print.{escape, escape_byte, escape_letter, quoted}
 use Rattle.plan_ir.specs.gql_plain.ToJson.{compact, more_members, more_trees}
-use Rattle.plan_ir.specs.gql_plain.Tree.{Tree, null, truth, whole, text, list, object, Trees, no_trees, tree, Members, no_members, member}
+use Rattle.plan_ir.specs.gql_plain.Tree.{Tree, null, truth, whole, text, list, object, Trees, no_trees, tree, trees_of, Members, no_members, member}
 use Rattle.plan_ir.specs.schema_tables.Types.{Text}
 use Rattle.plan_ir.specs.store_model.Walks.{Reading, shown_object}
 use Rattle.relay_engine.specs.Kept.{Kept}
@@ -14,8 +14,8 @@ use Rattle.relay_engine.specs.Stands.{StandsFor}
 use Rattle.relay_engine.specs.Steps.{AreSingle, HasPrinted, HasStepped, IsOneLine, written}
 use Rattle.relay_engine.specs.declared.lines.Lines.{Lines}
 use Rattle.relay_machine.specs.Machine.{Project, State, Step}
-use Rattle.relay_machine.specs.Printed.{collect_line, event_line, in_order, line, refusal_line, shown_line}
-use Rattle.relay_machine.specs.Refusals.{Refusal}
+use Rattle.relay_machine.specs.Printed.{collect_line, event_line, in_order, line, number, refusal_line, shown_line}
+use Rattle.relay_machine.specs.Refusals.{Refusal, code_of, keys_of, name_of}
 use Rattle.relay_machine.specs.Script.{lines_from, lines_of}
 
 -- ---- lists
@@ -132,16 +132,18 @@ line_one members words e =
     subst IsOneLine (sym front) (tree_one (shown_object (in_order members)))
 
 pub event_one : (event : Text) (n : ℕ) (words : Text) → words ++ 10 ∷ [] ≡ event_line event n → IsOneLine words
-event_one event n words e = line_one _ words e
+event_one event n words e = line_one ((codes "n", number n) ∷ (codes "ok", text event) ∷ []) words e
 
 pub shown_one : (n : ℕ) (of : Text × Tree) (r : Reading) (words : Text) → words ++ 10 ∷ [] ≡ shown_line n of r → IsOneLine words
-shown_one n of r words e = line_one _ words e
+shown_one n of r words e =
+    line_one ((codes "data", r.value) ∷ (codes "missing", truth r.missing) ∷ (codes "n", number n) ∷ of ∷ (codes "seen", list (trees_of (map text r.seen))) ∷ []) words e
 
 pub collect_one : (n dropped : ℕ) (waiting : Bool) (words : Text) → words ++ 10 ∷ [] ≡ collect_line n dropped waiting → IsOneLine words
-collect_one n dropped waiting words e = line_one _ words e
+collect_one n dropped waiting words e =
+    line_one ((codes "dropped", number dropped) ∷ (codes "n", number n) ∷ (codes "ok", text (codes "collect")) ∷ (codes "waiting", truth waiting) ∷ []) words e
 
 pub refusal_one : (n : ℕ) (r : Refusal) (words : Text) → words ++ 10 ∷ [] ≡ refusal_line n r → IsOneLine words
-refusal_one n r words e = line_one _ words e
+refusal_one n r words e = line_one ((codes "code", number (code_of r)) ∷ (codes "error", text (name_of r)) ∷ (codes "n", number n) ∷ keys_of r) words e
 
 -- ---- texts that are lines
 

@@ -18,5 +18,5 @@ returns-clause-found c = λ p h is kept m.
     c.in_ok-copy.ensures refl c.in_ok-clone.ensures.cases c.in_ok-copy-2.ensures c.in_ok-clone-2.ensures.cases c.in_ok-new.ensures
     p h is kept m)
 
-pub operation_held-requires : goal.operation_held-requires
-operation_held-requires c = c.requires.there
+pub operation_held-compiled-requires : goal.operation_held-compiled-requires
+operation_held-compiled-requires c = c.requires.there
