@@ -18,7 +18,7 @@ use Rattle.relay_engine.specs.Parts.{IsProject}
 use Rattle.relay_engine.specs.Stands.{KeepsHandle, ShowsPart}
 use Rattle.relay_machine.specs.Machine as machine
 use Rattle.relay_machine.specs.Machine.{Handle, documents_of, fragment_read, operation_read, root_type}
-use Rattle.relay_machine.specs.relay_model.Readings.{fragment_reads, no_place, operation_reads, with_marked}
+use Rattle.relay_machine.specs.relay_model.Readings.{fragment_reads, no_place, with_marked}
 use Rattle.relay_machine.specs.relay_model.Responses.{operation_says}
 use Rattle.plan_ir.specs.schema_tables.Types.{Text, Defs}
 use Rattle.plan_ir.specs.schema_types.Environments.{Values, environment}

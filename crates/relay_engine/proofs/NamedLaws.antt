@@ -1,5 +1,5 @@
 -- What stands for a named state is named.
-use Rattle.std.proofs.Common.{◌≡◌, List, [], ◌∷◌, Bool, false, ◌||◌, bytes_eq, Option, Some, None, refl, sym, ap, subst, ◌∙◌}
+use Rattle.std.proofs.Common.{◌≡◌, List, [], ◌∷◌, ◌||◌, bytes_eq, Option, Some, None, refl, sym, ap, subst, ◌∙◌}
 use Rattle.std.specs.List.{AllByRecursion}
 use Rattle.relay_engine.proofs.HandleLaws.{agrees}
 use Rattle.relay_engine.proofs.Names.{found_left}
@@ -9,7 +9,6 @@ use Rattle.relay_engine.specs.Named.{AreValuesOf, IsNamedKept, IsWatchOf, name_o
 use Rattle.relay_engine.specs.Stands.{KeepsHandle, KeepsHandles, KeepsWatch, KeepsWatches, StandsFor, fragment_shown, values_shown}
 use Rattle.relay_machine.specs.Machine as machine
 use Rattle.relay_machine.specs.Machine.{Handle, PartShown, Project, State, handle_named}
-use Rattle.relay_machine.specs.relay_model.Readings.{with_marked}
 use Rattle.plan_ir.specs.schema_tables.Types.{Text}
 use Rattle.plan_ir.specs.schema_types.Environments.{Values}
 use Rattle.sound_states.specs.Named.{AreApart, IsHeld, IsNamed, handle_name, is_named, watch_name}

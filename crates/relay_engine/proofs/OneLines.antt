@@ -1,6 +1,6 @@
 -- Printed lines have no LF but the one that ends them, so a list of such texts is told by what is written of it.
 use Rattle.std.proofs.Common.{◌≡◌, ℕ, zero, suc, ◌+◌, ◌/◌, ◌%◌, ℤ, pos, negsuc, Bool, true, false, true≢false, ◌||◌, ◌==◌, ◌⊎◌, cond, nat_lt, List, [], ◌∷◌, ◌++◌, codes, length, map, drop, get_or, inl, inr, append-nil, append_assoc, length-append, refl, sym, ap, subst, ◌∙◌, arith}
-use Rattle.std.proofs.lemmas.Bool.{eqb-true, ltb-true, ne_eqb, or_cases}
+use Rattle.std.proofs.lemmas.Bool.{eqb-true, ne_eqb, or_cases}
 use Rattle.std.specs.Char.{digit_char}
 use Rattle.std.specs.Fmt.{decimal, digit_glyph, digits, digits_onto, signed_decimal}
 use Rattle.std.specs.List.{AllByRecursion}
@@ -10,7 +10,6 @@ use Rattle.plan_ir.specs.gql_plain.Tree.{Tree, null, truth, whole, text, list, o
 use Rattle.plan_ir.specs.schema_tables.Types.{Text}
 use Rattle.plan_ir.specs.store_model.Walks.{Reading, shown_object}
 use Rattle.relay_engine.specs.Kept.{Kept}
-use Rattle.relay_engine.specs.Stands.{StandsFor}
 use Rattle.relay_engine.specs.Steps.{AreSingle, HasPrinted, HasStepped, IsOneLine, written}
 use Rattle.relay_engine.specs.declared.lines.Lines.{Lines}
 use Rattle.relay_machine.specs.Machine.{Project, State, Step}
