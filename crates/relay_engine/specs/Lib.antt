@@ -10,6 +10,7 @@ pub mod Operations
 pub mod Parts
 pub mod Retained
 pub mod RetainedReads
+pub mod Spares
 pub mod Stands
 pub mod Steps
 pub mod Targets

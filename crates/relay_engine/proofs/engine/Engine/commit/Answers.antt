@@ -24,9 +24,12 @@ returns-clause-step g c =
     (committed_differ k.layers ids e (subst (λ (l : Layered). AreChanged l.base (entries_of l.live) (e ∷ entries_of l.live) ids) same c.in_ok-draft.ensures.changed))
     (λ s. refl) (λ p s stands. stands_committed k p s stands e)
 
-pub returns-clause-refused : goal.returns-clause-refused
-returns-clause-refused g c =
-    never_refused c.change.result (c.change.new.self ≡ c.args.self.now) c.in_ok-answer.answer (event_line c.args.event.now c.args.n) c.change.ensures.refused c.in_ok-answer.ensures
+pub returns-clause-spares : goal.returns-clause-spares
+returns-clause-spares g c = record {
+  buffer = c.change.ensures.buffer;
+  refused = never_refused c.change.result (c.change.new.self ≡ c.args.self.now) c.in_ok-answer.answer (event_line c.args.event.now c.args.n) c.change.ensures.refused c.in_ok-answer.ensures;
+  err = c.change.ensures.err;
+}
 
 pub returns-in_err-draft-clause-looks : goal.returns-in_err-draft-clause-looks
 returns-in_err-draft-clause-looks g c = λ p s stands.

@@ -57,9 +57,12 @@ returns-clause-step g c =
     let live : is_layer s.layers name ≡ true = whether_layer k p s stands c.self.inside.layers.live c.as_str.result.now name c.is_live.result (ap (λ (x : Kept). x.layers.live) c.self.view_is) c.as_str.ensures c.is_live.ensures ∙ c.if-not-is_live.false in
     ap (noticed p n (length s.watches)) (unless-false s n (not (is_layer s.layers name)) (unknown_layer name) (accept line (drop_layer name s)) (ap not live)))
 
-pub returns-clause-refused : goal.returns-clause-refused
-returns-clause-refused g c =
-    never_refused c.change.result (c.change.new.self ≡ c.args.self.now) c.in_ok-answer.answer (event_line (codes "revert") c.args.n) c.change.ensures.refused c.in_ok-answer.ensures
+pub returns-clause-spares : goal.returns-clause-spares
+returns-clause-spares g c = record {
+  buffer = c.change.ensures.buffer;
+  refused = never_refused c.change.result (c.change.new.self ≡ c.args.self.now) c.in_ok-answer.answer (event_line (codes "revert") c.args.n) c.change.ensures.refused c.in_ok-answer.ensures;
+  err = c.change.ensures.err;
+}
 
 pub returns-in_err-draft-clause-applies : goal.returns-in_err-draft-clause-applies
 returns-in_err-draft-clause-applies g c =

@@ -24,15 +24,18 @@ returns-clause-step g c =
     subst (λ (k : Kept). IfOk c.step_line.result (λ lines. HasStepped k c.step_line.new.self lines (λ p s. step p k.buffer s c.args.n c.args.line.now)))
     (ap (kept_of c.self.inside.project c.self.inside.layers c.self.inside.retained) c.refresh.ensures ∙ c.self.view_is) c.step_line.ensures.step
 
+pub returns-clause-buffer : goal.returns-clause-buffer
+returns-clause-buffer g c = c.step_line.ensures.spares.buffer ∙ ap (λ (k : Kept). k.buffer) c.self.view_is
+
 pub returns-clause-refused : goal.returns-clause-refused
 returns-clause-refused g c =
     subst (λ (k : Kept). IfOk c.step_line.result (λ lines. lines.refused ≡ true → c.step_line.new.self ≡ k))
-    (ap (kept_of c.self.inside.project c.self.inside.layers c.self.inside.retained) c.refresh.ensures ∙ c.self.view_is) c.step_line.ensures.refused
+    (ap (kept_of c.self.inside.project c.self.inside.layers c.self.inside.retained) c.refresh.ensures ∙ c.self.view_is) c.step_line.ensures.spares.refused
 
 pub returns-clause-err : goal.returns-clause-err
 returns-clause-err g c =
     subst (λ (k : Kept). OnErr c.step_line.result (c.step_line.new.self ≡ k))
-    (ap (kept_of c.self.inside.project c.self.inside.layers c.self.inside.retained) c.refresh.ensures ∙ c.self.view_is) c.step_line.ensures.err
+    (ap (kept_of c.self.inside.project c.self.inside.layers c.self.inside.retained) c.refresh.ensures ∙ c.self.view_is) c.step_line.ensures.spares.err
 
 pub returns-clause-exact : goal.returns-clause-exact
 returns-clause-exact g c =
