@@ -9,7 +9,7 @@ use Rattle.relay_engine.specs.Answered.{AreLines}
 use Rattle.relay_engine.specs.Kept.{Kept, with_layers}
 use Rattle.relay_engine.specs.Notices.{HasAnswered, names_of, told_lines}
 use Rattle.relay_engine.specs.Stands.{KeepsWatches, StandsFor, StandsUntold}
-use Rattle.relay_engine.specs.Steps.{HasStepped, IsStep, written}
+use Rattle.relay_engine.specs.Steps.{AreSingle, HasStepped, IsStep, written}
 use Rattle.relay_engine.specs.declared.lines.Lines.{Lines}
 use Rattle.relay_machine.specs.Machine.{Project, State, Step, Watch, accept, notices_of, noticed, read_again, view, with_notices}
 use Rattle.plan_ir.specs.schema_tables.Types.{Text}
@@ -38,6 +38,7 @@ pub record Notified (old : Kept) (now : Slots) (touched : List Text) (told : Lis
 module _ (old : Kept) (ls : Layered) (touched : List Text) (told : List Telling) (answer lines : Lines) (n : ℕ)
     (notified : Notified old (slots (view_of ls)) touched told)
     (text : written lines.texts.items ≡ written answer.texts.items ++ told_lines (names_of old.watches) n told)
+    (single : AreSingle answer.texts.items → AreSingle lines.texts.items)
     (refused : lines.refused ≡ answer.refused)
     (p : Project) (s : State) (step : Step) (stands : StandsFor old p s) (differ : DifferAt touched (slots (view_of old.layers)) (slots (view_of ls)))
     (has : HasAnswered old ls p s step answer) where
@@ -74,6 +75,7 @@ module _ (old : Kept) (ls : Layered) (touched : List Text) (told : List Telling)
   with_lines : IsStep p (with_notices p n (length s.watches) step) lines (with_changes old ls (accepted told old.watches))
   with_lines = record {
     text = text ∙ (λ i. has.answer.text i ++ lines_are i);
+    single = single has.answer.single;
     refused = refused ∙ has.answer.refused ∙ sym has.accepted;
     stands = record {
       schema = has.stands.schema;

@@ -1,4 +1,4 @@
-pub mod Beginnings
+mod Beginnings
 mod ChangeLaws
 mod ChangeWork
 mod HandleLaws
@@ -8,8 +8,10 @@ mod LayerLaws
 mod LocalScopes
 mod MarkedPairs
 mod Meanings
+mod NamedLaws
 mod Names
 mod NoticeLaws
+mod OneLines
 mod PlanLaws
 mod QuietLaws
 mod ReachLaws

@@ -3,13 +3,15 @@ use Rattle.std.proofs.Common.{◌≡◌, ℕ, zero, suc, ◌-◌, List, [], ◌�
 use Rattle.plan_ir.specs.gql_ast.declared.document.Document.{Document}
 use Rattle.plan_ir.specs.gql_ast.declared.place.Placed.{Placed}
 use Rattle.plan_ir.specs.gql_plain.Order.{has_text}
+use Rattle.plan_ir.specs.Expansion.{name_or}
 use Rattle.plan_ir.specs.NormalReach.{plan_reaches}
+use Rattle.plan_ir.specs.ReaderMeaning.{plan_reads}
 use Rattle.plan_project.specs.Lookups.{Agree, IsOperation, KeepsOperation, Normalizes, ReadsOperation, operation_in}
 use Rattle.plan_project.specs.declared.operations.Compiled.{Compiled}
 use Rattle.relay_engine.proofs.Names.{agreed, found_left}
 use Rattle.relay_engine.specs.Kept as engine
 use Rattle.relay_engine.specs.Operations.{HoldPlans, HoldsPlan}
-use Rattle.plan_ir.specs.schema_tables.Types.{Text, Defs}
+use Rattle.plan_ir.specs.schema_tables.Types.{Text, Defs, root}
 use Rattle.plan_ir.specs.schema_types.Sites.{OperationAt}
 use Rattle.plan_ir.specs.store_model.Walks.{type_of_record}
 use Rattle.store_retain.specs.Kept.{Kept, all_held, held_under, released, retained, some_held, without}
@@ -113,13 +115,17 @@ module _ (project : Defs × List (Placed Document)) (called : Text) (r : Option 
   pub found_there : (k : engine.Kept) → project.0 ≡ k.defs → project.1 ≡ k.documents → is_some (operation_in k.defs k.documents c.name) ≡ true
   found_there k defs documents = (λ i. is_some (operation_in (sym defs i) (sym documents i) (kept_there.2.name i))) ∙ ap is_some kept_there.1
 
--- what is held of it has its plan
-pub plan_is_held : (defs : Defs) (ps : List (Placed Document)) (h : Held) (c : Compiled) → h.name ≡ c.name → h.normal.value ≡ c.normal.value
+-- what is held of it has its plans
+pub plan_is_held : (defs : Defs) (ps : List (Placed Document)) (h : Held) (c : Compiled) → h.name ≡ c.name → h.normal.value ≡ c.normal.value → h.reader.value ≡ c.reader.value
     → is_some (operation_in defs ps c.name) ≡ true → ((o : OperationAt) → operation_in defs ps c.name ≡ Some o → IsOperation defs ps c.name o c) → HoldsPlan defs ps h
-plan_is_held defs ps h c name normal there all = record {
+plan_is_held defs ps h c name normal reader there all = record {
   there = ap (λ t. is_some (operation_in defs ps t)) name ∙ there;
   reaches = λ o e own m id j.
       let is : IsOperation defs ps c.name o c = all o (ap (operation_in defs ps) (sym name) ∙ e) in
       (λ i. has_text (plan_reaches (type_of_record (sym is.keeps.root i)) m own (normal i).steps (sym is.keeps.root i ∷ []) id) j)
       ∙ is.normalizes.reaches own m id j;
+  reads = λ o e own owner m id.
+      let is : IsOperation defs ps c.name o c = all o (ap (operation_in defs ps) (sym name) ∙ e) in
+      let types : name_or (root defs o.kind) ∷ [] ≡ c.types = ap (λ (t : Text). t ∷ []) (sym is.keeps.root) ∙ sym is.keeps.types in
+      (λ i. plan_reads (type_of_record (sym is.keeps.root i)) owner m own (reader i).steps (types i) id) ∙ is.reads.reads own owner m id;
 }

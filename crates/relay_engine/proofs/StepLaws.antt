@@ -1,11 +1,11 @@
 -- The answer of a line is the machine's.
-use Rattle.std.proofs.Common.{◌≡◌, ℕ, Bool, true, false, Option, Some, Result, sym, ap, subst, ◌∙◌}
+use Rattle.std.proofs.Common.{◌≡◌, ℕ, Bool, true, false, [], ◌∷◌, ◌++◌, Option, Some, Result, append-nil, sym, ap, subst, ◌∙◌}
 use Rattle.std.proofs.lemmas.Result.{IfOk-weaker}
 use Rattle.std.specs.Result.{IfOk}
 use Rattle.relay_engine.specs.Answered.{AreLines, Gives, IsRefusalOf}
 use Rattle.relay_engine.specs.Kept.{Kept}
 use Rattle.relay_engine.specs.Stands.{StandsFor}
-use Rattle.relay_engine.specs.Steps.{HasStepped, IsStep}
+use Rattle.relay_engine.specs.Steps.{AreSingle, HasStepped, IsOneLine, IsStep, written}
 use Rattle.relay_engine.specs.declared.lines.Lines.{Lines}
 use Rattle.relay_engine.specs.declared.taking.Taken.{Taken}
 use Rattle.relay_engine.specs.declared.taking.Taken.TheVariants as T
@@ -19,13 +19,21 @@ use Rattle.schema_values.specs.declared.fault.VarFault.{VarFault}
 use Rattle.plan_ir.specs.store_model.Events.{Line}
 use Rattle.plan_ir.specs.store_model.declared.entry.Entry.{Entry}
 
+-- an answer of one text
+pub one_text : (lines : Lines) (text : Text) (refused : Bool) → lines.texts.items ≡ text ∷ [] → lines.refused ≡ refused → IsOneLine text → AreLines (text ++ 10 ∷ []) refused lines
+one_text lines text refused is same one = record {
+  text = ap written is ∙ append-nil (text ++ 10 ∷ []);
+  single = subst AreSingle (sym is) (one, tt);
+  refused = same;
+}
+
 -- a refused line changes nothing
 pub refusing : (k : Kept) (p : Project) (s : State) (n : ℕ) (why : Refusal) (lines : Lines) → StandsFor k p s → AreLines (refusal_line n why) true lines
     → IsStep p (refuse s n why) lines k
-refusing k p s n why lines stands are = record { text = are.text; refused = are.refused; stands = stands }
+refusing k p s n why lines stands are = record { text = are.text; single = are.single; refused = are.refused; stands = stands }
 
 pub accepting : (k : Kept) (p : Project) (s : State) (text : Text) (lines : Lines) → StandsFor k p s → AreLines text false lines → IsStep p (accept text s) lines k
-accepting k p s text lines stands are = record { text = are.text; refused = are.refused; stands = stands }
+accepting k p s text lines stands are = record { text = are.text; single = are.single; refused = are.refused; stands = stands }
 
 -- values of variables are refused
 pub failing : (k : Kept) (p : Project) (s : State) (n : ℕ) (found : Option Failure) (fault : VarFault) (lines : Lines) (last : Step) → StandsFor k p s → Tells found fault → IsRefusalOf n fault lines

@@ -3,7 +3,7 @@ use Rattle.std.specs.Prelude.{◌≡◌, ℕ, Bool, true, Option, Some, None, Er
 use Rattle.event_script.specs.Seen.{Says}
 use Rattle.event_script.specs.declared.fault.LineFault.{LineFault}
 use Rattle.relay_engine.specs.Kept.{Kept}
-use Rattle.relay_engine.specs.Steps.{HasStepped, IsStep, written}
+use Rattle.relay_engine.specs.Steps.{AreSingle, HasStepped, IsStep, written}
 use Rattle.relay_engine.specs.declared.lines.Lines.{Lines}
 use Rattle.relay_engine.specs.declared.taking.Taken.{Taken}
 use Rattle.relay_engine.specs.declared.taking.Taken.TheVariants as T
@@ -17,9 +17,10 @@ use Rattle.schema_values.specs.declared.fault.VarFault.{VarFault}
 use Rattle.plan_ir.specs.store_model.Events.{Line}
 use Rattle.plan_ir.specs.store_model.declared.entry.Entry.{Entry}
 
--- the lines are this text, and refused or not
+-- the lines are this text, each of them a text of its own, and refused or not
 pub record AreLines (what : Text) (whether : Bool) (lines : Lines) : Type 0 where
   pub text : written lines.texts.items ≡ what
+  pub single : AreSingle lines.texts.items
   pub refused : lines.refused ≡ whether
 
 -- the lines refuse values of variables, for the failure that was found

@@ -4,11 +4,13 @@ pub mod Kept
 pub mod KeptCode
 pub mod LaterLines
 pub mod Marked
+pub mod Named
 pub mod Notices
 pub mod Operations
 pub mod Parts
 pub mod Retained
 pub mod RetainedReads
+pub mod Spares
 pub mod Stands
 pub mod Steps
 pub mod Targets

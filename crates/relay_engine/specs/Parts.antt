@@ -8,6 +8,10 @@ use Rattle.relay_machine.specs.Machine.{Project}
 use Rattle.plan_ir.specs.schema_tables.Types.{Defs}
 use Rattle.plan_ir.specs.store_model.Verdicts.{Verdict, content, refusal}
 
+-- a project of the code, as the machine sees it
+abbrev pub project_shown : Defs × List (Placed Document) → Project
+project_shown parts = record { defs = parts.0; documents = parts.1 }
+
 -- the schema and the documents are those of the project
 pub record IsProject (parts : Defs × List (Placed Document)) (p : Project) : Type 0 where
   pub schema : parts.0 ≡ p.defs

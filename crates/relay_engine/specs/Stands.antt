@@ -1,15 +1,17 @@
 -- When an engine stands for a state of the machine.
-use Rattle.std.specs.Prelude.{◌≡◌, false, List, [], ◌∷◌, map, Some}
+use Rattle.std.specs.Prelude.{◌≡◌, false, List, [], ◌∷◌, map, Option, None, Some}
 use Rattle.plan_ir.specs.Expansion.{name_or}
 use Rattle.plan_project.specs.Lookups.{operation_in}
 use Rattle.relay_engine.specs.Kept.{HandleKept, Kept, OperationKept}
 use Rattle.relay_machine.specs.Machine as machine
-use Rattle.relay_machine.specs.Machine.{Handle, Layer, PartShown, Project, Retained, State, base, is_layer, last_of, shown}
-use Rattle.plan_ir.specs.schema_tables.Types.{root}
-use Rattle.std.specs.Prelude.{Option}
+use Rattle.relay_machine.specs.Machine.{Handle, Layer, PartShown, Project, Retained, State, base, is_layer, last_of, root_type, shown}
+use Rattle.relay_machine.specs.relay_model.Readings.{with_marked}
+use Rattle.plan_ir.specs.schema_tables.Types.{Text, root}
+use Rattle.plan_ir.specs.schema_types.Environments.{Values}
 use Rattle.store_layers.specs.Layered as layered
 use Rattle.store_layers.specs.Layered.{view_of}
 use Rattle.plan_ir.specs.store_model.Records.{Records}
+use Rattle.plan_ir.specs.store_record.Keys as keys
 use Rattle.store_watch.specs.store_read.Reading.{slots}
 use Rattle.store_watch.specs.Watching as watching
 use Rattle.store_watch.specs.Watching.{AreShown, Look, shows}
@@ -44,9 +46,27 @@ KeepsReleased p (k ∷ ks) (r ∷ rs) = KeepsOperation p k r × KeepsReleased p 
 
 -- ---- watches
 
--- in all records this shows what the operation of the handle does, or the part of it
+-- of a part the name of its fragment, its id, and the values under which it is read: those of the operation, and those of the local variables
+-- under marked names. The operation itself is read at the root
+abbrev pub fragment_shown : Option PartShown → Option Text
+fragment_shown None = None
+fragment_shown (Some q) = Some q.fragment.name.name
+
+abbrev pub id_shown : Option PartShown → Text
+id_shown None = keys.root
+id_shown (Some q) = q.id
+
+abbrev pub values_shown : Values → Option PartShown → Values
+values_shown own None = own
+values_shown own (Some q) = with_marked own q.scope
+
+-- this is of the operation of the handle, or of the part of it, and shows what that does in all records
 pub record ShowsPart (p : Project) (look : Look) (h : Handle) (part : Option PartShown) : Type 0 where
   pub handle : look.handle ≡ h.name
+  pub root : look.root ≡ root_type p h
+  pub values : look.environment ≡ values_shown h.values part
+  pub fragment : look.fragment ≡ fragment_shown part
+  pub id : look.id ≡ id_shown part
   pub shows : (m : Records) → shows (slots m) look ≡ shown p m h part
 
 -- a watch is kept by its name, with what it shows, and its last snapshot has the data and the missing mark

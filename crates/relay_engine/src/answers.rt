@@ -1,6 +1,7 @@
 //! What lines are answered.
-ghost use Rattle.std.specs.Prelude.{◌≡◌, ◌<◌, ◌^◌, ◌++◌, [], ◌∷◌, true, false, IfOk};
+ghost use Rattle.std.specs.Prelude.{◌≡◌, ◌++◌, [], ◌∷◌, true, false, IfOk};
 ghost use Rattle.relay_engine.specs.Answered.{AreLines, IsFaultOf, IsRefusalOf};
+ghost use Rattle.relay_engine.specs.Steps.{IsOneLine};
 ghost use Rattle.relay_lines.specs.RefusalShown.{refusal_shown};
 ghost use Rattle.relay_machine.specs.Printed as model;
 ghost use Rattle.store_watch.specs.store_read.Reading.{reading_of};
@@ -8,32 +9,21 @@ ghost use Rattle.store_watch.specs.store_read.Reading.{reading_of};
 use crate::lines::Lines;
 use event_script::LineFault;
 use plan_ir::{NoMemory, Words};
-use relay_lines::{Refusal, collect_line, event_line, read_line, refusal_line, watch_line};
+use relay_lines::{Refusal, collect_line, event_line, refusal_line, watch_line};
 use schema_values::VarFault;
 use std::alloc::Global;
 use store_watch::Snapshot;
 
 /// The answer of an event that shows nothing, where it is taken.
 pub(crate) fn accept(alloc: Global, event: &str, n: u64) -> Result<Lines, NoMemory>
-    requires { n < 2 ^ 63 }
     ensures { IfOk result (AreLines (model.event_line event.now n) false) }
 {
     let text = event_line(alloc, event, n)?;
     one_line(alloc, text, false)
 }
 
-/// The answer of a read.
-pub(crate) fn show(alloc: Global, snapshot: &Snapshot, n: u64) -> Result<Lines, NoMemory>
-    requires { n < 2 ^ 63 }
-    ensures { IfOk result (AreLines (model.read_line n (reading_of snapshot.now)) false) }
-{
-    let text = read_line(alloc, snapshot, n)?;
-    one_line(alloc, text, false)
-}
-
 /// The answer of a watch that starts.
 pub(crate) fn show_watch(alloc: Global, snapshot: &Snapshot, n: u64) -> Result<Lines, NoMemory>
-    requires { n < 2 ^ 63 }
     ensures { IfOk result (AreLines (model.watch_line n (reading_of snapshot.now)) false) }
 {
     let text = watch_line(alloc, snapshot, n)?;
@@ -47,7 +37,6 @@ pub(crate) fn collected(
     waiting: bool,
     n: u64,
 ) -> Result<Lines, NoMemory>
-    requires { n < 2 ^ 63 }
     ensures { IfOk result (AreLines (model.collect_line n dropped waiting) false) }
 {
     let text = collect_line(alloc, dropped, waiting, n)?;
@@ -56,7 +45,6 @@ pub(crate) fn collected(
 
 /// The answer of a line that is refused.
 pub(crate) fn refuse(alloc: Global, why: Refusal<'_>, n: u64) -> Result<Lines, NoMemory>
-    requires { n < 2 ^ 63 }
     ensures { IfOk result (AreLines (model.refusal_line n (refusal_shown why.entry)) true) }
 {
     let text = refusal_line(alloc, why, n)?;
@@ -65,7 +53,6 @@ pub(crate) fn refuse(alloc: Global, why: Refusal<'_>, n: u64) -> Result<Lines, N
 
 /// The answer of a line that is refused because values of variables are lacking or do not fit.
 pub(crate) fn refuse_variables(alloc: Global, fault: VarFault, n: u64) -> Result<Lines, NoMemory>
-    requires { n < 2 ^ 63 }
     ensures { IfOk result (IsRefusalOf n fault) }
 {
     match fault {
@@ -77,7 +64,6 @@ pub(crate) fn refuse_variables(alloc: Global, fault: VarFault, n: u64) -> Result
 
 /// The answer of a line that gives no event.
 pub(crate) fn refuse_fault(alloc: Global, fault: LineFault, n: u64) -> Result<Lines, NoMemory>
-    requires { n < 2 ^ 63 }
     ensures fault { IfOk result (IsFaultOf n fault) }
     ensures refused { IfOk result (λ lines. lines.refused ≡ true) }
 {
@@ -90,8 +76,9 @@ pub(crate) fn refuse_fault(alloc: Global, fault: LineFault, n: u64) -> Result<Li
     }
 }
 
-/// An answer of one text.
+/// An answer of one text, which is one line.
 pub(crate) fn one_line(alloc: Global, text: Words, refused: bool) -> Result<Lines, NoMemory>
+    requires { IsOneLine text }
     ensures { IfOk result (AreLines (text ++ 10 ∷ []) refused) }
 {
     let mut texts = Vec::new(alloc);

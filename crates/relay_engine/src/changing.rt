@@ -1,5 +1,5 @@
 //! Changes of the records, and the notices that follow an answer.
-ghost use Rattle.std.specs.Prelude.{◌≡◌, ◌+◌, ◌<◌, ◌≤◌, ◌^◌, length, IfOk, OnErr};
+ghost use Rattle.std.specs.Prelude.{◌≡◌, ◌+◌, ◌≤◌, length, IfOk, OnErr};
 ghost use Rattle.relay_engine.specs.Notices.{HasAnswered};
 ghost use Rattle.relay_engine.specs.Stands.{StandsFor};
 ghost use Rattle.relay_engine.specs.Steps.{IsStep};
@@ -26,7 +26,6 @@ impl<S: RecordSource> Engine<S> {
         n: u64,
         steps: &mut S::Count,
     ) -> Result<Lines, NoMemory>
-        requires number { n < 2 ^ 63 }
         requires fits { Fits S.records self.old.layers draft }
         ensures step { IfOk result (λ lines. (p : machine.Project) (s : machine.State) (step : machine.Step) → StandsFor self.old p s
             → DifferAt draft.touched (slots (view_of self.old.layers)) (slots (view_of (placed S.records self.old.layers draft)))

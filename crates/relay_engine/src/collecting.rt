@@ -1,5 +1,6 @@
 //! The event that sweeps.
-ghost use Rattle.std.specs.Prelude.{◌≡◌, ◌<◌, ◌^◌, [], true, length, IfOk, OnErr};
+ghost use Rattle.std.specs.Prelude.{◌≡◌, [], true, length, IfOk};
+ghost use Rattle.relay_engine.specs.Spares.{Spares};
 ghost use Rattle.relay_engine.specs.Steps.{HasStepped};
 ghost use Rattle.relay_machine.specs.Machine as machine;
 
@@ -13,11 +14,8 @@ impl<S: RecordSource> Engine<S> {
     /// Takes the records out of the base that no retained operation reaches. While a layer is live
     /// nothing is swept, and the answer says so.
     pub(crate) fn collect(&mut self, n: u64, steps: &mut S::Count) -> Result<Lines, NoMemory>
-        requires { n < 2 ^ 63 }
         ensures step { IfOk result (λ lines. HasStepped self.old self.new lines (λ p s. machine.noticed p n (length s.watches) (machine.step_collect p self.old.buffer s n))) }
-        ensures buffer { self.new.buffer ≡ self.old.buffer }
-        ensures refused { IfOk result (λ lines. lines.refused ≡ true → self.new ≡ self.old) }
-        ensures err { OnErr result (self.new ≡ self.old) }
+        ensures spares { Spares self.old self.new result }
         ensures applies { S.Count.applies steps.new ≡ S.Count.applies steps.old }
     {
         if self.layers.count() > 0 {
@@ -28,12 +26,9 @@ impl<S: RecordSource> Engine<S> {
 
     /// Takes the records out of the base that no retained operation reaches, where no layer is live.
     fn sweep(&mut self, n: u64, steps: &mut S::Count) -> Result<Lines, NoMemory>
-        requires number { n < 2 ^ 63 }
         requires alone { self.old.layers.live ≡ [] }
         ensures step { IfOk result (λ lines. HasStepped self.old self.new lines (λ p s. machine.noticed p n (length s.watches) (machine.sweep_base p self.old.buffer s n))) }
-        ensures buffer { self.new.buffer ≡ self.old.buffer }
-        ensures refused { IfOk result (λ lines. lines.refused ≡ true → self.new ≡ self.old) }
-        ensures err { OnErr result (self.new ≡ self.old) }
+        ensures spares { Spares self.old self.new result }
         ensures applies { S.Count.applies steps.new ≡ S.Count.applies steps.old }
     {
         let keep = self.retained.mark(self.layers.base(), steps)?;

@@ -1,6 +1,7 @@
 //! Events that are confirmed at once: payloads and updates.
-ghost use Rattle.std.specs.Prelude.{◌≡◌, ◌+◌, ◌<◌, ◌≤◌, ◌^◌, true, length, option_map, IfOk, OnErr};
+ghost use Rattle.std.specs.Prelude.{◌≡◌, ◌+◌, ◌≤◌, length, option_map, IfOk};
 ghost use Rattle.event_script.specs.Seen.{answer_seen};
+ghost use Rattle.relay_engine.specs.Spares.{Spares};
 ghost use Rattle.relay_engine.specs.Steps.{HasStepped};
 ghost use Rattle.relay_engine.specs.Work.{ChangesWithin, EventWithin, confirming};
 ghost use Rattle.relay_machine.specs.Machine as machine;
@@ -25,12 +26,9 @@ impl<S: RecordSource> Engine<S> {
         n: u64,
         steps: &mut S::Count,
     ) -> Result<Lines, NoMemory>
-        requires { n < 2 ^ 63 }
         ensures step { IfOk result (λ lines. HasStepped self.old self.new lines (λ p s.
             machine.noticed p n (length s.watches) (machine.result_of p s n (option_map answer_seen answer.now) commands (λ step. step) (λ entry. machine.accept (printed.event_line event.now n) (machine.confirm entry s))))) }
-        ensures buffer { self.new.buffer ≡ self.old.buffer }
-        ensures refused { IfOk result (λ lines. lines.refused ≡ true → self.new ≡ self.old) }
-        ensures err { OnErr result (self.new ≡ self.old) }
+        ensures spares { Spares self.old self.new result }
         ensures applies { S.Count.applies steps.new ≤ S.Count.applies steps.old + (length self.old.layers.live + 1) }
         ensures looks { EventWithin self.old (events.update commands) (λ p s. machine.result_of p s n (option_map answer_seen answer.now) commands (λ step. step) (λ entry. machine.accept (printed.event_line event.now n) (machine.confirm entry s))) (S.Count.looks steps.old) (S.Count.looks steps.new) }
     {
@@ -48,11 +46,8 @@ impl<S: RecordSource> Engine<S> {
         n: u64,
         steps: &mut S::Count,
     ) -> Result<Lines, NoMemory>
-        requires { n < 2 ^ 63 }
         ensures step { IfOk result (λ lines. HasStepped self.old self.new lines (λ p s. machine.noticed p n (length s.watches) (machine.accept (printed.event_line event.now n) (machine.confirm entry s)))) }
-        ensures buffer { self.new.buffer ≡ self.old.buffer }
-        ensures refused { IfOk result (λ lines. lines.refused ≡ true → self.new ≡ self.old) }
-        ensures err { OnErr result (self.new ≡ self.old) }
+        ensures spares { Spares self.old self.new result }
         ensures applies { S.Count.applies steps.new ≤ S.Count.applies steps.old + (length self.old.layers.live + 1) }
         ensures looks { ChangesWithin self.old confirming (machine.confirm entry) (S.Count.looks steps.old) (S.Count.looks steps.new) }
     {

@@ -1,11 +1,15 @@
 //! The engine.
-ghost use Rattle.std.specs.Prelude.{◌≡◌, ◌+◌, ◌<◌, ◌≤◌, ◌^◌, true, length, IfOk, OnErr};
+ghost use Rattle.std.specs.Prelude.{◌≡◌, ◌+◌, ◌≤◌, true, length, IfOk, OnErr};
 ghost use Rattle.event_script.specs.Seen.{event_seen};
 ghost use Rattle.relay_engine.specs.Answered.{IsFaultOf};
 ghost use Rattle.relay_engine.specs.Kept.{begun};
 ghost use Rattle.relay_engine.specs.LaterLines.{KeepsLaterLines};
+ghost use Rattle.relay_engine.specs.Named.{StaysNamed};
+ghost use Rattle.relay_engine.specs.Parts.{project_shown};
 ghost use Rattle.relay_engine.specs.RetainedReads.{KeepsRetainedReads};
-ghost use Rattle.relay_engine.specs.Steps.{HasStepped};
+ghost use Rattle.relay_engine.specs.Spares.{Spares};
+ghost use Rattle.relay_engine.specs.Stands.{StandsFor};
+ghost use Rattle.relay_engine.specs.Steps.{HasPrinted, HasStepped};
 ghost use Rattle.relay_engine.specs.Work.{AppliesAbove, IsWithinWork};
 ghost use Rattle.relay_machine.specs.Machine as machine;
 ghost use Rattle.plan_ir.specs.store_model.Events as events;
@@ -68,6 +72,17 @@ impl<S: RecordSource> Engine<S> {
         requires least { 1 ≤ buffer }
         requires most { buffer ≤ 100 }
         requires empty { S.records source ≡ no_records }
+        ensures begun { IfOk result (λ engine. engine ≡ begun project buffer) }
+        ensures stands { IfOk result (λ engine. StandsFor engine (project_shown project) machine.beginning) }
+    {
+        Engine::over(alloc, project, buffer, source)
+    }
+
+    /// The same, of which is said what is kept alone.
+    fn over(alloc: Global, project: Project, buffer: u64, source: S) -> Result<Engine<S>, NoMemory>
+        requires least { 1 ≤ buffer }
+        requires most { buffer ≤ 100 }
+        requires empty { S.records source ≡ no_records }
         ensures { IfOk result (λ engine. engine ≡ begun project buffer) }
     {
         let layers = Layers::new(alloc, source)?;
@@ -86,7 +101,6 @@ impl<S: RecordSource> Engine<S> {
     /// Answers the line with the number `n`, which is given without its line end. What is looked at of
     /// a line of more than 8 MiB is that it is too long.
     pub fn step(&mut self, line: &[u8], n: u64, steps: &mut S::Count) -> Result<Lines, NoMemory>
-        requires { n < 2 ^ 63 }
         ensures step { IfOk result (λ lines. HasStepped self.old self.new lines (λ p s. machine.step p self.old.buffer s n line.now)) }
         ensures buffer { self.new.buffer ≡ self.old.buffer }
         ensures refused { IfOk result (λ lines. lines.refused ≡ true → self.new ≡ self.old) }
@@ -94,6 +108,8 @@ impl<S: RecordSource> Engine<S> {
         ensures applies { S.Count.applies steps.new ≤ S.Count.applies steps.old + (length self.old.layers.live + 1) }
         ensures exact { IfOk result (λ lines. AppliesAbove self.old (events.line_of line.now) lines.refused (S.Count.applies steps.old) (S.Count.applies steps.new)) }
         ensures looks { IsWithinWork self.old n (events.line_of line.now) (S.Count.looks steps.old) (S.Count.looks steps.new) }
+        ensures lines { IfOk result (λ lines. HasPrinted self.old lines (λ p s. machine.step p self.old.buffer s n line.now)) }
+        ensures named { IfOk result (λ lines. StaysNamed self.old self.new n line.now) }
         ensures later { IfOk result (λ lines. KeepsLaterLines self.old self.new n (events.line_of line.now) lines) }
         ensures retained { IfOk result (λ lines. KeepsRetainedReads self.old self.new (events.line_of line.now)) }
     {
@@ -104,11 +120,8 @@ impl<S: RecordSource> Engine<S> {
 
     /// The same, where the watches are prepared.
     fn step_line(&mut self, line: &[u8], n: u64, steps: &mut S::Count) -> Result<Lines, NoMemory>
-        requires { n < 2 ^ 63 }
         ensures step { IfOk result (λ lines. HasStepped self.old self.new lines (λ p s. machine.step p self.old.buffer s n line.now)) }
-        ensures buffer { self.new.buffer ≡ self.old.buffer }
-        ensures refused { IfOk result (λ lines. lines.refused ≡ true → self.new ≡ self.old) }
-        ensures err { OnErr result (self.new ≡ self.old) }
+        ensures spares { Spares self.old self.new result }
         ensures applies { S.Count.applies steps.new ≤ S.Count.applies steps.old + (length self.old.layers.live + 1) }
         ensures exact { IfOk result (λ lines. AppliesAbove self.old (events.line_of line.now) lines.refused (S.Count.applies steps.old) (S.Count.applies steps.new)) }
         ensures looks { IsWithinWork self.old n (events.line_of line.now) (S.Count.looks steps.old) (S.Count.looks steps.new) }
@@ -121,11 +134,8 @@ impl<S: RecordSource> Engine<S> {
 
     /// Answers a line that is this event.
     fn step_event(&mut self, event: Event, n: u64, steps: &mut S::Count) -> Result<Lines, NoMemory>
-        requires { n < 2 ^ 63 }
         ensures step { IfOk result (λ lines. HasStepped self.old self.new lines (λ p s. machine.step_event p self.old.buffer s n (event_seen event))) }
-        ensures buffer { self.new.buffer ≡ self.old.buffer }
-        ensures refused { IfOk result (λ lines. lines.refused ≡ true → self.new ≡ self.old) }
-        ensures err { OnErr result (self.new ≡ self.old) }
+        ensures spares { Spares self.old self.new result }
         ensures applies { S.Count.applies steps.new ≤ S.Count.applies steps.old + (length self.old.layers.live + 1) }
         ensures exact { IfOk result (λ lines. AppliesAbove self.old (events.event (event_seen event)) lines.refused (S.Count.applies steps.old) (S.Count.applies steps.new)) }
         ensures looks { IsWithinWork self.old n (events.event (event_seen event)) (S.Count.looks steps.old) (S.Count.looks steps.new) }

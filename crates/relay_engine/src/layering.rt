@@ -1,6 +1,7 @@
 //! Events of optimistic layers: their beginning, their end, and their revocation.
-ghost use Rattle.std.specs.Prelude.{◌≡◌, ◌+◌, ◌<◌, ◌≤◌, ◌^◌, codes, true, false, length, option_map, IfOk, OnErr};
+ghost use Rattle.std.specs.Prelude.{◌≡◌, ◌+◌, ◌≤◌, codes, true, false, length, option_map, IfOk};
 ghost use Rattle.event_script.specs.Seen.{answer_seen};
+ghost use Rattle.relay_engine.specs.Spares.{Spares};
 ghost use Rattle.relay_engine.specs.Steps.{HasStepped};
 ghost use Rattle.relay_engine.specs.Work.{ChangesWithin, EventWithin, confirming, starting};
 ghost use Rattle.relay_machine.specs.Machine as machine;
@@ -30,11 +31,8 @@ impl<S: RecordSource> Engine<S> {
         n: u64,
         steps: &mut S::Count,
     ) -> Result<Lines, NoMemory>
-        requires { n < 2 ^ 63 }
         ensures step { IfOk result (λ lines. HasStepped self.old self.new lines (λ p s. machine.noticed p n (length s.watches) (machine.step_begin p s n layer (option_map answer_seen answer.now) commands))) }
-        ensures buffer { self.new.buffer ≡ self.old.buffer }
-        ensures refused { IfOk result (λ lines. lines.refused ≡ true → self.new ≡ self.old) }
-        ensures err { OnErr result (self.new ≡ self.old) }
+        ensures spares { Spares self.old self.new result }
         ensures applies { S.Count.applies steps.new ≤ S.Count.applies steps.old + (length self.old.layers.live + 1) }
         ensures looks { EventWithin self.old (events.begin layer (option_map answer_seen answer.now) commands) (λ p s. machine.step_begin p s n layer (option_map answer_seen answer.now) commands) (S.Count.looks steps.old) (S.Count.looks steps.new) }
     {
@@ -56,12 +54,9 @@ impl<S: RecordSource> Engine<S> {
         n: u64,
         steps: &mut S::Count,
     ) -> Result<Lines, NoMemory>
-        requires within { n < 2 ^ 63 }
         requires free { layered.is_live self.old.layers.live layer ≡ false }
         ensures step { IfOk result (λ lines. HasStepped self.old self.new lines (λ p s. machine.noticed p n (length s.watches) (machine.accept (printed.event_line (codes "begin") n) (machine.with_layer layer entry s)))) }
-        ensures buffer { self.new.buffer ≡ self.old.buffer }
-        ensures refused { IfOk result (λ lines. lines.refused ≡ true → self.new ≡ self.old) }
-        ensures err { OnErr result (self.new ≡ self.old) }
+        ensures spares { Spares self.old self.new result }
         ensures applies { S.Count.applies steps.new ≤ S.Count.applies steps.old + (length self.old.layers.live + 1) }
         ensures looks { ChangesWithin self.old starting (machine.with_layer layer entry) (S.Count.looks steps.old) (S.Count.looks steps.new) }
     {
@@ -80,11 +75,8 @@ impl<S: RecordSource> Engine<S> {
         n: u64,
         steps: &mut S::Count,
     ) -> Result<Lines, NoMemory>
-        requires { n < 2 ^ 63 }
         ensures step { IfOk result (λ lines. HasStepped self.old self.new lines (λ p s. machine.noticed p n (length s.watches) (machine.step_finish p s n layer.now (option_map answer_seen answer.now) commands))) }
-        ensures buffer { self.new.buffer ≡ self.old.buffer }
-        ensures refused { IfOk result (λ lines. lines.refused ≡ true → self.new ≡ self.old) }
-        ensures err { OnErr result (self.new ≡ self.old) }
+        ensures spares { Spares self.old self.new result }
         ensures applies { S.Count.applies steps.new ≤ S.Count.applies steps.old + (length self.old.layers.live + 1) }
         ensures looks { EventWithin self.old (events.finish layer.now (option_map answer_seen answer.now) commands) (λ p s. machine.step_finish p s n layer.now (option_map answer_seen answer.now) commands) (S.Count.looks steps.old) (S.Count.looks steps.new) }
     {
@@ -105,12 +97,9 @@ impl<S: RecordSource> Engine<S> {
         n: u64,
         steps: &mut S::Count,
     ) -> Result<Lines, NoMemory>
-        requires within { n < 2 ^ 63 }
         requires live { layered.is_live self.old.layers.live layer.now ≡ true }
         ensures step { IfOk result (λ lines. HasStepped self.old self.new lines (λ p s. machine.noticed p n (length s.watches) (machine.accept (printed.event_line (codes "finish") n) (machine.confirm entry (machine.drop_layer layer.now s))))) }
-        ensures buffer { self.new.buffer ≡ self.old.buffer }
-        ensures refused { IfOk result (λ lines. lines.refused ≡ true → self.new ≡ self.old) }
-        ensures err { OnErr result (self.new ≡ self.old) }
+        ensures spares { Spares self.old self.new result }
         ensures applies { S.Count.applies steps.new ≤ S.Count.applies steps.old + (length self.old.layers.live + 1) }
         ensures looks { ChangesWithin self.old confirming (λ s. machine.confirm entry (machine.drop_layer layer.now s)) (S.Count.looks steps.old) (S.Count.looks steps.new) }
     {
@@ -126,11 +115,8 @@ impl<S: RecordSource> Engine<S> {
         n: u64,
         steps: &mut S::Count,
     ) -> Result<Lines, NoMemory>
-        requires { n < 2 ^ 63 }
         ensures step { IfOk result (λ lines. HasStepped self.old self.new lines (λ p s. machine.noticed p n (length s.watches) (machine.step_revert s n layer.now))) }
-        ensures buffer { self.new.buffer ≡ self.old.buffer }
-        ensures refused { IfOk result (λ lines. lines.refused ≡ true → self.new ≡ self.old) }
-        ensures err { OnErr result (self.new ≡ self.old) }
+        ensures spares { Spares self.old self.new result }
         ensures applies { S.Count.applies steps.new ≤ S.Count.applies steps.old + (length self.old.layers.live + 1) }
         ensures looks { EventWithin self.old (events.revert layer.now) (λ p s. machine.step_revert s n layer.now) (S.Count.looks steps.old) (S.Count.looks steps.new) }
         ensures exact { IfOk result (λ lines. lines.refused ≡ false → S.Count.applies steps.new ≡ counted (length (layered.above layer.now self.old.layers.live)) (S.Count.applies steps.old)) }

@@ -1,5 +1,6 @@
 //! The event that releases an operation.
-ghost use Rattle.std.specs.Prelude.{◌≡◌, ◌<◌, ◌^◌, true, IfOk, OnErr};
+ghost use Rattle.std.specs.Prelude.{◌≡◌, IfOk};
+ghost use Rattle.relay_engine.specs.Spares.{Spares};
 ghost use Rattle.relay_engine.specs.Steps.{HasStepped};
 ghost use Rattle.relay_machine.specs.Machine as machine;
 
@@ -13,11 +14,8 @@ use store_retain::RecordSource;
 impl<S: RecordSource> Engine<S> {
     /// Releases the operation of a handle with which no live watch was started.
     pub(crate) fn release(&mut self, handle: &Words, n: u64) -> Result<Lines, NoMemory>
-        requires { n < 2 ^ 63 }
         ensures step { IfOk result (λ lines. HasStepped self.old self.new lines (λ p s. machine.step_release s n handle.now)) }
-        ensures buffer { self.new.buffer ≡ self.old.buffer }
-        ensures refused { IfOk result (λ lines. lines.refused ≡ true → self.new ≡ self.old) }
-        ensures err { OnErr result (self.new ≡ self.old) }
+        ensures spares { Spares self.old self.new result }
     {
         let name = handle.as_str();
         if self.retained.held(name).is_none() {

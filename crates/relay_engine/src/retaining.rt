@@ -1,9 +1,10 @@
 //! The event that starts an operation under a handle.
-ghost use Rattle.std.specs.Prelude.{◌≡◌, ◌<◌, ◌^◌, codes, true, false, Some, is_some, IfOk, OnErr};
+ghost use Rattle.std.specs.Prelude.{◌≡◌, codes, true, false, Some, is_some, IfOk};
 ghost use Rattle.plan_project.specs.Lookups.{IsOperation, KeepsOperation, operation_in};
 ghost use Rattle.relay_engine.specs.Handles.{handle_under, held_as};
 ghost use Rattle.relay_engine.specs.Operations.{HoldsPlan};
 ghost use Rattle.relay_engine.specs.Retained.{IsPrepared, IsThere};
+ghost use Rattle.relay_engine.specs.Spares.{Spares};
 ghost use Rattle.relay_engine.specs.Stands.{StandsFor, KeepsHandle};
 ghost use Rattle.relay_engine.specs.Steps.{HasStepped, IsStep};
 ghost use Rattle.relay_machine.specs.Machine as machine;
@@ -39,11 +40,8 @@ impl<S: RecordSource> Engine<S> {
         given: &Pairs,
         n: u64,
     ) -> Result<Lines, NoMemory>
-        requires { n < 2 ^ 63 }
         ensures step { IfOk result (λ lines. HasStepped self.old self.new lines (λ p s. machine.step_retain p s n handle.now operation.now given.now)) }
-        ensures buffer { self.new.buffer ≡ self.old.buffer }
-        ensures refused { IfOk result (λ lines. lines.refused ≡ true → self.new ≡ self.old) }
-        ensures err { OnErr result (self.new ≡ self.old) }
+        ensures spares { Spares self.old self.new result }
     {
         if self.retained.held(handle.as_str()).is_some() {
             return refuse(self.alloc, Refusal::HandleTaken(handle.as_str()), n);
@@ -56,7 +54,6 @@ impl<S: RecordSource> Engine<S> {
 
     /// An operation of the project with these values of its variables.
     fn prepare(&self, operation: &Words, given: &Pairs, n: u64) -> Result<Prepared, NoMemory>
-        requires { n < 2 ^ 63 }
         ensures there { IfOk result (IsThere self.now) }
         ensures step { IfOk result (λ prepared. (p : machine.Project) (s : machine.State) → StandsFor self.now p s
             → IsPrepared self.now p s n (λ name. machine.retain_named p s n name operation.now (operation_in p.defs p.documents operation.now) given.now) prepared) }
@@ -78,7 +75,6 @@ impl<S: RecordSource> Engine<S> {
         given: &Pairs,
         n: u64,
     ) -> Result<Prepared, NoMemory>
-        requires within { n < 2 ^ 63 }
         requires there { is_some (operation_in self.now.defs self.now.documents compiled.now.name) ≡ true }
         requires reaches { (o : OperationAt) → operation_in self.now.defs self.now.documents compiled.now.name ≡ Some o
             → IsOperation self.now.defs self.now.documents compiled.now.name o compiled.now }
@@ -111,14 +107,11 @@ impl<S: RecordSource> Engine<S> {
 
     /// Keeps an operation under a handle that is not live.
     fn hold(&mut self, handle: &Words, held: Held, n: u64) -> Result<Lines, NoMemory>
-        requires within { n < 2 ^ 63 }
         requires free { is_some (handle_under self.old.handles handle.now) ≡ false }
         requires there { HoldsPlan self.old.defs self.old.documents held }
         ensures step { IfOk result (λ lines. (p : machine.Project) (s : machine.State) (h : machine.Handle) → StandsFor self.old p s → KeepsHandle p (held_as handle.now held) h
             → IsStep p (machine.accept (printed.event_line (codes "retain") n) (machine.with_handle h s)) lines self.new) }
-        ensures buffer { self.new.buffer ≡ self.old.buffer }
-        ensures refused { IfOk result (λ lines. lines.refused ≡ true → self.new ≡ self.old) }
-        ensures err { OnErr result (self.new ≡ self.old) }
+        ensures spares { Spares self.old self.new result }
     {
         let lines = accept(self.alloc, "retain", n)?;
         self.retained.retain(handle.copy()?, held)?;

@@ -1,5 +1,5 @@
 //! The entries that events give: what a response says, and then the commands.
-ghost use Rattle.std.specs.Prelude.{◌≡◌, ◌<◌, ◌^◌, true, None, is_some, option_map, IfOk};
+ghost use Rattle.std.specs.Prelude.{◌≡◌, true, None, is_some, option_map, IfOk};
 ghost use Rattle.event_script.specs.Seen.{answer_seen};
 ghost use Rattle.plan_project.specs.Lookups.{operation_in};
 ghost use Rattle.relay_engine.specs.Answered.{Gives, Precedes};
@@ -37,7 +37,6 @@ impl<S: RecordSource> Engine<S> {
         is_full: bool,
         n: u64,
     ) -> Result<Taken, NoMemory>
-        requires { n < 2 ^ 63 }
         ensures { IfOk result (λ taken. (p : machine.Project) (s : machine.State) → StandsFor self.now p s → (take : E.Entry → machine.Step)
             → Gives self.now p (machine.result_of p s n (option_map answer_seen answer.now) commands (λ step. machine.unless s n is_full (model.too_many model.layers) step) take) take taken) }
     {
@@ -55,7 +54,6 @@ impl<S: RecordSource> Engine<S> {
         is_full: bool,
         n: u64,
     ) -> Result<Taken, NoMemory>
-        requires { n < 2 ^ 63 }
         ensures { IfOk result (λ taken. (p : machine.Project) (s : machine.State) → StandsFor self.now p s → (take : E.Entry → machine.Step)
             → Gives self.now p (machine.answer_to p s n (machine.handle_named s.handles answer.now.handle) (answer_seen answer.now) commands (λ step. machine.unless s n is_full (model.too_many model.layers) step) take) take taken) }
     {
@@ -78,7 +76,6 @@ impl<S: RecordSource> Engine<S> {
         commands: Commands,
         n: u64,
     ) -> Result<Taken, NoMemory>
-        requires within { n < 2 ^ 63 }
         requires there { is_some (operation_in self.now.defs self.now.documents held.now.name) ≡ true }
         ensures { IfOk result (λ taken. (p : machine.Project) (s : machine.State) (h : machine.Handle) → StandsFor self.now p s → KeepsHandle p (held_as h.name held.now) h
             → (take : E.Entry → machine.Step) → Gives self.now p (machine.of_verdict s n (machine.said_to p h (view response.now)) commands take) take taken) }
@@ -94,7 +91,6 @@ impl<S: RecordSource> Engine<S> {
 
     /// The entry of commands alone.
     fn take_commands(&self, commands: Commands, is_full: bool, n: u64) -> Result<Taken, NoMemory>
-        requires { n < 2 ^ 63 }
         ensures { IfOk result (λ taken. (p : machine.Project) (s : machine.State) → StandsFor self.now p s → (take : E.Entry → machine.Step)
             → Gives self.now p (machine.result_of p s n None commands (λ step. machine.unless s n is_full (model.too_many model.layers) step) take) take taken) }
     {
@@ -115,7 +111,6 @@ impl<S: RecordSource> Engine<S> {
         is_full: bool,
         n: u64,
     ) -> Result<Option<Lines>, NoMemory>
-        requires { n < 2 ^ 63 }
         ensures { IfOk result (λ refused. (p : machine.Project) (s : machine.State) → StandsFor self.now p s → (step : machine.Step)
             → Precedes self.now p (machine.unless s n is_full (model.too_many model.layers) (machine.unless_unknown s n (machine.first_refused p.defs commands.now) step)) step refused) }
     {

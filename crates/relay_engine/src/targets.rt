@@ -1,8 +1,9 @@
 //! The targets of reads and of watches.
-ghost use Rattle.std.specs.Prelude.{◌≡◌, ◌<◌, ◌^◌, Option, None, Some, true, is_some, IfOk};
+ghost use Rattle.std.specs.Prelude.{◌≡◌, Option, None, Some, true, is_some, IfOk};
 ghost use Rattle.event_script.specs.Seen.{part_seen, target_seen};
 ghost use Rattle.plan_project.specs.Lookups as lookups;
 ghost use Rattle.relay_engine.specs.Handles.{held_as};
+ghost use Rattle.relay_engine.specs.Operations.{HoldsPlan};
 ghost use Rattle.relay_engine.specs.Stands.{KeepsHandle, StandsFor};
 ghost use Rattle.relay_engine.specs.Targets as spec;
 ghost use Rattle.relay_machine.specs.Machine as machine;
@@ -36,7 +37,6 @@ impl<S: RecordSource> Engine<S> {
         is_full: bool,
         n: u64,
     ) -> Result<Targeted, NoMemory>
-        requires { n < 2 ^ 63 }
         ensures step { IfOk result (λ targeted. (p : machine.Project) (s : machine.State) → StandsFor self.now p s → (take : machine.Handle → Option machine.PartShown → machine.Step)
             → spec.Targets self.now p (machine.of_target p s n (target_seen target.now) (machine.handle_named s.handles target.now.handle) (λ step. machine.unless s n is_full (model.too_many model.watches) step) take) take targeted) }
         ensures found { IfOk result (λ targeted. (p : machine.Project) (s : machine.State) → StandsFor self.now p s → spec.ReadsTarget p s (target_seen target.now) targeted) }
@@ -60,8 +60,7 @@ impl<S: RecordSource> Engine<S> {
         is_full: bool,
         n: u64,
     ) -> Result<Targeted, NoMemory>
-        requires within { n < 2 ^ 63 }
-        requires there { is_some (lookups.operation_in self.now.defs self.now.documents held.now.name) ≡ true }
+        requires there { HoldsPlan self.now.defs self.now.documents held.now }
         ensures step { IfOk result (λ targeted. (p : machine.Project) (s : machine.State) (h : machine.Handle) → StandsFor self.now p s → KeepsHandle p (held_as handle.now held.now) h
             → (take : Option machine.PartShown → machine.Step)
             → spec.TargetsPart self.now p (machine.of_part p s n None (λ step. machine.unless s n is_full (model.too_many model.watches) step) take) h take targeted) }
@@ -84,7 +83,6 @@ impl<S: RecordSource> Engine<S> {
         is_full: bool,
         n: u64,
     ) -> Result<Targeted, NoMemory>
-        requires { n < 2 ^ 63 }
         ensures step { IfOk result (λ targeted. (p : machine.Project) (s : machine.State) (h : machine.Handle) → StandsFor self.now p s → KeepsHandle p (held_as handle.now held.now) h
             → (take : Option machine.PartShown → machine.Step)
             → spec.TargetsPart self.now p (machine.of_part p s n (Some (part_seen part.now)) (λ step. machine.unless s n is_full (model.too_many model.watches) step) take) h take targeted) }
@@ -112,7 +110,6 @@ impl<S: RecordSource> Engine<S> {
         part: &Part,
         n: u64,
     ) -> Result<Targeted, NoMemory>
-        requires { n < 2 ^ 63 }
         ensures step { IfOk result (λ targeted. (p : machine.Project) (s : machine.State) (h : machine.Handle) (f : FragmentAt) → StandsFor self.now p s → KeepsHandle p (held_as handle.now held.now) h
             → lookups.fragment_in p.defs p.documents part.now.fragment ≡ Some f → lookups.KeepsFragment p.defs part.now.fragment f fragment.now → lookups.ReadsFragment p.defs p.documents f fragment.now
             → (take : Option machine.PartShown → machine.Step)
@@ -138,7 +135,6 @@ impl<S: RecordSource> Engine<S> {
 
     /// The answer that refuses a watch because as many as there may be are live.
     fn too_many_watches(&self, n: u64) -> Result<Targeted, NoMemory>
-        requires { n < 2 ^ 63 }
         ensures step { IfOk result (λ targeted. (p : machine.Project) (s : machine.State) (h : machine.Handle) → StandsFor self.now p s → (take : Option machine.PartShown → machine.Step)
             → spec.TargetsPart self.now p (machine.refuse s n (model.too_many model.watches)) h take targeted) }
         ensures found { IfOk result (λ targeted. (p : machine.Project) (h : machine.Handle) (part : Option e.Part) → spec.ReadsPart p h part targeted) }

@@ -1,8 +1,8 @@
 //! The lines of notices.
-ghost use Rattle.std.specs.Prelude.{◌≡◌, ◌<◌, ◌^◌, ◌++◌, length, IfOk, OnOk};
+ghost use Rattle.std.specs.Prelude.{◌≡◌, ◌<◌, ◌++◌, length, IfOk, OnOk};
 ghost use Rattle.std.specs.List.{AllByRecursion};
 ghost use Rattle.relay_engine.specs.Notices.{line_of, names_of, told_lines};
-ghost use Rattle.relay_engine.specs.Steps.{written};
+ghost use Rattle.relay_engine.specs.Steps.{AreSingle, written};
 ghost use Rattle.store_watch.specs.Rows.{telling_of};
 ghost use Rattle.store_watch.specs.Watching.{Telling};
 
@@ -12,7 +12,8 @@ use relay_lines::notice_line;
 use std::alloc::Global;
 use store_watch::{Notice, Notices, Watches};
 
-/// The answer, and after it the notices of the watches whose data or missing mark differs.
+/// The answer, and after it the notices of the watches whose data or missing mark differs, each a text of
+/// its own.
 pub(crate) fn with_notices(
     alloc: Global,
     answer: Lines,
@@ -20,9 +21,9 @@ pub(crate) fn with_notices(
     notices: &Notices,
     n: u64,
 ) -> Result<Lines, NoMemory>
-    requires number { n < 2 ^ 63 }
     requires within { AllByRecursion (λ (t : Telling). t.place < length watches.now) notices.now }
     ensures text { IfOk result (λ lines. written lines.texts.items ≡ written answer.texts.items ++ told_lines (names_of watches.now) n notices.now) }
+    ensures single { IfOk result (λ lines. AreSingle answer.texts.items → AreSingle lines.texts.items) }
     ensures refused { IfOk result (λ lines. lines.refused ≡ answer.refused) }
 {
     let Lines { refused, mut texts } = answer;
@@ -40,9 +41,9 @@ fn put_notice(
     notice: &Notice,
     n: u64,
 ) -> Result<(), NoMemory>
-    requires number { n < 2 ^ 63 }
     requires within { notice.now.place < length watches.now }
-    ensures { OnOk result (written texts.new.items ≡ written texts.old.items ++ line_of (names_of watches.now) n (telling_of notice.now)) }
+    ensures text { OnOk result (written texts.new.items ≡ written texts.old.items ++ line_of (names_of watches.now) n (telling_of notice.now)) }
+    ensures single { OnOk result (AreSingle texts.old.items → AreSingle texts.new.items) }
 {
     if !notice.told {
         return Ok(());

@@ -1,9 +1,10 @@
 //! What reads and watches show.
-ghost use Rattle.std.specs.Prelude.{◌≡◌, ◌+◌, ◌≤◌, ◌++◌, ◌∷◌, [], List, ℕ, true, is_some, None, Some, IfOk};
+ghost use Rattle.std.specs.Prelude.{◌≡◌, ◌+◌, ◌≤◌, ◌++◌, ◌∷◌, [], List, ℕ, None, Some, IfOk};
 ghost use Rattle.plan_project.specs.plan_order.Alike.{ReadAlike};
 ghost use Rattle.plan_project.specs.plan_order.Ordered.{IsOrdered};
 ghost use Rattle.plan_project.specs.Lookups as lookups;
 ghost use Rattle.relay_engine.specs.Handles.{held_as};
+ghost use Rattle.relay_engine.specs.Operations.{HoldsPlan};
 ghost use Rattle.relay_engine.specs.Parts.{IsProject};
 ghost use Rattle.relay_engine.specs.Stands.{KeepsHandle, ShowsPart};
 ghost use Rattle.relay_machine.specs.Machine as machine;
@@ -36,7 +37,7 @@ pub(crate) fn whole_operation(
     held: &Held,
     handle: &Words,
 ) -> Result<Watched, NoMemory>
-    requires { is_some (lookups.operation_in project.now.0 project.now.1 held.now.name) ≡ true }
+    requires { HoldsPlan project.now.0 project.now.1 held.now }
     ensures shown { IfOk result (λ what. (p : machine.Project) (h : machine.Handle) → IsProject project.now p → KeepsHandle p (held_as handle.now held.now) h
         → ShowsPart p (look_of what) h None) }
     ensures found { IfOk result (λ what. (p : machine.Project) (h : machine.Handle) → IsProject project.now p → KeepsHandle p (held_as handle.now held.now) h
@@ -46,7 +47,7 @@ pub(crate) fn whole_operation(
     Ok(Watched {
         handle: handle.copy()?,
         fragment: None,
-        plan: compiled.reader.clone()?,
+        plan: held.reader.clone()?,
         types: compiled.types.copy()?,
         env: held.env.clone()?,
         id: Words::new(alloc, ROOT)?,

@@ -1,6 +1,7 @@
 //! The events that read, and those that start and end watches.
-ghost use Rattle.std.specs.Prelude.{◌≡◌, ◌<◌, ◌^◌, false, true, IfOk, OnErr};
+ghost use Rattle.std.specs.Prelude.{◌≡◌, false, IfOk};
 ghost use Rattle.event_script.specs.Seen.{target_seen};
+ghost use Rattle.relay_engine.specs.Spares.{Spares};
 ghost use Rattle.relay_engine.specs.Steps.{HasStepped};
 ghost use Rattle.relay_machine.specs.Machine as machine;
 ghost use Rattle.relay_engine.specs.Stands.{ShowsPart, StandsFor};
@@ -32,7 +33,6 @@ impl<S: RecordSource> Engine<S> {
         n: u64,
         steps: &mut S::Count,
     ) -> Result<Lines, NoMemory>
-        requires { n < 2 ^ 63 }
         ensures step { IfOk result (λ lines. HasStepped self.now self.now lines (λ p s. machine.step_read p s n (target_seen target.now))) }
         ensures applies { S.Count.applies steps.new ≡ S.Count.applies steps.old }
         ensures looks { EventWithin self.now (events.read (target_seen target.now)) (λ p s. machine.step_read p s n (target_seen target.now)) (S.Count.looks steps.old) (S.Count.looks steps.new) }
@@ -54,11 +54,8 @@ impl<S: RecordSource> Engine<S> {
         n: u64,
         steps: &mut S::Count,
     ) -> Result<Lines, NoMemory>
-        requires { n < 2 ^ 63 }
         ensures step { IfOk result (λ lines. HasStepped self.old self.new lines (λ p s. machine.step_watch p s n watch (target_seen target.now))) }
-        ensures buffer { self.new.buffer ≡ self.old.buffer }
-        ensures refused { IfOk result (λ lines. lines.refused ≡ true → self.new ≡ self.old) }
-        ensures err { OnErr result (self.new ≡ self.old) }
+        ensures spares { Spares self.old self.new result }
         ensures applies { S.Count.applies steps.new ≡ S.Count.applies steps.old }
         ensures looks { EventWithin self.old (events.watch watch (target_seen target.now)) (λ p s. machine.step_watch p s n watch (target_seen target.now)) (S.Count.looks steps.old) (S.Count.looks steps.new) }
     {
@@ -80,13 +77,10 @@ impl<S: RecordSource> Engine<S> {
         n: u64,
         steps: &mut S::Count,
     ) -> Result<Lines, NoMemory>
-        requires within { n < 2 ^ 63 }
         requires free { watch_list.is_live self.old.watches watch ≡ false }
         ensures step { IfOk result (λ lines. (p : machine.Project) (s : machine.State) (h : machine.Handle) (part : Option machine.PartShown) → StandsFor self.old p s
             → ShowsPart p (look_of what) h part → IsStep p (machine.start_watch p s n watch h part) lines self.new) }
-        ensures buffer { self.new.buffer ≡ self.old.buffer }
-        ensures refused { IfOk result (λ lines. lines.refused ≡ true → self.new ≡ self.old) }
-        ensures err { OnErr result (self.new ≡ self.old) }
+        ensures spares { Spares self.old self.new result }
         ensures applies { S.Count.applies steps.new ≡ S.Count.applies steps.old }
         ensures looks { ReadsWithin self.old (look_of what) (S.Count.looks steps.old) (S.Count.looks steps.new) }
     {
@@ -98,11 +92,8 @@ impl<S: RecordSource> Engine<S> {
 
     /// Ends a watch.
     pub(crate) fn unwatch(&mut self, watch: &Words, n: u64) -> Result<Lines, NoMemory>
-        requires { n < 2 ^ 63 }
         ensures step { IfOk result (λ lines. HasStepped self.old self.new lines (λ p s. machine.step_unwatch s n watch.now)) }
-        ensures buffer { self.new.buffer ≡ self.old.buffer }
-        ensures refused { IfOk result (λ lines. lines.refused ≡ true → self.new ≡ self.old) }
-        ensures err { OnErr result (self.new ≡ self.old) }
+        ensures spares { Spares self.old self.new result }
     {
         if !self.watches.is_live(watch.as_str()) {
             return refuse(self.alloc, Refusal::UnknownWatch(watch.as_str()), n);

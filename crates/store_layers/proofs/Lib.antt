@@ -1,3 +1,4 @@
+pub use Rattle.store_sweeps.proofs as store_sweeps_laws
 pub mod Begun
 pub mod Changes
 pub mod Drafted

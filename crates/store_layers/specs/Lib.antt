@@ -1,4 +1,5 @@
 pub use Rattle.store_update.specs.store_model
+pub use Rattle.store_sweeps.specs as store_sweeps
 pub mod Changed
 pub mod Drafts
 pub mod Layered

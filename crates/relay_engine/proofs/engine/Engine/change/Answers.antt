@@ -15,9 +15,12 @@ use Rattle.plan_ir.specs.store_model.Records.{Records}
 use Rattle.store_watch.specs.store_read.Reading.{slots}
 use Rattle.store_watch.specs.Watching.{DifferAt, Telling, Watch}
 
-pub with_notices-requires-clause-within : goal.with_notices-requires-clause-within
-with_notices-requires-clause-within g c =
-    subst (λ (ts : List Telling). AllByRecursion (λ (t : Telling). t.place < length c.self.inside.watches) ts) (sym c.in_ok-notices.ensures.notices) c.notify.ensures.within
+pub with_notices-requires : goal.with_notices-requires
+with_notices-requires g c =
+    record {
+      within =
+          subst (λ (ts : List Telling). AllByRecursion (λ (t : Telling). t.place < length c.self.inside.watches) ts) (sym c.in_ok-notices.ensures.notices) c.notify.ensures.within;
+    }
 
 pub returns-clause-step : goal.returns-clause-step
 returns-clause-step g c = λ p s step stands differ has.
@@ -45,7 +48,7 @@ returns-clause-step g c = λ p s step stands differ has.
     let settled : c.settle.new.self ≡ ls = c.in_ok-settle.ensures.ok ∙ ap (λ (x : Kept). placed r x.layers d) c.self.view_is in
     subst (λ l. IsStep p (noticed p c.args.n (length s.watches) step) c.in_ok-lines.lines (with_changes old l c.accept.new.self)) (sym settled)
     (subst (λ (ws : List Watch). IsStep p (noticed p c.args.n (length s.watches) step) c.in_ok-lines.lines (with_changes old ls ws)) (sym c.accept.ensures)
-    (step_noticed old ls ids told c.args.answer c.in_ok-lines.lines c.args.n notified c.in_ok-lines.ensures.text c.in_ok-lines.ensures.refused p s step here apart answered))
+    (step_noticed old ls ids told c.args.answer c.in_ok-lines.lines c.args.n notified c.in_ok-lines.ensures.text c.in_ok-lines.ensures.single c.in_ok-lines.ensures.refused p s step here apart answered))
 
 pub returns-clause-looks : goal.returns-clause-looks
 returns-clause-looks g c =

@@ -25,9 +25,12 @@ returns-then-count-gt0-clause-step g c =
     (accepting k p s (collect_line n 0 true) lines stands are)))
     c.collected.ensures
 
-pub sweep-requires-clause-alone : goal.sweep-requires-clause-alone
-sweep-requires-clause-alone g c =
-    none_of c.args.self.now.layers.live (sym (ap (λ (x : Kept). length x.layers.live) c.self.view_is) ∙ sym c.count.ensures ∙ omega (arith, c.if-count-gt0.false))
+pub sweep-requires : goal.sweep-requires
+sweep-requires g c =
+    record {
+      alone =
+          none_of c.args.self.now.layers.live (sym (ap (λ (x : Kept). length x.layers.live) c.self.view_is) ∙ sym c.count.ensures ∙ omega (arith, c.if-count-gt0.false));
+    }
 
 pub returns-clause-step : goal.returns-clause-step
 returns-clause-step g c =

@@ -24,9 +24,12 @@ returns-clause-step g c =
     (committed_differ k.layers ids e (subst (λ (l : Layered). AreChanged l.base (entries_of l.live) (e ∷ entries_of l.live) ids) same c.in_ok-draft.ensures.changed))
     (λ s. refl) (λ p s stands. stands_committed k p s stands e)
 
-pub returns-clause-refused : goal.returns-clause-refused
-returns-clause-refused g c =
-    never_refused c.change.result (c.change.new.self ≡ c.args.self.now) c.in_ok-answer.answer (event_line c.args.event.now c.args.n) c.change.ensures.refused c.in_ok-answer.ensures
+pub returns-clause-spares : goal.returns-clause-spares
+returns-clause-spares g c = record {
+  buffer = c.change.ensures.buffer;
+  refused = never_refused c.change.result (c.change.new.self ≡ c.args.self.now) c.in_ok-answer.answer (event_line c.args.event.now c.args.n) c.change.ensures.refused c.in_ok-answer.ensures;
+  err = c.change.ensures.err;
+}
 
 pub returns-in_err-draft-clause-looks : goal.returns-in_err-draft-clause-looks
 returns-in_err-draft-clause-looks g c = λ p s stands.
@@ -46,5 +49,5 @@ returns-clause-looks g c = λ p s stands.
     (g.S.Count.Steps.looks c.args.steps.now) (g.S.Count.Steps.looks c.draft_commit.new.steps) c.draft_commit.ensures.looks c.in_ok-draft.draft.touched c.in_ok-draft.ensures.changed.only
     (placed g.S.RecordSource.records k.layers c.in_ok-draft.draft) (ap view_of made ∙ seen_committed k p s stands e) (g.S.Count.Steps.looks c.change.new.steps) c.change.ensures.looks
 
-pub change-requires-clause-fits : goal.change-requires-clause-fits
-change-requires-clause-fits g c = subst (λ (x : Kept). Fits g.S.RecordSource.records x.layers c.in_ok-draft.draft) c.self.view_is c.in_ok-draft.ensures.fits
+pub change-requires : goal.change-requires
+change-requires g c = record { fits = subst (λ (x : Kept). Fits g.S.RecordSource.records x.layers c.in_ok-draft.draft) c.self.view_is c.in_ok-draft.ensures.fits }

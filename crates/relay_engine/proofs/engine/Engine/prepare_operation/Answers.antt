@@ -24,7 +24,7 @@ returns-then-count-eq-MAX_HANDLES-clause-step g c = λ p s o stands keeps is nam
 
 pub returns-in_ok-new-in-Ok-clause-there : goal.returns-in_ok-new-in-Ok-clause-there
 returns-in_ok-new-in-Ok-clause-there g c =
-    plan_is_held c.args.self.now.defs c.args.self.now.documents _ c.args.compiled.now c.in_ok-copy-in-Ok.ensures c.in_ok-clone-in-Ok.ensures.cases c.requires.there c.requires.reaches
+    plan_is_held c.args.self.now.defs c.args.self.now.documents _ c.args.compiled.now c.in_ok-copy-in-Ok.ensures c.in_ok-clone-in-Ok.ensures.cases c.in_ok-clone-in-Ok-2.ensures.cases c.requires.there c.requires.reaches
 
 pub returns-in_ok-new-in-Ok-clause-step : goal.returns-in_ok-new-in-Ok-clause-step
 returns-in_ok-new-in-Ok-clause-step g c = λ p s o stands keeps is name.

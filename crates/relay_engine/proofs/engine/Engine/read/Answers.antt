@@ -1,7 +1,9 @@
-use Rattle.std.proofs.Common.{◌≡◌, ◌+◌, ◌≤◌, ◌++◌, [], ◌∷◌, false, Option, refl, ap, subst, ◌∙◌}
+use Rattle.std.proofs.Common.{◌≡◌, ◌+◌, ◌≤◌, ◌++◌, [], ◌∷◌, codes, false, Option, refl, ap, subst, ◌∙◌}
 use Rattle.std.proofs.lemmas.Result.{IfOk-weaker}
 use Rattle.event_script.specs.Seen.{target_seen}
+use Rattle.plan_ir.specs.gql_plain.Tree.{text}
 use Rattle.relay_engine.proofs.KeepingLaws.{shown_is}
+use Rattle.relay_engine.proofs.OneLines.{shown_one}
 use Rattle.relay_engine.proofs.StandingLaws.{view_is}
 use Rattle.relay_engine.proofs.StepLaws.{accepting, same_step}
 use Rattle.relay_engine.proofs.WorkLaws.{event_reads}
@@ -28,8 +30,8 @@ returns-in_ok-text-in-Shown-clause-step g c =
     let n = c.args.n in
     let target = target_seen c.args.target.now in
     let what = c.in-Shown.what in
-    let text = c.in_ok-text-in-Shown.text in
-    IfOk-weaker c.one_line.result (AreLines (text ++ 10 ∷ []) false) (λ lines. HasStepped k k lines (λ p s. step_read p s n target))
+    let words = c.in_ok-text-in-Shown.text in
+    IfOk-weaker c.one_line.result (AreLines (words ++ 10 ∷ []) false) (λ lines. HasStepped k k lines (λ p s. step_read p s n target))
     (λ lines are p s stands.
     let take : Handle → Option PartShown → Step = λ h part. accept (read_line n (shown p (view p s) h part)) s in
     let made : (h : Handle) × (part : Option PartShown) × (step_read p s n target ≡ take h part) × ShowsPart p (look_of what) h part =
@@ -37,11 +39,15 @@ returns-in_ok-text-in-Shown-clause-step g c =
     let records : g.S.RecordSource.records c.view.result.now ≡ view_of k.layers = c.view.ensures ∙ ap (λ (x : Kept). view_of x.layers) c.self.view_is in
     let read : shows (slots (view_of k.layers)) (look_of what) ≡ shown p (view p s) made.0 made.1 =
     shown_is k p s stands (look_of what) made.0 made.1 (shows (slots (view_of k.layers)) (look_of what)) made.3 refl in
-    let told : text ++ 10 ∷ [] ≡ read_line n (shown p (view p s) made.0 made.1) =
+    let told : words ++ 10 ∷ [] ≡ read_line n (shown p (view p s) made.0 made.1) =
     c.in_ok-text-in-Shown.ensures.line ∙ ap (λ m. read_line n (shows (slots m) (look_of what))) records ∙ ap (read_line n) read in
     same_step k p (take made.0 made.1) (step_read p s n target) lines made.2
     (accepting k p s (read_line n (shown p (view p s) made.0 made.1)) lines stands (subst (λ t. AreLines t false lines) told are)))
     c.one_line.ensures
+
+pub one_line-requires : goal.one_line-requires
+one_line-requires g c =
+    shown_one c.args.n (codes "ok", text (codes "read")) (shows (slots (g.S.RecordSource.records c.view.result.now)) (look_of c.in-Shown.what)) c.in_ok-text-in-Shown.text c.in_ok-text-in-Shown.ensures.line
 
 pub returns-in-Refused-clause-step : goal.returns-in-Refused-clause-step
 returns-in-Refused-clause-step g c = λ p s stands.

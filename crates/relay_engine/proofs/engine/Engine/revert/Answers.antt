@@ -57,9 +57,12 @@ returns-clause-step g c =
     let live : is_layer s.layers name ≡ true = whether_layer k p s stands c.self.inside.layers.live c.as_str.result.now name c.is_live.result (ap (λ (x : Kept). x.layers.live) c.self.view_is) c.as_str.ensures c.is_live.ensures ∙ c.if-not-is_live.false in
     ap (noticed p n (length s.watches)) (unless-false s n (not (is_layer s.layers name)) (unknown_layer name) (accept line (drop_layer name s)) (ap not live)))
 
-pub returns-clause-refused : goal.returns-clause-refused
-returns-clause-refused g c =
-    never_refused c.change.result (c.change.new.self ≡ c.args.self.now) c.in_ok-answer.answer (event_line (codes "revert") c.args.n) c.change.ensures.refused c.in_ok-answer.ensures
+pub returns-clause-spares : goal.returns-clause-spares
+returns-clause-spares g c = record {
+  buffer = c.change.ensures.buffer;
+  refused = never_refused c.change.result (c.change.new.self ≡ c.args.self.now) c.in_ok-answer.answer (event_line (codes "revert") c.args.n) c.change.ensures.refused c.in_ok-answer.ensures;
+  err = c.change.ensures.err;
+}
 
 pub returns-in_err-draft-clause-applies : goal.returns-in_err-draft-clause-applies
 returns-in_err-draft-clause-applies g c =
@@ -121,5 +124,5 @@ returns-clause-exact g c =
     always c.change.result (λ lines. lines.refused ≡ false → g.S.Count.Steps.applies c.change.new.steps ≡ counted (length (above name c.args.self.now.layers.live)) before)
     (λ lines taken. c.change.ensures.applies ∙ c.in_ok-draft.ensures.exact ∙ ap (λ (l : Layered). counted (length (above name l.live)) before) same)
 
-pub change-requires-clause-fits : goal.change-requires-clause-fits
-change-requires-clause-fits g c = subst (λ (x : Kept). Fits g.S.RecordSource.records x.layers c.in_ok-draft.draft) c.self.view_is c.in_ok-draft.ensures.fits
+pub change-requires : goal.change-requires
+change-requires g c = record { fits = subst (λ (x : Kept). Fits g.S.RecordSource.records x.layers c.in_ok-draft.draft) c.self.view_is c.in_ok-draft.ensures.fits }

@@ -1,11 +1,12 @@
 -- What is kept is the same as the parts that are read.
-use Rattle.std.proofs.Common.{◌≡◌, true, sym, subst, IfOk, OnErr}
+use Rattle.std.proofs.Common.{sym, subst, IfOk}
 use Rattle.std.proofs.lemmas.Result.{IfOk-weaker}
 use Rattle.relay_engine.proofs.KeepingLaws.{kept_of}
 use Rattle.relay_engine.proofs.WorkLaws.{none_reverted}
 use Rattle.relay_engine.proofs.engine.Engine.step_line.Goals as goal
 use Rattle.relay_engine.specs.Answered.{IsFaultOf}
 use Rattle.relay_engine.specs.Kept.{Kept}
+use Rattle.relay_engine.specs.Spares.{Spares}
 use Rattle.relay_engine.specs.Steps.{HasStepped}
 use Rattle.relay_engine.specs.Work.{AppliesAbove, IsWithinWork}
 use Rattle.relay_machine.specs.Machine.{step, step_line}
@@ -18,11 +19,8 @@ returns-in-Ok-clause-step g c =
     subst (λ (k : Kept). IfOk c.step_event.result (λ lines. HasStepped k c.step_event.new.self lines (λ p s. step p k.buffer s c.args.n c.args.line.now))) c.self.view_is
     (subst (λ l. IfOk c.step_event.result (λ lines. HasStepped made c.step_event.new.self lines (λ p s. step_line p made.buffer s c.args.n l))) (sym c.in-Ok.ensures) c.step_event.ensures.step)
 
-pub returns-in-Ok-clause-refused : goal.returns-in-Ok-clause-refused
-returns-in-Ok-clause-refused g c = subst (λ (k : Kept). IfOk c.step_event.result (λ lines. lines.refused ≡ true → c.step_event.new.self ≡ k)) c.self.view_is c.step_event.ensures.refused
-
-pub returns-in-Ok-clause-err : goal.returns-in-Ok-clause-err
-returns-in-Ok-clause-err g c = subst (λ (k : Kept). OnErr c.step_event.result (c.step_event.new.self ≡ k)) c.self.view_is c.step_event.ensures.err
+pub returns-in-Ok-clause-spares : goal.returns-in-Ok-clause-spares
+returns-in-Ok-clause-spares g c = subst (λ (k : Kept). Spares k c.step_event.new.self c.step_event.result) c.self.view_is c.step_event.ensures.spares
 
 pub returns-in-Ok-clause-exact : goal.returns-in-Ok-clause-exact
 returns-in-Ok-clause-exact g c =

@@ -1,4 +1,4 @@
-use Rattle.std.proofs.Common.{◌≡◌, length, map, false, ap, subst, ◌∙◌}
+use Rattle.std.proofs.Common.{◌≡◌, [], length, map, true, false, ap, subst, ◌∙◌}
 use Rattle.std.proofs.lemmas.Result.{IfOk-weaker}
 use Rattle.relay_engine.proofs.SweepLaws.{has_differed, has_swept}
 use Rattle.relay_engine.proofs.engine.Engine.sweep.Goals as goal
@@ -12,7 +12,10 @@ use Rattle.relay_engine.specs.Steps.{HasStepped, IsStep}
 use Rattle.relay_machine.specs.Machine.{Project, State, Step, noticed, sweep_base}
 use Rattle.relay_machine.specs.Printed.{collect_line}
 use Rattle.store_layers.specs.Drafts.{Fits, placed}
-use Rattle.store_layers.specs.Layered.{swept, view_of}
+use Rattle.store_layers.specs.Layered.{Layered, entries_of, swept, view_of}
+use Rattle.store_layers.proofs.store_sweeps_laws.Meeting.{leads_of_none}
+use Rattle.store_layers.specs.store_sweeps.Swept.{all_named}
+use Rattle.plan_ir.specs.store_model.Leads.{leads}
 use Rattle.plan_ir.specs.store_model.Sweeps.{dropped}
 use Rattle.plan_ir.specs.gql_plain.Order.{has_text}
 use Rattle.store_watch.specs.store_read.Reading.{slots}
@@ -51,5 +54,14 @@ returns-clause-step g c =
     (subst (λ d. AreLines (collect_line n d false) false answer) c.len.ensures c.in_ok-answer.ensures)))
     c.change.ensures.step
 
-pub change-requires-clause-fits : goal.change-requires-clause-fits
-change-requires-clause-fits g c = subst (λ (x : Kept). Fits g.S.RecordSource.records x.layers c.in_ok-draft.draft) c.self.view_is c.in_ok-draft.ensures.fits
+pub change-requires : goal.change-requires
+change-requires g c = record { fits = subst (λ (x : Kept). Fits g.S.RecordSource.records x.layers c.in_ok-draft.draft) c.self.view_is c.in_ok-draft.ensures.fits }
+
+pub draft_sweep-requires : goal.draft_sweep-requires
+draft_sweep-requires g c =
+    record {
+      kept = λ j led.
+          let same : c.self.inside.layers ≡ c.args.self.now.layers = ap (λ (x : Kept). x.layers) c.self.view_is in
+          let none : entries_of c.self.inside.layers.live ≡ [] = ap (λ (l : Layered). entries_of l.live) same ∙ ap entries_of c.requires.alone in
+          absurd (leads_of_none c.self.inside.layers.base j (subst (λ es. has_text (leads c.self.inside.layers.base (all_named es)) j ≡ true) none led));
+    }

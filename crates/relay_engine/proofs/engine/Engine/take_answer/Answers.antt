@@ -29,11 +29,14 @@ returns-in_default g c = λ p s stands take.
     ∙ ap (λ t. refuse s n (unknown_handle t)) (sym c.as_str-handle.ensures))
     (refusing k p s n (unknown_handle name) c.in_ok-lines.lines stands c.in_ok-lines.ensures)
 
-pub take_response-requires-clause-there : goal.take_response-requires-clause-there
-take_response-requires-clause-there g c =
+pub take_response-requires : goal.take_response-requires
+take_response-requires g c =
     let held = c.in-Some.held.now in
-    subst (λ (x : Kept). is_some (operation_in x.defs x.documents held.name) ≡ true) c.self.view_is
-    (is_there c.self.inside.project.0 c.self.inside.project.1 c.self.inside.retained c.as_str-handle.result.now held c.self.invariant (sym c.held.ensures ∙ ap option_copied c.in-Some.is)).there
+    record {
+      there =
+          subst (λ (x : Kept). is_some (operation_in x.defs x.documents held.name) ≡ true) c.self.view_is
+          (is_there c.self.inside.project.0 c.self.inside.project.1 c.self.inside.retained c.as_str-handle.result.now held c.self.invariant (sym c.held.ensures ∙ ap option_copied c.in-Some.is)).there;
+    }
 
 pub returns-in-Some-2 : goal.returns-in-Some-2
 returns-in-Some-2 g c = λ p s stands take.

@@ -1,7 +1,6 @@
-use Rattle.std.proofs.Common.{◌≡◌, true, None, Some, Option, is_some, option_map, option_copied, ap, sym, subst, ◌∙◌}
+use Rattle.std.proofs.Common.{◌≡◌, None, Some, Option, option_map, option_copied, ap, sym, subst, ◌∙◌}
 use Rattle.std.proofs.lemmas.Result.{IfOk-weaker}
 use Rattle.event_script.specs.Seen.{part_seen, target_seen}
-use Rattle.plan_project.specs.Lookups.{operation_in}
 use Rattle.relay_engine.proofs.KeepingLaws.{no_handle, the_handle}
 use Rattle.relay_engine.proofs.PlanLaws.{is_there}
 use Rattle.relay_engine.proofs.StepLaws.{refusing, same_step}
@@ -9,6 +8,7 @@ use Rattle.relay_engine.proofs.TargetLaws.{of_handle, reads_known}
 use Rattle.relay_engine.proofs.engine.Engine.target.Goals as goal
 use Rattle.relay_engine.specs.Handles.{held_as}
 use Rattle.relay_engine.specs.Kept.{Kept}
+use Rattle.relay_engine.specs.Operations.{HoldsPlan}
 use Rattle.relay_engine.specs.Stands.{KeepsHandle, StandsFor}
 use Rattle.relay_engine.specs.Targets.{ReadsPart, ReadsTarget, Targets, TargetsPart}
 use Rattle.relay_machine.specs.Machine.{Handle, PartShown, Project, State, Step, handle_named, of_part, of_target, refuse, unless}
@@ -28,12 +28,14 @@ returns-in_default-clause-step g c = λ p s stands take.
     (ap (λ o. of_target p s n target o (λ step. unless s n c.args.is_full (too_many watches) step) take) none ∙ ap (λ t. refuse s n (unknown_handle t)) (sym c.as_str-in_default.ensures))
     (refusing k p s n (unknown_handle told) c.in_ok-refuse.field-0 stands c.in_ok-refuse.ensures)
 
-pub target_whole-requires-clause-there : goal.target_whole-requires-clause-there
-target_whole-requires-clause-there g c =
-    let name = c.as_str.result.now in
+pub target_whole-requires : goal.target_whole-requires
+target_whole-requires g c =
     let held = c.in-Some.held.now in
-    subst (λ (x : Kept). is_some (operation_in x.defs x.documents held.name) ≡ true) c.self.view_is
-    (is_there c.self.inside.project.0 c.self.inside.project.1 c.self.inside.retained name held c.self.invariant (sym c.held.ensures ∙ ap option_copied c.in-Some.is)).there
+    record {
+      there =
+          subst (λ (x : Kept). HoldsPlan x.defs x.documents held) c.self.view_is
+          (is_there c.self.inside.project.0 c.self.inside.project.1 c.self.inside.retained c.as_str.result.now held c.self.invariant (sym c.held.ensures ∙ ap option_copied c.in-Some.is));
+    }
 
 pub returns-in-Some-part-clause-step : goal.returns-in-Some-part-clause-step
 returns-in-Some-part-clause-step g c =

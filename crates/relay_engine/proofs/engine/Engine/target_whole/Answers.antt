@@ -1,10 +1,11 @@
-use Rattle.std.proofs.Common.{[], ◌∷◌, None, Option, ap, ◌∙◌}
+use Rattle.std.proofs.Common.{[], ◌∷◌, None, Option, ap, sym, subst, ◌∙◌}
 use Rattle.std.proofs.lemmas.Result.{IfOk-weaker}
 use Rattle.relay_engine.proofs.StepLaws.{unless-false, unless-true}
 use Rattle.relay_engine.proofs.TargetLaws.{same_target}
 use Rattle.relay_engine.proofs.engine.Engine.target_whole.Goals as goal
 use Rattle.relay_engine.specs.Handles.{held_as}
 use Rattle.relay_engine.specs.Kept.{Kept}
+use Rattle.relay_engine.specs.Operations.{HoldsPlan}
 use Rattle.relay_engine.specs.Parts.{IsProject}
 use Rattle.relay_engine.specs.Stands.{KeepsHandle, StandsFor}
 use Rattle.relay_engine.specs.Targets.{ReadsPart, TargetsPart}
@@ -43,3 +44,6 @@ returns-then-is_full-clause-found g c =
     IfOk-weaker c.too_many_watches.result (λ targeted. (p : Project) (h : Handle) (part : Option Part) → ReadsPart p h part targeted)
     (λ targeted. (p : Project) (s : State) (h : Handle) → StandsFor c.args.self.now p s → KeepsHandle p (held_as c.args.handle.now c.args.held.now) h → ReadsPart p h None targeted)
     (λ targeted has p s h stands keeps. has p h None) c.too_many_watches.ensures.found
+
+pub whole_operation-requires : goal.whole_operation-requires
+whole_operation-requires g c = subst (λ (x : Kept). HoldsPlan x.defs x.documents c.args.held.now) (sym c.self.view_is) c.requires.there

@@ -34,9 +34,12 @@ returns-then-is_live-clause-step g c =
     (of_target p s n target (handle_named s.handles target.handle) (unless s n (length s.watches == most watches) (too_many watches)) (start_watch p s n name)) live
     ∙ ap (λ t. refuse s n (watch_taken t)) (sym c.as_str-then-is_live.ensures))
 
-pub start_watch-requires-clause-free : goal.start_watch-requires-clause-free
-start_watch-requires-clause-free g c =
-    sym (λ i. is_live (c.self.view_is i).watches (c.as_str.ensures i)) ∙ sym c.is_live.ensures ∙ c.if-is_live.false
+pub start_watch-requires : goal.start_watch-requires
+start_watch-requires g c =
+    record {
+      free =
+          sym (λ i. is_live (c.self.view_is i).watches (c.as_str.ensures i)) ∙ sym c.is_live.ensures ∙ c.if-is_live.false;
+    }
 
 pub returns-in-Shown-clause-step : goal.returns-in-Shown-clause-step
 returns-in-Shown-clause-step g c =
