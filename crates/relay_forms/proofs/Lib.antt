@@ -1,0 +1,7 @@
+pub mod Pieces
+pub mod Numbers
+pub mod WholeLines
+pub mod FileLaws
+pub mod Opening
+pub mod ArtifactLines
+pub mod Decimals

@@ -1,0 +1,10 @@
+pub mod Words
+pub mod Statuses
+pub mod FormShown
+pub mod BulkShown
+pub mod Projects
+pub mod Rules
+pub mod Files
+pub mod Reads
+pub mod Scripts
+pub mod Artifacts
