@@ -1,3 +1,4 @@
+pub use Rattle.relay_io.proofs as relay_io_laws
 pub mod Pieces
 pub mod Numbers
 pub mod WholeLines

@@ -3,10 +3,9 @@
 
 ghost use Rattle.std.specs.Prelude.{◌≡◌, ◌⊎◌, IfErr};
 
-use plan_ir::Counts;
 use relay_io::{FileVault, StdSink, StdSource};
 pub use relay_top::relay_top;
-use relay_top::{Status, exit_of};
+use relay_top::{Counts, Status, exit_of};
 use std::process::ExitCode;
 use std::{env, io};
 

@@ -1,8 +1,8 @@
 -- What is written for the lines of the large script, one after the other.
 use Rattle.std.proofs.Common.{◌≡◌, ℕ, suc, ◌+◌, ◌-◌, ◌<◌, ◌≤◌, List, [], ◌∷◌, ◌++◌, ◌==◌, length, cond, ap, ◌∙◌, arith, length-append}
 use Rattle.std.proofs.lemmas.List.Sums.{sum_by-append}
-use Rattle.relay_machine.specs.Bulk.{Bulk, begun, bulk_lines, line_count, lines_from, next_bulk, next_line, refusals_from}
-use Rattle.relay_machine.specs.Machine.{Project, State, beginning, output_from, step}
+use Rattle.relay_forms.specs.relay_machine.Bulk.{Bulk, begun, bulk_lines, line_count, lines_from, next_bulk, next_line, refusals_from}
+use Rattle.relay_forms.specs.relay_machine.Machine.{Project, State, beginning, output_from, step}
 use Rattle.plan_ir.specs.schema_tables.Types.{Text}
 
 -- the next line of so many

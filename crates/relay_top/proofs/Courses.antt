@@ -3,11 +3,11 @@ use Rattle.std.proofs.Common.{◌≡◌, ◌⊎◌, ◌↔◌, ◌≤◌, ◌+�
 use Rattle.std.specs.Io.KnownBytes.{IsAtEnd}
 use Rattle.std.proofs.lemmas.Bool.{false≢true}
 use Rattle.std.proofs.lemmas.List.{take_all}
-use Rattle.relay_io.specs.Streams.{append, prepend}
-use Rattle.relay_io.proofs.Streaming.{append-none}
+use Rattle.relay_forms.specs.relay_io.Streams.{append, prepend}
+use Rattle.relay_forms.proofs.relay_io_laws.Streaming.{append-none}
 use Rattle.plan_ir.specs.schema_tables.Types.{Text}
-use Rattle.relay_machine.specs.Machine.{Project}
-use Rattle.relay_machine.specs.Printed.{project_fault}
+use Rattle.relay_forms.specs.relay_machine.Machine.{Project}
+use Rattle.relay_forms.specs.relay_machine.Printed.{project_fault}
 use Rattle.relay_top.specs.Answers.{unknown, refused, accepted, due, AnsweringBy, Ran, IsWhole}
 use Rattle.relay_forms.specs.Artifacts.{EndsLine, artifacts_text}
 use Rattle.relay_forms.specs.Scripts.{max_script}

@@ -4,9 +4,9 @@ use Rattle.std.specs.List.{position, position_from}
 use Rattle.std.proofs.lemmas.Bool.{eqb-true, cases_lt}
 use Rattle.std.proofs.lemmas.Iterator.Adapters.{position_from-zero}
 use Rattle.std.proofs.lemmas.List.{append-nil, take_all}
-use Rattle.relay_io.proofs.Streaming.{rest_is}
+use Rattle.relay_forms.proofs.relay_io_laws.Streaming.{rest_is}
 use Rattle.plan_ir.specs.schema_tables.Types.{Text}
-use Rattle.relay_machine.specs.Script.{lines_from, lines_of, last_line}
+use Rattle.relay_forms.specs.relay_machine.Script.{lines_from, lines_of, last_line}
 
 abbrev pub is_end : ℕ → Bool
 is_end b = nat_eq b 10

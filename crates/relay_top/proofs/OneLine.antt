@@ -1,8 +1,8 @@
 -- What is put of one line.
 use Rattle.std.proofs.Common.{◌≡◌, ◌≤◌, ◌+◌, ◌++◌, ℕ, [], ◌∷◌, length, take, drop, Option, refl, sym, ap, inl, inr, ◌∙◌, arith, length-take}
 use Rattle.std.proofs.lemmas.List.{append-nil, take-append-drop}
-use Rattle.relay_io.proofs.Streaming.{append-none}
-use Rattle.relay_io.specs.Streams.{append}
+use Rattle.relay_forms.proofs.relay_io_laws.Streaming.{append-none}
+use Rattle.relay_forms.specs.relay_io.Streams.{append}
 use Rattle.relay_top.specs.Answers.{Wrote}
 use Rattle.relay_forms.specs.declared.status.Status.{Status}
 use Rattle.relay_forms.specs.declared.status.Status.TheVariants.{Done, WriteFault, NoMemory}

@@ -4,11 +4,11 @@ use Rattle.std.specs.Io.KnownBytes.{IsAtEnd}
 use Rattle.std.proofs.lemmas.Bool.{cases_eq}
 use Rattle.std.proofs.lemmas.List.{append-nil, take_all}
 use Rattle.bulk_laws.specs.BulkProject.{bulk_project}
-use Rattle.relay_io.specs.Streams.{append, prepend}
+use Rattle.relay_forms.specs.relay_io.Streams.{append, prepend}
 use Rattle.plan_ir.specs.schema_tables.Types.{Text}
-use Rattle.relay_machine.specs.Bulk.{bulk_summary}
-use Rattle.relay_machine.specs.Machine.{Project}
-use Rattle.relay_machine.specs.Printed.{project_fault}
+use Rattle.relay_forms.specs.relay_machine.Bulk.{bulk_summary}
+use Rattle.relay_forms.specs.relay_machine.Machine.{Project}
+use Rattle.relay_forms.specs.relay_machine.Printed.{project_fault}
 use Rattle.relay_top.specs.Answers.{Course, unknown, refused, accepted, IsCourse, Answering, AnsweringBy, IsCall, Ran, Took, output_of, has_refusal_in, due, refuses, left_over, IsReadWhole, IsReadBy, IsEndedFor, IsScriptFor, IsUntouched, AnsweringBulk, IsAnswered, IsBulkCall}
 use Rattle.relay_forms.specs.Files.{IsTheProjectOf, IsTheFaultOf, Files, Contents, absent, contents_of, IsProject, IsFault, IsFirstAbsent}
 use Rattle.relay_forms.specs.Artifacts.{EndsLine}

@@ -4,12 +4,12 @@ use Rattle.bulk_laws.proofs.Accepted.{bulk_is_accepted}
 use Rattle.bulk_laws.specs.BulkProject.{bulk_project}
 use Rattle.plan_ir.specs.gql_ast.declared.document.Document.{Document}
 use Rattle.plan_ir.specs.gql_ast.declared.place.Placed.{Placed}
-use Rattle.plan_project.specs.Verdicts.{AreTheProject, Files, HaveTheFault}
-use Rattle.plan_project.specs.declared.compiling.CompileFault.TheVariants.{Refused}
-use Rattle.plan_project.specs.declared.fault.ProjectFault.{ProjectFault}
-use Rattle.relay_machine.specs.Bulk.{bulk_document, bulk_output, bulk_refusals, bulk_schema, bulk_summary, line_count}
-use Rattle.relay_machine.specs.Machine.{Project}
-use Rattle.relay_machine.specs.Printed.{summary_line}
+use Rattle.relay_forms.specs.plan_project.Verdicts.{AreTheProject, Files, HaveTheFault}
+use Rattle.relay_forms.specs.plan_project.declared.compiling.CompileFault.TheVariants.{Refused}
+use Rattle.relay_forms.specs.plan_project.declared.fault.ProjectFault.{ProjectFault}
+use Rattle.relay_forms.specs.relay_machine.Bulk.{bulk_document, bulk_output, bulk_refusals, bulk_schema, bulk_summary, line_count}
+use Rattle.relay_forms.specs.relay_machine.Machine.{Project}
+use Rattle.relay_forms.specs.relay_machine.Printed.{summary_line}
 use Rattle.relay_forms.specs.Projects.{project_shown}
 use Rattle.plan_ir.specs.schema_tables.Types.{Text, Defs}
 

@@ -3,8 +3,8 @@ use Rattle.std.proofs.Common.{◌≡◌, ℕ, ◌+◌, List, [], ◌∷◌, ◌+
 use Rattle.std.proofs.lemmas.List.{take-append-drop}
 use Rattle.plan_ir.specs.gql_plain.Limits.{max_line}
 use Rattle.relay_engine.specs.Steps.{written}
-use Rattle.relay_machine.specs.Machine.{Project, State, step, output_from, refused_from}
-use Rattle.relay_machine.specs.Script.{lines_of, cut}
+use Rattle.relay_forms.specs.relay_machine.Machine.{Project, State, step, output_from, refused_from}
+use Rattle.relay_forms.specs.relay_machine.Script.{lines_of, cut}
 use Rattle.relay_forms.specs.Artifacts.{text_of_lines}
 use Rattle.plan_ir.specs.schema_tables.Types.{Text}
 

@@ -2,11 +2,11 @@
 use Rattle.std.specs.Prelude.{◌≡◌, ◌⊎◌, ◌↔◌, ℕ, ◌+◌, ◌≤◌, [], ◌∷◌, ◌++◌, length, take, Bool, false, Option, Some, None, ⊤, IsTrue, IsFalse}
 use Rattle.std.specs.Io.KnownBytes.{IsAtEnd}
 use Rattle.bulk_laws.specs.BulkProject.{bulk_project}
-use Rattle.relay_io.specs.Streams.{append, prepend}
+use Rattle.relay_forms.specs.relay_io.Streams.{append, prepend}
 use Rattle.plan_ir.specs.schema_tables.Types.{Text}
-use Rattle.relay_machine.specs.Bulk.{bulk_summary}
-use Rattle.relay_machine.specs.Machine.{Project}
-use Rattle.relay_machine.specs.Printed.{project_fault}
+use Rattle.relay_forms.specs.relay_machine.Bulk.{bulk_summary}
+use Rattle.relay_forms.specs.relay_machine.Machine.{Project}
+use Rattle.relay_forms.specs.relay_machine.Printed.{project_fault}
 use Rattle.relay_forms.specs.Artifacts.{EndsLine, artifacts_text}
 use Rattle.relay_forms.specs.Files.{Files, IsFirstAbsent, IsTheFaultOf, IsTheProjectOf}
 use Rattle.relay_forms.specs.Scripts.{max_script}

@@ -1,9 +1,9 @@
 -- What a run writes: the answers of the lines of its script.
 use Rattle.std.specs.Prelude.{◌≡◌, ℕ, ◌++◌, Bool, true, Option}
-use Rattle.relay_io.specs.Streams.{append}
+use Rattle.relay_forms.specs.relay_io.Streams.{append}
 use Rattle.plan_ir.specs.schema_tables.Types.{Text}
-use Rattle.relay_machine.specs.Machine as machine
-use Rattle.relay_machine.specs.Script.{lines_of, cut}
+use Rattle.relay_forms.specs.relay_machine.Machine as machine
+use Rattle.relay_forms.specs.relay_machine.Script.{lines_of, cut}
 
 -- what the machine writes for the lines of these bytes of a script, which has ended or not, where so many released operations are kept
 abbrev pub output_text : machine.Project → (buffer : ℕ) → Text → Bool → Text

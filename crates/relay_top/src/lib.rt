@@ -7,5 +7,6 @@ mod project_fault;
 mod summary;
 mod top;
 
+pub use plan_ir::{Counts, Words};
 pub use relay_forms::{Status, exit_of};
 pub use top::relay_top;

@@ -3,10 +3,10 @@ ghost use Rattle.std.specs.Prelude.{◌≡◌, ◌⊎◌, ◌↔◌, ◌≤◌, 
 ghost use Rattle.std.specs.List.{position};
 ghost use Rattle.plan_ir.specs.gql_plain.Limits.{max_line};
 ghost use Rattle.relay_engine.specs.Stands.{StandsFor};
-ghost use Rattle.relay_io.specs.Causes.{Rose};
-ghost use Rattle.relay_io.specs.Streams.{append};
-ghost use Rattle.relay_machine.specs.Machine as machine;
-ghost use Rattle.relay_machine.specs.Script.{lines_of};
+ghost use Rattle.relay_forms.specs.relay_io.Causes.{Rose};
+ghost use Rattle.relay_forms.specs.relay_io.Streams.{append};
+ghost use Rattle.relay_forms.specs.relay_machine.Machine as machine;
+ghost use Rattle.relay_forms.specs.relay_machine.Script.{lines_of};
 ghost use Rattle.relay_forms.specs.Artifacts.{EndsLine};
 ghost use Rattle.relay_forms.specs.Projects.{project_shown};
 ghost use Rattle.relay_forms.specs.Scripts.{max_script};
@@ -14,10 +14,8 @@ ghost use Rattle.relay_forms.specs.Statuses.{IsDone};
 ghost use Rattle.relay_top.specs.Output.{output_text, has_refusal};
 
 use plan_ir::{Counts, MAX_LINE};
-use plan_project::Project;
 use relay_engine::{Engine, Versions};
-use relay_forms::{Status, Stop, put_lines};
-use relay_io::Sink;
+use relay_forms::{Project, Sink, Status, Stop, put_lines};
 use std::alloc::Global;
 
 /// Answers the lines of a script one after the other, and puts each answer as one piece.

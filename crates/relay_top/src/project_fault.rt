@@ -1,13 +1,12 @@
 //! Refusing a project.
 ghost use Rattle.std.specs.Prelude.{◌≡◌, ◌⊎◌, ◌≤◌, ◌+◌, ◌++◌, [], ℕ, List, length};
-ghost use Rattle.relay_io.specs.Causes.{Rose};
-ghost use Rattle.relay_io.specs.Streams.{append};
-ghost use Rattle.relay_machine.specs.Printed.{project_fault};
+ghost use Rattle.relay_forms.specs.relay_io.Causes.{Rose};
+ghost use Rattle.relay_forms.specs.relay_io.Streams.{append};
+ghost use Rattle.relay_forms.specs.relay_machine.Printed.{project_fault};
 ghost use Rattle.relay_forms.specs.Artifacts.{EndsLine};
 
 use relay_engine::fault_line;
-use relay_forms::{Status, Stop, put_line};
-use relay_io::Sink;
+use relay_forms::{Sink, Status, Stop, put_line};
 use std::alloc::Global;
 
 /// Puts the line of a project that is refused: the file at fault with the line and the column, and

@@ -2,19 +2,19 @@
 ghost use Rattle.std.specs.Prelude.{◌≡◌, ◌≤◌, ◌<◌, ◌+◌, ◌-◌, ◌*◌, ◌^◌, ◌∷◌, [], ℕ, List, cond, length, IfOk};
 ghost use Rattle.bulk_laws.specs.BulkProject.{bulk_project};
 ghost use Rattle.relay_engine.specs.Stands.{StandsFor};
-ghost use Rattle.relay_io.specs.Causes.{Rose};
-ghost use Rattle.relay_machine.specs.Bulk as model;
-ghost use Rattle.relay_machine.specs.Machine as machine;
-ghost use Rattle.relay_machine.specs.Printed.{summary_line};
+ghost use Rattle.relay_forms.specs.relay_io.Causes.{Rose};
+ghost use Rattle.relay_forms.specs.relay_machine.Bulk as model;
+ghost use Rattle.relay_forms.specs.relay_machine.Machine as machine;
+ghost use Rattle.relay_forms.specs.relay_machine.Printed.{summary_line};
 ghost use Rattle.relay_forms.specs.Projects.{project_shown};
 ghost use Rattle.relay_forms.specs.Words.{max_lines};
 ghost use Rattle.relay_top.specs.Answers.{AnsweringBulk, Wrote};
 
 use plan_ir::{Counts, NoMemory, Words};
-use plan_project::{CompileFault, Project, ProjectFile, compile};
 use relay_engine::{Engine, Versions, summary_line};
-use relay_forms::{Bulk, Status, Stop, bytes_of, put_line};
-use relay_io::Sink;
+use relay_forms::{
+    Bulk, CompileFault, Project, ProjectFile, Sink, Status, Stop, bytes_of, compile, put_line,
+};
 use std::alloc::Global;
 
 const SCHEMA: &str = "type Query{me:User} type User{id:ID! age:Int friend:User}";

@@ -1,11 +1,11 @@
 //! The top call: from the words, the files and the script to what is written.
 ghost use Rattle.std.specs.Prelude.{◌≡◌, ◌⊎◌, ◌↔◌, ℕ, ◌+◌, ◌≤◌, ◌∷◌, List, length, map, take, Bool, true, false, Option, None, Some, IsTrue};
 ghost use Rattle.bulk_laws.specs.BulkProject.{bulk_project};
-ghost use Rattle.relay_io.specs.Causes.{Rose};
-ghost use Rattle.relay_io.specs.Streams.{append, prepend};
-ghost use Rattle.relay_machine.specs.Bulk.{bulk_buffer, bulk_lines, bulk_summary};
-ghost use Rattle.relay_machine.specs.Machine as machine;
-ghost use Rattle.relay_machine.specs.Printed.{project_fault};
+ghost use Rattle.relay_forms.specs.relay_io.Causes.{Rose};
+ghost use Rattle.relay_forms.specs.relay_io.Streams.{append, prepend};
+ghost use Rattle.relay_forms.specs.relay_machine.Bulk.{bulk_buffer, bulk_lines, bulk_summary};
+ghost use Rattle.relay_forms.specs.relay_machine.Machine as machine;
+ghost use Rattle.relay_forms.specs.relay_machine.Printed.{project_fault};
 ghost use Rattle.relay_forms.specs.Artifacts.{EndsLine};
 ghost use Rattle.relay_forms.specs.Files.{Files, contents_of, IsProject, IsFault, IsFirstAbsent, IsTheFaultOf, IsTheProjectOf};
 ghost use Rattle.relay_forms.specs.FormShown.{asked_shown, form_shown};
@@ -21,12 +21,10 @@ use crate::lines::answer_lines;
 use crate::project_fault::refuse;
 use crate::summary::put_summary;
 use plan_ir::Counts;
-use plan_project::Project;
 use relay_forms::{
-    Asked, Closed, Form, ScriptFault, Status, asked_by, name_at, open_project, put_artifacts,
-    read_script, rule_text,
+    Asked, Closed, Form, Project, ScriptFault, Sink, Source, Status, Vault, asked_by, name_at,
+    open_project, put_artifacts, read_script, rule_text,
 };
-use relay_io::{Sink, Source, Vault};
 use std::alloc::Global;
 
 /// Runs the program.

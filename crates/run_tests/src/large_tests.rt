@@ -2,9 +2,8 @@
 //! folds its lines afresh at each line does not.
 ghost use Rattle.std.specs.Prelude.{None};
 
-use plan_ir::{Counts, Words};
 use relay_io::{Failed, MemSink, MemSource, MemVault, Source};
-use relay_top::{Status, relay_top};
+use relay_top::{Counts, Status, Words, relay_top};
 use std::alloc::Global;
 use std::test::Fail;
 

@@ -1,8 +1,7 @@
 //! The top call over objects in memory.
 use crate::rows::{DONE, REFUSED, WATCH};
-use plan_ir::{Counts, Words};
 use relay_io::{MemSink, MemSource, MemVault};
-use relay_top::{Status, relay_top};
+use relay_top::{Counts, Status, Words, relay_top};
 use std::alloc::Global;
 use std::test::Fail;
 

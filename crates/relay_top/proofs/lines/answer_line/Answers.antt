@@ -2,8 +2,8 @@ use Rattle.std.proofs.Common.{◌≡◌, ◌≤◌, ◌+◌, ℕ, length, take, 
 use Rattle.relay_engine.specs.Steps.{IsStep}
 use Rattle.relay_forms.proofs.ArtifactLines.{lines_end}
 use Rattle.relay_forms.specs.Artifacts.{EndsLine, text_of_lines}
-use Rattle.relay_io.specs.Streams.{append}
-use Rattle.relay_machine.specs.Machine.{step}
+use Rattle.relay_forms.specs.relay_io.Streams.{append}
+use Rattle.relay_forms.specs.relay_machine.Machine.{step}
 use Rattle.relay_top.proofs.Written.{as_written}
 use Rattle.relay_top.proofs.lines.answer_line.Goals as goal
 use Rattle.relay_forms.specs.declared.put.Stop.{Stop}

@@ -1,12 +1,12 @@
 use Rattle.std.proofs.Common.{◌≡◌, ◌+◌, ◌++◌, ◌||◌, true, [], length, refl, sym, ap, subst, inl, inr, ◌∙◌, arith, take, length-append, length-take}
 use Rattle.std.proofs.lemmas.Bool.{true≢false, eqb-true}
-use Rattle.relay_io.specs.Streams.{append}
-use Rattle.relay_io.proofs.Streaming.{append-none}
+use Rattle.relay_forms.specs.relay_io.Streams.{append}
+use Rattle.relay_forms.proofs.relay_io_laws.Streaming.{append-none}
 use Rattle.plan_ir.specs.gql_plain.Limits.{max_line}
 use Rattle.relay_engine.specs.Kept.{Kept}
 use Rattle.relay_engine.specs.Stands.{StandsFor}
-use Rattle.relay_machine.specs.Machine.{beginning, step, refused_from}
-use Rattle.relay_machine.specs.Script.{lines_of, cut}
+use Rattle.relay_forms.specs.relay_machine.Machine.{beginning, step, refused_from}
+use Rattle.relay_forms.specs.relay_machine.Script.{lines_of, cut}
 use Rattle.relay_top.specs.Output.{output_text}
 use Rattle.relay_forms.specs.Projects.{project_shown}
 use Rattle.relay_engine.proofs.Beginnings.{begun_stands}

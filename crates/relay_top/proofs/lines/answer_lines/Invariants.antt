@@ -1,8 +1,8 @@
 use Rattle.std.proofs.Common.{◌≡◌, ◌≤◌, ◌+◌, ◌++◌, ◌||◌, true, ℕ, List, length}
-use Rattle.relay_io.specs.Streams.{append}
+use Rattle.relay_forms.specs.relay_io.Streams.{append}
 use Rattle.relay_engine.specs.Stands.{StandsFor}
-use Rattle.relay_machine.specs.Machine.{State, output_from, refused_from}
-use Rattle.relay_machine.specs.Script.{lines_of, cut}
+use Rattle.relay_forms.specs.relay_machine.Machine.{State, output_from, refused_from}
+use Rattle.relay_forms.specs.relay_machine.Script.{lines_of, cut}
 use Rattle.relay_forms.specs.Artifacts.{EndsLine}
 use Rattle.relay_top.specs.Output.{output_text, has_refusal}
 use Rattle.relay_forms.specs.Projects.{project_shown}

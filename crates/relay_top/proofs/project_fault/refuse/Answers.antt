@@ -1,7 +1,7 @@
 use Rattle.std.proofs.Common.{◌≡◌, ◌⊎◌, ◌≤◌, ◌+◌, ◌++◌, ℕ, [], ◌∷◌, length, take, drop, Option, refl, ap, inl, inr, ◌∙◌, arith, length-take}
 use Rattle.std.proofs.lemmas.List.{append-nil, take-append-drop}
-use Rattle.relay_io.specs.Streams.{append}
-use Rattle.relay_machine.specs.Printed.{project_fault}
+use Rattle.relay_forms.specs.relay_io.Streams.{append}
+use Rattle.relay_forms.specs.relay_machine.Printed.{project_fault}
 use Rattle.relay_top.proofs.project_fault.refuse.Goals as goal
 use Rattle.relay_forms.specs.Artifacts.{EndsLine}
 use Rattle.relay_forms.specs.declared.status.Status.{Status}

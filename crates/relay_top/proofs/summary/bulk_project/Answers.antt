@@ -1,5 +1,5 @@
 use Rattle.std.proofs.Common.{subst, ◌∙◌}
-use Rattle.plan_project.specs.Verdicts.{HaveTheFault}
+use Rattle.relay_forms.specs.plan_project.Verdicts.{HaveTheFault}
 use Rattle.relay_top.proofs.SummaryLaws.{never_refused, project_is}
 use Rattle.relay_top.proofs.summary.bulk_project.Goals as goal
 

@@ -1,6 +1,6 @@
 use Rattle.std.proofs.Common.{subst}
 use Rattle.relay_top.proofs.OneLine.{nothing_put}
-use Rattle.relay_machine.specs.Bulk.{bulk_summary}
+use Rattle.relay_forms.specs.relay_machine.Bulk.{bulk_summary}
 use Rattle.bulk_laws.specs.BulkProject.{bulk_project}
 use Rattle.relay_top.proofs.SummaryLaws.{summary_is}
 use Rattle.relay_top.proofs.summary.put_summary.Goals as goal

@@ -1,5 +1,5 @@
 use Rattle.std.proofs.Common.{◌-◌, ap, ◌∙◌}
-use Rattle.relay_machine.specs.Printed.{summary_line}
+use Rattle.relay_forms.specs.relay_machine.Printed.{summary_line}
 use Rattle.relay_top.proofs.OneLine.{whole, cut_off, not_begun, nothing_put}
 use Rattle.relay_top.proofs.summary.put_tally.Goals as goal
 

@@ -2,8 +2,8 @@ use Rattle.std.proofs.Common.{◌≡◌, ◌+◌, ℕ, Bool, true, false, length
 use Rattle.std.specs.Int.{from_bool}
 use Rattle.relay_engine.specs.Steps.{IsStep}
 use Rattle.relay_forms.specs.Artifacts.{text_of_lines}
-use Rattle.relay_machine.specs.Bulk.{line_count}
-use Rattle.relay_machine.specs.Machine.{step}
+use Rattle.relay_forms.specs.relay_machine.Bulk.{line_count}
+use Rattle.relay_forms.specs.relay_machine.Machine.{step}
 use Rattle.relay_top.proofs.Written.{as_written}
 use Rattle.relay_top.proofs.summary.tally_line.Goals as goal
 

@@ -2,8 +2,8 @@ use Rattle.std.proofs.Common.{◌≡◌, ◌<◌, ◌+◌, ◌-◌, length, cond
 use Rattle.relay_engine.proofs.Beginnings.{begun_stands}
 use Rattle.relay_engine.specs.Kept.{Kept}
 use Rattle.relay_engine.specs.Stands.{StandsFor}
-use Rattle.relay_machine.specs.Bulk.{Bulk, bulk_buffer, bulk_output, bulk_refusals, line_count, lines_from, next_line, refusals_from}
-use Rattle.relay_machine.specs.Machine.{beginning, output_from, step}
+use Rattle.relay_forms.specs.relay_machine.Bulk.{Bulk, bulk_buffer, bulk_output, bulk_refusals, line_count, lines_from, next_line, refusals_from}
+use Rattle.relay_forms.specs.relay_machine.Machine.{beginning, output_from, step}
 use Rattle.relay_top.proofs.BulkLaws.{bytes_all, bytes_first, bytes_next, lines_all, lines_first, lines_next, refusals_all, refusals_first, refusals_next}
 use Rattle.relay_top.proofs.summary.tally_script.Goals as goal
 use Rattle.relay_forms.specs.BulkShown.{bulk_shown}

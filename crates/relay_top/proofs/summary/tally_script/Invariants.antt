@@ -1,7 +1,7 @@
 use Rattle.std.proofs.Common.{◌≡◌, ◌+◌, ◌-◌, length}
 use Rattle.relay_engine.specs.Stands.{StandsFor}
-use Rattle.relay_machine.specs.Bulk.{bulk_buffer, bulk_output, bulk_refusals, line_count, lines_from, refusals_from}
-use Rattle.relay_machine.specs.Machine.{State, output_from}
+use Rattle.relay_forms.specs.relay_machine.Bulk.{bulk_buffer, bulk_output, bulk_refusals, line_count, lines_from, refusals_from}
+use Rattle.relay_forms.specs.relay_machine.Machine.{State, output_from}
 use Rattle.relay_top.proofs.summary.tally_script.Given as goal
 use Rattle.relay_forms.specs.BulkShown.{bulk_shown}
 use Rattle.relay_forms.specs.Projects.{project_shown}

@@ -1,5 +1,5 @@
 use Rattle.std.proofs.Common.{refl, subst, sym}
-use Rattle.relay_io.specs.Causes.{Rose}
+use Rattle.relay_forms.specs.relay_io.Causes.{Rose}
 use Rattle.relay_top.specs.Answers.{IsAnswered}
 use Rattle.relay_forms.specs.FormShown.{asked_shown}
 use Rattle.relay_top.proofs.top.answer.Goals as goal

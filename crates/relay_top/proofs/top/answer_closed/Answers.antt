@@ -1,5 +1,5 @@
 use Rattle.std.proofs.Common.{◌≡◌, codes, refl, sym, ap, subst, inl, inr, ◌∙◌}
-use Rattle.relay_io.specs.Causes.{Rose}
+use Rattle.relay_forms.specs.relay_io.Causes.{Rose}
 use Rattle.relay_top.specs.Answers.{unknown, refused}
 use Rattle.relay_forms.specs.Files.{IsTheFaultOf, name_of, name_under}
 use Rattle.relay_forms.specs.Reads.{IsClosedBy}

@@ -1,5 +1,5 @@
 use Rattle.std.proofs.Common.{subst, sym}
-use Rattle.relay_io.specs.Causes.{Rose}
+use Rattle.relay_forms.specs.relay_io.Causes.{Rose}
 use Rattle.relay_top.specs.Answers.{IsCall}
 use Rattle.relay_forms.specs.FormShown.{form_shown}
 use Rattle.relay_top.proofs.top.answer_form.Goals as goal

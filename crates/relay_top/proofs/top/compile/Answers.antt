@@ -1,5 +1,5 @@
 use Rattle.std.proofs.Common.{map, refl}
-use Rattle.relay_io.specs.Causes.{Rose}
+use Rattle.relay_forms.specs.relay_io.Causes.{Rose}
 use Rattle.relay_top.specs.Answers.{accepted}
 use Rattle.relay_forms.specs.Projects.{project_shown}
 use Rattle.relay_forms.specs.Words as forms

@@ -1,6 +1,6 @@
 use Rattle.std.proofs.Common.{◌≡◌, ℕ, Option, Some, None, subst, ◌∙◌}
 use Rattle.bulk_laws.proofs.Unrefused.{no_line_is_refused}
-use Rattle.relay_io.specs.Causes.{Rose}
+use Rattle.relay_forms.specs.relay_io.Causes.{Rose}
 use Rattle.relay_top.specs.Answers.{IsAnswered}
 use Rattle.relay_forms.specs.Files.{Files}
 use Rattle.relay_forms.specs.FormShown.{asked_shown}

@@ -1,5 +1,5 @@
 use Rattle.std.proofs.Common.{◌≡◌, ◌⊎◌, ◌↔◌, ◌≤◌, ◌+◌, ◌++◌, [], length, true, IsTrue, refl, subst, inl, inr, ◌∙◌, arith}
-use Rattle.relay_io.specs.Streams.{append}
+use Rattle.relay_forms.specs.relay_io.Streams.{append}
 use Rattle.plan_ir.specs.schema_tables.Types.{Text}
 use Rattle.relay_forms.specs.Artifacts.{EndsLine}
 use Rattle.relay_forms.specs.Scripts.{GivesNoScript, max_script}
