@@ -3,31 +3,11 @@
 
 ghost use Rattle.std.specs.Prelude.{◌≡◌, ◌⊎◌, IfErr};
 
-mod bulk;
-mod compiling;
-mod files;
-#[cfg(test)]
-mod large_tests;
-mod lines;
-mod project_fault;
-mod put;
-#[cfg(test)]
-mod rows;
-mod rules;
-mod script;
-mod status;
-mod summary;
-#[cfg(test)]
-mod tests;
-mod top;
-mod words;
-
-use plan_ir::Counts;
 use relay_io::{FileVault, StdSink, StdSource};
-use status::{Status, exit_of};
+pub use relay_top::relay_top;
+use relay_top::{Counts, Status, exit_of};
 use std::process::ExitCode;
 use std::{env, io};
-use top::relay_top;
 
 const USAGE: &str = "usage: relay_run run B SCHEMA DOC.. | compile SCHEMA DOC.. | bulk SEED COUNT";
 

@@ -1,0 +1,8 @@
+pub mod FirstLine
+pub mod Written
+pub mod Courses
+pub mod Owed
+pub mod Finished
+pub mod BulkLaws
+pub mod OneLine
+pub mod SummaryLaws

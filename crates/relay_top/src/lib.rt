@@ -1,0 +1,12 @@
+//! The top call, which the program makes: from words, files and a script to what is written and a
+//! status.
+#![tactic(auto)]
+
+mod lines;
+mod project_fault;
+mod summary;
+mod top;
+
+pub use plan_ir::{Counts, Words};
+pub use relay_forms::{Status, exit_of};
+pub use top::relay_top;
