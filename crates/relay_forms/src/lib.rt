@@ -17,6 +17,6 @@ pub use compiling::put_artifacts;
 pub use files::{Closed, name_at, open_project};
 pub use put::{Stop, bytes_of, put_line, put_lines};
 pub use rules::rule_text;
-pub use script::{ScriptFault, read_script};
+pub use script::{MAX_SCRIPT, PIECE, cut, first_line, room};
 pub use status::{Status, exit_of};
 pub use words::{Asked, Form, asked_by};
