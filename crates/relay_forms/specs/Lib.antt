@@ -11,3 +11,5 @@ pub mod Files
 pub mod Reads
 pub mod Scripts
 pub mod Artifacts
+pub mod Progress
+pub mod Puts

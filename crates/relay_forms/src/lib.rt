@@ -19,6 +19,6 @@ pub use plan_project::{CompileFault, Project, ProjectFile, compile};
 pub use put::{Stop, bytes_of, put_line, put_lines};
 pub use relay_io::{Sink, Source, Vault};
 pub use rules::rule_text;
-pub use script::{ScriptFault, read_script};
+pub use script::{MAX_SCRIPT, PIECE, cut, first_line, room};
 pub use status::{Status, exit_of};
 pub use words::{Asked, Form, asked_by};

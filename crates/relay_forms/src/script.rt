@@ -1,82 +1,48 @@
-//! Reading the script.
-ghost use Rattle.std.specs.Prelude.{◌≡◌, ◌⊎◌, ◌≤◌, ◌<◌, ◌+◌, ◌++◌, ℕ, List, [], length, IfOk, OnErr, vec_len};
-ghost use Rattle.std.specs.Io.KnownBytes.{IsAtEnd};
-ghost use Rattle.plan_ir.specs.gql_plain.Counted.{next_count};
-ghost use Rattle.relay_io.specs.Causes.{Rose};
-ghost use Rattle.relay_io.specs.Streams.{prepend};
-ghost use Rattle.relay_forms.specs.Scripts.{Gives, max_script};
+//! The bytes of a script: its lines, and how much of each is looked at.
+ghost use Rattle.std.specs.Prelude.{◌≡◌, ◌+◌, ◌-◌, ◌++◌, ◌∷◌, ◌==◌, None, take, vec_len, IfOk, IfSome};
+ghost use Rattle.std.specs.List.{position};
+ghost use Rattle.plan_ir.specs.gql_plain.Limits.{max_line};
+ghost use Rattle.relay_forms.specs.Scripts.{HasNoEnd};
 
-use plan_ir::NoMemory;
-use relay_io::Source;
+use plan_ir::{MAX_LINE, NoMemory};
 use std::alloc::Global;
 
 /// The most bytes that a script has: 1 GiB.
-const MAX_SCRIPT: usize = 1 << 30;
+pub const MAX_SCRIPT: usize = 1 << 30;
 
-/// The most bytes that are asked for at once.
-const PIECE: usize = 65_536;
-
-/// Why there is no script.
-#[derive(Clone, Copy, Debug, Drop)]
-pub enum ScriptFault {
-    /// A reading failed.
-    Failed,
-    /// The script has more than 1 GiB.
-    TooLong,
-    NoMemory,
-}
-
-/// The bytes of the script to its end. Of a script that is too long, 1 GiB and one byte are read.
-pub fn read_script<S: Source>(alloc: Global, script: &mut S) -> Result<Vec<u8>, ScriptFault>
-    ensures gives { (given : List ℕ) × (S.left script.old ≡ prepend given (S.left script.new)) × Gives given result
-        × (S.calls script.new ≤ S.calls script.old + length given + 1) }
-    ensures end { IfOk result (λ _. IsAtEnd (S.left script.new)) }
-    ensures failed { result ≡ Err ScriptFault.Failed → Rose (S.faults script.old) (S.faults script.new) }
-    ensures later { S.faults script.old ≤ S.faults script.new }
-{
-    let Ok(mut piece) = room(alloc, PIECE) else {
-        return Err(ScriptFault::NoMemory);
-    };
-    let mut bytes = Vec::new(alloc);
-    'pieces: while bytes.len() <= MAX_SCRIPT {
-        let ask = (MAX_SCRIPT + 1 - bytes.len()).min(piece.len());
-        match read_piece(script, &mut bytes, &mut piece[..ask]) {
-            Ok(0) => return Ok(bytes),
-            Ok(_) => {}
-            Err(fault) => return Err(fault),
-        }
-    }
-    Err(ScriptFault::TooLong)
-}
+/// The most bytes of a script that are asked for at once.
+pub const PIECE: usize = 65_536;
 
 /// Room for so many bytes.
-fn room(alloc: Global, count: usize) -> Result<Vec<u8>, NoMemory>
+pub fn room(alloc: Global, count: usize) -> Result<Vec<u8>, NoMemory>
     ensures { IfOk result (λ room. vec_len room ≡ count) }
 {
     Ok(vec![in alloc; 0u8; count]?)
 }
 
-/// Puts the next bytes of the script behind those that were read, and answers how many they are.
-fn read_piece<S: Source>(
-    script: &mut S,
-    bytes: &mut Vec<u8>,
-    piece: &mut [u8],
-) -> Result<usize, ScriptFault>
-    requires { 0 < length piece.old }
-    ensures given { (given : List ℕ) × (length given ≤ length piece.new) × (S.left script.old ≡ prepend given (S.left script.new))
-        × IfOk result (λ count. (count ≡ length given) × (bytes.new.items ≡ bytes.old.items ++ given))
-        × (result ≡ Err ScriptFault.Failed → given ≡ []) }
-    ensures form { OnErr result ((result ≡ Err ScriptFault.Failed) ⊎ (result ≡ Err ScriptFault.NoMemory)) }
-    ensures end { IfOk result (λ count. count ≡ 0 → IsAtEnd (S.left script.new)) }
-    ensures failed { result ≡ Err ScriptFault.Failed → Rose (S.faults script.old) (S.faults script.new) }
-    ensures later { S.faults script.old ≤ S.faults script.new }
-    ensures counted { S.calls script.new ≡ next_count (S.calls script.old) }
+/// Of bytes of a line, of which so many came before, as much as is looked at: of the whole line at most
+/// 8 MiB and one byte; takes no memory.
+pub fn cut(bytes: &[u8], before: usize) -> &[u8]
+    ensures { result.now ≡ take (max_line + 1 - before) bytes.now }
 {
-    let Ok(count) = script.read(piece) else {
-        return Err(ScriptFault::Failed);
-    };
-    let Ok(()) = bytes.extend_from_slice(&piece[..count]) else {
-        return Err(ScriptFault::NoMemory);
-    };
-    Ok(count)
+    &bytes[..bytes.len().min((MAX_LINE + 1).saturating_sub(before))]
+}
+
+/// The first line that ends in some bytes, without its LF, and the bytes behind it. None where no line
+/// ends in them; takes no memory.
+pub fn first_line(bytes: &[u8]) -> Option<(&[u8], &[u8])>
+    ensures some { IfSome result (λ found. (bytes.now ≡ found.0.now ++ 10 ∷ found.1.now) × HasNoEnd found.0.now) }
+    ensures none { result ≡ None → HasNoEnd bytes.now }
+{
+    match end_of_line(bytes) {
+        Some(end) => Some((&bytes[..end], &bytes[end + 1..])),
+        None => None,
+    }
+}
+
+/// Where the first LF stands.
+fn end_of_line(bytes: &[u8]) -> Option<usize>
+    ensures { result ≡ position (λ b. b == 10) bytes.now }
+{
+    bytes.iter().position(|b| *b == b'\n')
 }

@@ -1,4 +1,3 @@
-pub mod FirstLine
 pub mod Written
 pub mod Courses
 pub mod Owed

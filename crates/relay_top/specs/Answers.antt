@@ -109,6 +109,7 @@ pub record Took (form : Form) (course : Course) (status : Status) (before after 
   pub is : before ≡ prepend taken after
   pub read : IsReadIn form course taken
   pub end : IsTrue ended → IsAtEnd after
+  pub short : IsTrue ended → length taken ≤ max_script
   pub most : length taken ≤ max_script + 1
   pub over : length taken ≡ max_script + 1 → (status ≡ ScriptTooLong) ⊎ ((status ≡ WriteFault) ⊎ (status ≡ NoMemory))
   pub too_long : status ≡ ScriptTooLong → (length taken ≡ max_script + 1) × IsFalse ended
@@ -129,7 +130,7 @@ Answering form (accepted project) status vault script sink = AnsweringBy form st
 
 -- what is due was written whole
 abbrev pub IsWhole : Status → Type 0
-IsWhole status = IsDone status ⊎ (status ≡ ProjectRefused)
+IsWhole status = IsDone status ⊎ ((status ≡ ProjectRefused) ⊎ ((status ≡ ReadFault) ⊎ (status ≡ ScriptTooLong)))
 
 -- what a call took of the script and gave to the sink, and how often it called them at most
 pub record Ran (form : Form) (course : Course) (status : Status) (left left_now : Option Text) (reads reads_now : ℕ) (held held_now : Option Text) (puts puts_now : ℕ) : Type 0 where

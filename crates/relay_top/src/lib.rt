@@ -2,8 +2,8 @@
 //! status.
 #![tactic(auto)]
 
-mod lines;
 mod project_fault;
+mod session;
 mod summary;
 mod top;
 

@@ -17,13 +17,14 @@ ghost use Rattle.relay_forms.specs.Words as forms;
 ghost use Rattle.relay_top.specs.Answers as answers;
 ghost use Rattle.relay_top.specs.Output.{AddsPartOf};
 
-use crate::lines::answer_lines;
 use crate::project_fault::refuse;
+use crate::session::Session;
 use crate::summary::put_summary;
 use plan_ir::Counts;
+use relay_engine::{Engine, Versions};
 use relay_forms::{
-    Asked, Closed, Form, Project, ScriptFault, Sink, Source, Status, Vault, asked_by, name_at,
-    open_project, put_artifacts, read_script, rule_text,
+    Asked, Closed, Form, Project, Sink, Source, Status, Vault, asked_by, name_at, open_project,
+    put_artifacts, rule_text,
 };
 use std::alloc::Global;
 
@@ -36,6 +37,12 @@ pub fn relay_top<V: Vault, S: Source, K: Sink>(
     out: &mut K,
     steps: &mut Counts,
 ) -> Status
+    // All that follows of a form of words comes from this one relation.
+    ensures answered { (asked : forms.Asked) → forms.asked_by (map (λ w. w.now) words.now) ≡ Some asked
+        → answers.IsAnswered (V.files vault.old) asked result
+        (Rose (V.faults vault.old) (V.faults vault.new)) (Rose (S.faults script.old) (S.faults script.new)) (Rose (K.faults out.old) (K.faults out.new))
+        (V.calls vault.old) (V.calls vault.new) (S.left script.old) (S.left script.new) (S.calls script.old) (S.calls script.new)
+        (K.contents out.old) (K.contents out.new) (K.calls out.old) (K.calls out.new) }
     // The words are no form exactly where Usage is answered, and then nothing outside is called.
     ensures usage { (result ≡ Status.Usage) ↔ (forms.asked_by (map (λ w. w.now) words.now) ≡ None) }
     ensures untouched { result ≡ Status.Usage
@@ -68,6 +75,19 @@ pub fn relay_top<V: Vault, S: Source, K: Sink>(
         → (course : answers.Course) × answers.IsCourse (V.files vault.old) form course
         × (taken : List ℕ) × (ended : Bool) × answers.Took form course result (S.left script.old) (S.left script.new) taken ended
         × AddsPartOf (K.contents out.old) (K.contents out.new) (answers.due form course (take max_script taken) ended) }
+    // Where the script cannot be read further, or is too long, the answers of all lines are written whose LF was among the
+    // first 2^30 bytes that it gave, and no other.
+    ensures streamed { (form : forms.Form) → forms.asked_by (map (λ w. w.now) words.now) ≡ Some (forms.on_files form)
+        → (result ≡ Status.ReadFault) ⊎ (result ≡ Status.ScriptTooLong)
+        → (course : answers.Course) × answers.IsCourse (V.files vault.old) form course
+        × (taken : List ℕ) × answers.Took form course result (S.left script.old) (S.left script.new) taken false
+        × (K.contents out.new ≡ append (K.contents out.old) (answers.due form course (take max_script taken) false)) }
+    // A script is too long exactly where it gave 2^30 bytes and one more, and no put failed and no memory lacked after them.
+    ensures too_long { (form : forms.Form) → forms.asked_by (map (λ w. w.now) words.now) ≡ Some (forms.on_files form)
+        → (taken : List ℕ) × (S.left script.old ≡ prepend taken (S.left script.new))
+        × (result ≡ Status.ScriptTooLong → length taken ≡ max_script + 1)
+        × (length taken ≡ max_script + 1
+        → (result ≡ Status.ScriptTooLong) ⊎ (((result ≡ Status.WriteFault) × Rose (K.faults out.old) (K.faults out.new)) ⊎ (result ≡ Status.NoMemory))) }
     ensures ends { (result ≡ Status.WriteFault) ⊎ ((added : List ℕ) × (K.contents out.new ≡ append (K.contents out.old) added) × EndsLine added) }
     // What is outside is called so often, and files stay as they are.
     ensures files { V.files vault.new ≡ V.files vault.old }
@@ -239,7 +259,7 @@ fn answer_closed<K: Sink>(
     }
 }
 
-/// Runs the script, which is read whole before its first line is answered.
+/// Runs the script, each of whose lines is answered as soon as it is there.
 fn run_project<S: Source, K: Sink>(
     alloc: Global,
     project: Project,
@@ -256,10 +276,9 @@ fn run_project<S: Source, K: Sink>(
         → answers.Ran (forms.run buffer schema documents) (answers.accepted (project_shown project)) result (S.left script.old) (S.left script.new) (S.calls script.old) (S.calls script.new)
         (K.contents out.old) (K.contents out.new) (K.calls out.old) (K.calls out.new) }
 {
-    match read_script(alloc, script) {
-        Ok(bytes) => answer_lines(alloc, project, buffer, &bytes, out, steps),
-        Err(ScriptFault::Failed) => Status::ReadFault,
-        Err(ScriptFault::TooLong) => Status::ScriptTooLong,
-        Err(ScriptFault::NoMemory) => Status::NoMemory,
-    }
+    let Ok(engine) = Engine::new(alloc, project, buffer, Versions::new(alloc)) else {
+        return Status::NoMemory;
+    };
+    let mut session = Session::new(alloc, engine, 1);
+    session.answer_script(script, out, steps)
 }

@@ -1,8 +1,7 @@
 //! The top call over the large inputs, each of which ends within the time that a test has. A body that
 //! folds its lines afresh at each line does not.
-ghost use Rattle.std.specs.Prelude.{None};
-
-use relay_io::{Failed, MemSink, MemSource, MemVault, Source};
+use crate::running::Repeating;
+use relay_io::{MemSink, MemSource, MemVault};
 use relay_top::{Counts, Status, Words, relay_top};
 use std::alloc::Global;
 use std::test::Fail;
@@ -22,36 +21,6 @@ fn two_hundred_thousand_drawn_lines_are_summed_up(rt: HostRuntime) -> Result<(),
         b"{\"bytes\":25098535,\"lines\":200000,\"notices\":149940,\"refused\":0}\n".as_slice()
     );
     Ok(())
-}
-
-// Gives a text, and then a line so often, at most one of them a call. It tells no content, and never
-// fails.
-#[derive(Drop)]
-struct Repeating<'a> {
-    text: &'a [u8],
-    line: &'a [u8],
-    times: u64,
-    calls: u64,
-}
-
-impl<'a> Source for Repeating<'a> {
-    ghost left = { λ _. None };
-
-    ghost faults = { λ _. 0 };
-
-    ghost calls = { λ s. s.calls };
-
-    fn read(&mut self, into: &mut [u8]) -> Result<usize, Failed> {
-        self.calls = self.calls.saturating_add(1);
-        if self.text.is_empty() && self.times > 0 {
-            self.text = self.line;
-            self.times -= 1;
-        }
-        let count = self.text.len().min(into.len());
-        into[..count].copy_from_slice(&self.text[..count]);
-        self.text = &self.text[count..];
-        Ok(count)
-    }
 }
 
 const SCHEMA: &str = "type Query{me:User} type User{id:ID! age:Int}";
@@ -91,6 +60,7 @@ fn a_hundred_thousand_updates_are_told_to_a_watch(rt: HostRuntime) -> Result<(),
         text: WATCHED.as_bytes(),
         line: UPDATE.as_bytes(),
         times: 100_000,
+        end: b"",
         calls: 0,
     };
     let mut out = MemSink::new(alloc, 1 << 24, 65_536, Vec::new(alloc))?;

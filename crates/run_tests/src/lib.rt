@@ -5,6 +5,12 @@
 #[cfg(test)]
 mod large_tests;
 #[cfg(test)]
+mod payloads;
+#[cfg(test)]
 mod rows;
+#[cfg(test)]
+mod running;
+#[cfg(test)]
+mod streams;
 #[cfg(test)]
 mod tests;

@@ -96,6 +96,26 @@ query K($after:String){me{friends(first:2,after:$after)@connection(key:"K_friend
 {"n":5,"ok":"update"}
 {"data":{"me":{"friends":{"edges":[{"node":{"name":"Cy"}},{"node":{"name":"Bo"}}]}}},"missing":false,"n":6,"ok":"read","seen":["4","6","7","client:4:__K_friends_connection","client:4:__K_friends_connection:edges:1","client:4:__K_friends_connection:edges:2","client:root"]}
 =
+query K($after:String){me{friends(first:2,after:$after)@connection(key:"K_friends"){edges{node{name}}}}}
+
+{"do":"retain","handle":"h","op":"K"}
+{"do":"payload","handle":"h","response":{"data":{"me":{"id":"4","friends":{"edges":[{"cursor":"c1","node":{"id":"5","name":"Al"}},{"cursor":"c2","node":{"id":"6","name":"Bo"}}],"pageInfo":{"endCursor":"c2"}}}}}}
+{"do":"retain","handle":"i","op":"K","vars":{"after":"c2"}}
+{"do":"payload","handle":"i","response":{"data":{"me":{"id":"4","friends":{"edges":[{"cursor":"c3","node":{"id":"6","name":"Bo"}},{"cursor":"c4","node":{"id":"7","name":"Cy"}}],"pageInfo":{}}}}}}
+{"do":"read","handle":"h"}
+{"do":"retain","handle":"j","op":"K","vars":{"after":"c9"}}
+{"do":"payload","handle":"j","response":{"data":{"me":{"id":"4","friends":{"edges":[{"cursor":"c10","node":{"id":"8","name":"Di"}}],"pageInfo":{}}}}}}
+{"do":"read","handle":"h"}
+
+{"n":1,"ok":"retain"}
+{"n":2,"ok":"payload"}
+{"n":3,"ok":"retain"}
+{"n":4,"ok":"payload"}
+{"data":{"me":{"friends":{"edges":[{"node":{"name":"Al"}},{"node":{"name":"Bo"}},{"node":{"name":"Cy"}}]}}},"missing":false,"n":5,"ok":"read","seen":["4","5","6","7","client:4:__K_friends_connection","client:4:__K_friends_connection:edges:0","client:4:__K_friends_connection:edges:1","client:4:__K_friends_connection:edges:2","client:root"]}
+{"n":6,"ok":"retain"}
+{"n":7,"ok":"payload"}
+{"data":{"me":{"friends":{"edges":[{"node":{"name":"Al"}},{"node":{"name":"Bo"}},{"node":{"name":"Cy"}}]}}},"missing":false,"n":8,"ok":"read","seen":["4","5","6","7","client:4:__K_friends_connection","client:4:__K_friends_connection:edges:0","client:4:__K_friends_connection:edges:1","client:4:__K_friends_connection:edges:2","client:root"]}
+=
 query M{me{name friend{name}}} query N{me{friend{id}}}
 
 {"do":"retain","handle":"h","op":"M"}

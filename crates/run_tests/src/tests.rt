@@ -1,5 +1,8 @@
 //! The top call over objects in memory.
 use crate::rows::{DONE, REFUSED, WATCH};
+use crate::running::{
+    ANSWERS, CONNECTIONS, ONE, QUERY, SCHEMA, SCRIPT, files_of, one, parts_of, vault_of,
+};
 use relay_io::{MemSink, MemSource, MemVault};
 use relay_top::{Counts, Status, Words, relay_top};
 use std::alloc::Global;
@@ -155,43 +158,6 @@ fn words_compile_one_to_a_thousand_documents(rt: HostRuntime) -> Result<(), Fail
     Ok(())
 }
 
-const SCHEMA: &str = "type Query{me:User} type User{id:ID! name:String age:Int friend:User}";
-
-const QUERY: &str = "query Q{me{name}}";
-
-const SCRIPT: &str = "{\"do\":\"retain\",\"handle\":\"h\",\"op\":\"Q\"}\n\
-    {\"do\":\"payload\",\"handle\":\"h\",\"response\":{\"data\":{\"me\":{\"id\":\"4\",\"name\":\"Ann\"}}}}\n\
-    {\"do\":\"read\",\"handle\":\"h\"}\n";
-
-const ANSWERS: &str = "{\"n\":1,\"ok\":\"retain\"}\n{\"n\":2,\"ok\":\"payload\"}\n\
-    {\"data\":{\"me\":{\"name\":\"Ann\"}},\"missing\":false,\"n\":3,\"ok\":\"read\",\"seen\":[\"4\",\"client:root\"]}\n";
-
-// A schema and two documents.
-fn files_of(
-    alloc: Global,
-    schema: &str,
-    first: &[u8],
-    second: &str,
-) -> Result<Vec<(Words, Vec<u8>)>, Fail> {
-    let mut files = Vec::new(alloc);
-    files.push((
-        Words::new(alloc, "s.graphql")?,
-        schema.as_bytes().to_vec(alloc)?,
-    ))?;
-    files.push((Words::new(alloc, "d.graphql")?, first.to_vec(alloc)?))?;
-    files.push((
-        Words::new(alloc, "e.graphql")?,
-        second.as_bytes().to_vec(alloc)?,
-    ))?;
-    Ok(files)
-}
-
-// A vault of a schema and two documents.
-fn vault_of(alloc: Global, schema: &str, first: &[u8], second: &str) -> Result<MemVault, Fail> {
-    let files = files_of(alloc, schema, first, second)?;
-    Ok(MemVault::new(files, Vec::new(alloc)))
-}
-
 // What a script is answered over the files of a vault, from a source that gives so many bytes a
 // call, to a sink of which these calls fail; and what the sink then holds.
 fn run_of(
@@ -212,8 +178,6 @@ fn run_of(
     let status = relay_top(alloc, words, &mut vault, &mut source, &mut out, &mut steps);
     Ok((status, out.contents().to_vec(alloc)?))
 }
-
-const ONE: [&str; 4] = ["run", "10", "s.graphql", "d.graphql"];
 
 const TWO: [&str; 5] = ["run", "10", "s.graphql", "d.graphql", "e.graphql"];
 
@@ -338,15 +302,17 @@ fn a_file_that_is_absent_is_a_read_fault(rt: HostRuntime) -> Result<(), Fail> {
 }
 
 // The calls of the vault, of the script and of the sink that fail, none where there is a 0; and then
-// the answer, and how many lines the sink holds. The vault is called 3 times, the script 4 times (60,
-// 60 and the other bytes, and the end), and the sink 3 times.
+// the answer, and how many lines the sink holds. The vault is called 3 times, the script 4 times (60
+// bytes with one end of a line, 60 with another, the others with the third, and the end), and the sink
+// 3 times.
 const FAILING_CALLS: &str = "1 0 0 ReadFault 0\n\
     2 0 0 ReadFault 0\n\
     3 0 0 ReadFault 0\n\
     4 0 0 Done 3\n\
     0 1 0 ReadFault 0\n\
-    0 2 0 ReadFault 0\n\
-    0 4 0 ReadFault 0\n\
+    0 2 0 ReadFault 1\n\
+    0 3 0 ReadFault 2\n\
+    0 4 0 ReadFault 3\n\
     0 5 0 Done 3\n\
     0 0 1 WriteFault 0\n\
     0 0 2 WriteFault 1\n\
@@ -356,10 +322,6 @@ const FAILING_CALLS: &str = "1 0 0 ReadFault 0\n\
 // The number of a call, which is one digit.
 fn call_of(digit: u8) -> u64 {
     digit.saturating_sub(b'0') as u64
-}
-
-fn one(alloc: Global, call: u64) -> Result<Vec<u64>, Fail> {
-    Ok(vec![in alloc; call]?)
 }
 
 // The answer of a run of which these calls fail, and what the sink then holds.
@@ -476,22 +438,6 @@ fn bytes_that_are_no_text_are_refused(rt: HostRuntime) -> Result<(), Fail> {
     assert_eq!(rt; status, Status::ProjectRefused);
     assert_eq!(rt; text.as_slice(), refusal_of(alloc, "L7", "1")?.as_bytes());
     Ok(())
-}
-
-const CONNECTIONS: &str = "interface Node{id:ID!}
-    type Query{me:User node(id:ID!):Node team(size:Int):[User]}
-    type Mutation{rename(name:String!):User}
-    type User implements Node{id:ID! name:String age:Int friend:User address:Address tags:[Tag]
-      friends(first:Int,after:String,last:Int,before:String):UserConnection}
-    type Address{city:String} type Tag{text:String}
-    type UserConnection{edges:[UserEdge] pageInfo:PageInfo!} type UserEdge{cursor:String node:User}
-    type PageInfo{hasNextPage:Boolean! hasPreviousPage:Boolean! startCursor:String endCursor:String}";
-
-// The document, the script and the lines of a row.
-fn parts_of(row: &str) -> (&str, &str, &str) {
-    let (document, rest) = row.split_once("\n\n").unwrap_or(("", ""));
-    let (script, lines) = rest.split_once("\n\n").unwrap_or(("", ""));
-    (document, script, lines)
 }
 
 // What a script is answered over a document that may use connections, from a source that gives so
