@@ -7,4 +7,6 @@ mod large_tests;
 #[cfg(test)]
 mod rows;
 #[cfg(test)]
+mod streamed_tests;
+#[cfg(test)]
 mod tests;

@@ -340,14 +340,16 @@ fn a_file_that_is_absent_is_a_read_fault(rt: HostRuntime) -> Result<(), Fail> {
 
 // The calls of the vault, of the script and of the sink that fail, none where there is a 0; and then
 // the answer, and how many lines the sink holds. The vault is called 3 times, the script 4 times (60,
-// 60 and the other bytes, and the end), and the sink 3 times.
+// 60 and the other bytes, and the end; the first line ends in the first 60 bytes, the second one in the
+// next), and the sink 3 times.
 const FAILING_CALLS: &str = "1 0 0 ReadFault 0\n\
     2 0 0 ReadFault 0\n\
     3 0 0 ReadFault 0\n\
     4 0 0 Done 3\n\
     0 1 0 ReadFault 0\n\
-    0 2 0 ReadFault 0\n\
-    0 4 0 ReadFault 0\n\
+    0 2 0 ReadFault 1\n\
+    0 3 0 ReadFault 2\n\
+    0 4 0 ReadFault 3\n\
     0 5 0 Done 3\n\
     0 0 1 WriteFault 0\n\
     0 0 2 WriteFault 1\n\
