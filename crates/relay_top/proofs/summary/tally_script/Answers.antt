@@ -1,5 +1,4 @@
 use Rattle.std.proofs.Common.{◌≡◌, ◌<◌, ◌+◌, ◌-◌, length, cond, sym, ap, subst, ◌∙◌, arith}
-use Rattle.relay_engine.proofs.Beginnings.{begun_stands}
 use Rattle.relay_engine.specs.Kept.{Kept}
 use Rattle.relay_engine.specs.Stands.{StandsFor}
 use Rattle.relay_forms.specs.relay_machine.Bulk.{Bulk, bulk_buffer, bulk_output, bulk_refusals, line_count, lines_from, next_line, refusals_from}
@@ -15,12 +14,12 @@ lines-init c =
     let p = project_shown c.args.project in record {
       so_far = (
         beginning,
-        subst (λ k. StandsFor k p beginning) (sym c.in_ok-engine.ensures) (begun_stands c.args.project bulk_buffer),
+        c.in_ok-engine.ensures.stands,
         bytes_first p bulk_buffer (bulk_shown c.new-script.result) c.args.seed c.args.count c.new-script.ensures,
         lines_first p bulk_buffer (bulk_shown c.new-script.result) c.args.seed c.args.count c.new-script.ensures,
         refusals_first p bulk_buffer (bulk_shown c.new-script.result) c.args.seed c.args.count c.new-script.ensures,
       );
-      buffer = ap (λ (k : Kept). k.buffer) c.in_ok-engine.ensures;
+      buffer = ap (λ (k : Kept). k.buffer) c.in_ok-engine.ensures.begun;
     }
 
 pub lines-preserved : goal.lines-preserved

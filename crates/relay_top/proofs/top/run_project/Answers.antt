@@ -1,7 +1,6 @@
 use Rattle.std.proofs.Common.{◌≡◌, ◌+◌, [], false, refl, subst, sym, ap, inr, ◌∙◌, arith}
 use Rattle.relay_engine.specs.Kept.{Kept}
 use Rattle.relay_engine.specs.Stands.{StandsFor}
-use Rattle.relay_engine.proofs.Beginnings.{begun_stands}
 use Rattle.relay_forms.specs.Projects.{project_shown}
 use Rattle.relay_forms.specs.Progress.{start}
 use Rattle.relay_forms.specs.relay_machine.Machine.{beginning}
@@ -25,8 +24,8 @@ pub returns-clause-ran : goal.returns-clause-ran
 returns-clause-ran g c = λ schema documents.
     let p = project_shown c.args.project in
     let at : IsAt p c.args.buffer c.new-session.result (start beginning 1) = record {
-      stands = subst (λ k. StandsFor k p beginning) (sym (c.new-session.ensures.engine ∙ c.in-Ok.ensures)) (begun_stands c.args.project c.args.buffer);
-      buffer_is = ap (λ (k : Kept). k.buffer) (c.new-session.ensures.engine ∙ c.in-Ok.ensures);
+      stands = subst (λ k. StandsFor k p beginning) (sym c.new-session.ensures.engine) c.in-Ok.ensures.stands;
+      buffer_is = ap (λ (k : Kept). k.buffer) (c.new-session.ensures.engine ∙ c.in-Ok.ensures.begun);
       number = c.new-session.ensures.number;
       part = c.new-session.ensures.part;
       refused = c.new-session.ensures.refused;
