@@ -7,54 +7,54 @@ use std::alloc::Global;
 use std::test::Fail;
 
 const DOCUMENT: &str =
-    r#"query K($after:String){me{age friends(first:1,after:$after)@connection(key:"K_friends"){edges{node{name}}}}}"#;
+    r#"query K($after:String){me{age friends(first:1,after:$after)@connection(key:"K_friends"){edges{node{name}}}}} query A{me{age}}"#;
 
 const EVERY_EVENT: &str = r#"> {"do":"retain","handle":"h","op":"K"}
 {"n":1,"ok":"retain"}
+> {"do":"retain","handle":"i","op":"A"}
+{"n":2,"ok":"retain"}
 > {"do":"watch","watch":"w","handle":"h"}
-{"data":null,"missing":true,"n":2,"ok":"watch","seen":["client:root"]}
-> {"do":"watch","watch":"v","handle":"h"}
 {"data":null,"missing":true,"n":3,"ok":"watch","seen":["client:root"]}
+> {"do":"watch","watch":"v","handle":"i"}
+{"data":null,"missing":true,"n":4,"ok":"watch","seen":["client:root"]}
 > {"do":"payload","handle":"h","response":{"data":{"me":{"id":"4","age":5,"friends":{"edges":[{"cursor":"c1","node":{"id":"5","name":"Al"}}],"pageInfo":{"endCursor":"c1"}}}}},"updates":[{"create":{"id":"6","type":"User"}}]}
-{"n":4,"ok":"payload"}
-{"data":{"me":{"age":5,"friends":{"edges":[{"node":{"name":"Al"}}]}}},"missing":false,"n":4,"notice":"w","seen":["4","5","client:4:__K_friends_connection","client:4:__K_friends_connection:edges:0","client:root"]}
-{"data":{"me":{"age":5,"friends":{"edges":[{"node":{"name":"Al"}}]}}},"missing":false,"n":4,"notice":"v","seen":["4","5","client:4:__K_friends_connection","client:4:__K_friends_connection:edges:0","client:root"]}
+{"n":5,"ok":"payload"}
+{"data":{"me":{"age":5,"friends":{"edges":[{"node":{"name":"Al"}}]}}},"missing":false,"n":5,"notice":"w","seen":["4","5","client:4:__K_friends_connection","client:4:__K_friends_connection:edges:0","client:root"]}
+{"data":{"me":{"age":5}},"missing":false,"n":5,"notice":"v","seen":["4","client:root"]}
 > {"do":"begin","layer":"a","updates":[{"add":{"id":"4","field":"age","by":1}}]}
-{"n":5,"ok":"begin"}
-{"data":{"me":{"age":6,"friends":{"edges":[{"node":{"name":"Al"}}]}}},"missing":false,"n":5,"notice":"w","seen":["4","5","client:4:__K_friends_connection","client:4:__K_friends_connection:edges:0","client:root"]}
-{"data":{"me":{"age":6,"friends":{"edges":[{"node":{"name":"Al"}}]}}},"missing":false,"n":5,"notice":"v","seen":["4","5","client:4:__K_friends_connection","client:4:__K_friends_connection:edges:0","client:root"]}
+{"n":6,"ok":"begin"}
+{"data":{"me":{"age":6,"friends":{"edges":[{"node":{"name":"Al"}}]}}},"missing":false,"n":6,"notice":"w","seen":["4","5","client:4:__K_friends_connection","client:4:__K_friends_connection:edges:0","client:root"]}
+{"data":{"me":{"age":6}},"missing":false,"n":6,"notice":"v","seen":["4","client:root"]}
 > {"do":"update","updates":[{"add":{"id":"4","field":"age","by":1}}]}
-{"n":6,"ok":"update"}
-{"data":{"me":{"age":7,"friends":{"edges":[{"node":{"name":"Al"}}]}}},"missing":false,"n":6,"notice":"w","seen":["4","5","client:4:__K_friends_connection","client:4:__K_friends_connection:edges:0","client:root"]}
-{"data":{"me":{"age":7,"friends":{"edges":[{"node":{"name":"Al"}}]}}},"missing":false,"n":6,"notice":"v","seen":["4","5","client:4:__K_friends_connection","client:4:__K_friends_connection:edges:0","client:root"]}
-> {"do":"begin","layer":"b","updates":[{"add":{"id":"4","field":"age","by":1}}]}
-{"n":7,"ok":"begin"}
-{"data":{"me":{"age":8,"friends":{"edges":[{"node":{"name":"Al"}}]}}},"missing":false,"n":7,"notice":"w","seen":["4","5","client:4:__K_friends_connection","client:4:__K_friends_connection:edges:0","client:root"]}
-{"data":{"me":{"age":8,"friends":{"edges":[{"node":{"name":"Al"}}]}}},"missing":false,"n":7,"notice":"v","seen":["4","5","client:4:__K_friends_connection","client:4:__K_friends_connection:edges:0","client:root"]}
-> {"do":"revert","layer":"b"}
-{"n":8,"ok":"revert"}
-{"data":{"me":{"age":7,"friends":{"edges":[{"node":{"name":"Al"}}]}}},"missing":false,"n":8,"notice":"w","seen":["4","5","client:4:__K_friends_connection","client:4:__K_friends_connection:edges:0","client:root"]}
-{"data":{"me":{"age":7,"friends":{"edges":[{"node":{"name":"Al"}}]}}},"missing":false,"n":8,"notice":"v","seen":["4","5","client:4:__K_friends_connection","client:4:__K_friends_connection:edges:0","client:root"]}
+{"n":7,"ok":"update"}
+{"data":{"me":{"age":7,"friends":{"edges":[{"node":{"name":"Al"}}]}}},"missing":false,"n":7,"notice":"w","seen":["4","5","client:4:__K_friends_connection","client:4:__K_friends_connection:edges:0","client:root"]}
+{"data":{"me":{"age":7}},"missing":false,"n":7,"notice":"v","seen":["4","client:root"]}
 > {"do":"begin","layer":"b","updates":[{"add":{"id":"4","field":"age","by":0.5}}]}
-{"code":3,"error":"UpdateShape","n":9}
+{"code":3,"error":"UpdateShape","n":8}
+> {"do":"begin","layer":"b","updates":[{"set":{"id":"4","field":"age","value":1}}]}
+{"n":9,"ok":"begin"}
+{"data":{"me":{"age":1,"friends":{"edges":[{"node":{"name":"Al"}}]}}},"missing":false,"n":9,"notice":"w","seen":["4","5","client:4:__K_friends_connection","client:4:__K_friends_connection:edges:0","client:root"]}
+{"data":{"me":{"age":1}},"missing":false,"n":9,"notice":"v","seen":["4","client:root"]}
+> {"do":"revert","layer":"b"}
+{"n":10,"ok":"revert"}
+{"data":{"me":{"age":7,"friends":{"edges":[{"node":{"name":"Al"}}]}}},"missing":false,"n":10,"notice":"w","seen":["4","5","client:4:__K_friends_connection","client:4:__K_friends_connection:edges:0","client:root"]}
+{"data":{"me":{"age":7}},"missing":false,"n":10,"notice":"v","seen":["4","client:root"]}
 > {"do":"finish","layer":"a","updates":[{"delete_edge":{"id":"4","key":"K_friends","node":"5"}}]}
-{"n":10,"ok":"finish"}
-{"data":{"me":{"age":6,"friends":{"edges":[]}}},"missing":false,"n":10,"notice":"w","seen":["4","client:4:__K_friends_connection","client:root"]}
-{"data":{"me":{"age":6,"friends":{"edges":[]}}},"missing":false,"n":10,"notice":"v","seen":["4","client:4:__K_friends_connection","client:root"]}
+{"n":11,"ok":"finish"}
+{"data":{"me":{"age":6,"friends":{"edges":[]}}},"missing":false,"n":11,"notice":"w","seen":["4","client:4:__K_friends_connection","client:root"]}
+{"data":{"me":{"age":6}},"missing":false,"n":11,"notice":"v","seen":["4","client:root"]}
 > {"do":"collect"}
-{"dropped":2,"n":11,"ok":"collect","waiting":false}
+{"dropped":2,"n":12,"ok":"collect","waiting":false}
 > {"do":"read","handle":"h"}
-{"data":{"me":{"age":6,"friends":{"edges":[]}}},"missing":false,"n":12,"ok":"read","seen":["4","client:4:__K_friends_connection","client:root"]}
+{"data":{"me":{"age":6,"friends":{"edges":[]}}},"missing":false,"n":13,"ok":"read","seen":["4","client:4:__K_friends_connection","client:root"]}
 > {"do":"unwatch","watch":"w"}
-{"n":13,"ok":"unwatch"}
+{"n":14,"ok":"unwatch"}
 > {"do":"release","handle":"h"}
-{"code":9,"error":"HandleInUse","n":14,"name":"h"}
-> {"do":"unwatch","watch":"v"}
-{"n":15,"ok":"unwatch"}
+{"n":15,"ok":"release"}
 > {"do":"release","handle":"h"}
-{"n":16,"ok":"release"}
-> {"do":"release","handle":"h"}
-{"code":7,"error":"UnknownHandle","n":17,"name":"h"}
+{"code":7,"error":"UnknownHandle","n":16,"name":"h"}
+> {"do":"release","handle":"i"}
+{"code":9,"error":"HandleInUse","n":17,"name":"i"}
 "#;
 
 /// What an engine answers to a line, which it is given once more where memory is lacking.
