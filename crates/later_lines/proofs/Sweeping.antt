@@ -20,7 +20,8 @@ use Rattle.relay_machine.specs.relay_model.Collection.{collect, part_of}
 use Rattle.relay_machine.specs.relay_model.Reaches.{operation_reaches, whole_depth}
 use Rattle.relay_machine.specs.relay_model.Readings.{no_place}
 use Rattle.relay_machine.specs.relay_model.Responses.{whole_setting}
-use Rattle.relay_machine.proofs.Sweeps.{confirmed_after, same_swept, slot_at-sweep, ties_alone}
+use Rattle.relay_machine.proofs.Sweeps.{confirmed_after}
+use Rattle.plan_ir.proofs.store_model_laws.SweptSlots.{same_swept, slot_at-sweep, ties_alone}
 use Rattle.plan_ir.specs.schema_tables.Types.{Text, root}
 use Rattle.plan_ir.proofs.store_model_laws.Least.{In, each_from}
 use Rattle.plan_ir.proofs.store_model_laws.SameReach.{reach_same}

@@ -9,7 +9,8 @@ use Rattle.relay_engine.specs.Notices.{HasAnswered}
 use Rattle.relay_engine.specs.Operations.{HoldPlans}
 use Rattle.relay_engine.specs.Stands.{KeepsHandles, KeepsReleased, StandsFor}
 use Rattle.relay_engine.specs.declared.lines.Lines.{Lines}
-use Rattle.relay_machine.proofs.Sweeps.{confirmed_after, same_swept}
+use Rattle.relay_machine.proofs.Sweeps.{confirmed_after}
+use Rattle.plan_ir.proofs.store_model_laws.SweptSlots.{same_swept}
 use Rattle.relay_machine.specs.Machine.{Project, State, base, is_reached, last_of, retained, sweep_base}
 use Rattle.relay_machine.specs.Printed.{collect_line}
 use Rattle.store_layers.specs.Layered.{Layer, Layered, entries_of, swept, view_of}

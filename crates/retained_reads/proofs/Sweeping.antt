@@ -4,7 +4,7 @@ use Rattle.std.specs.List.{AllByRecursion}
 use Rattle.plan_ir.proofs.gql_plain_laws.Booleans.{or_true}
 use Rattle.plan_ir.specs.gql_plain.Order.{has_text}
 use Rattle.plan_project.specs.Projects.{IsAcceptedProject}
-use Rattle.relay_machine.proofs.Sweeps.{slot_at-sweep}
+use Rattle.plan_ir.proofs.store_model_laws.SweptSlots.{slot_at-sweep}
 use Rattle.relay_machine.specs.Machine.{Project, Retained, documents_of, is_reached, slots_of, sweep_of}
 use Rattle.relay_machine.specs.relay_model.Reaches.{operation_reaches}
 use Rattle.relay_machine.specs.relay_model.Readings.{no_place}

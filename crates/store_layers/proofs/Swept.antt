@@ -3,12 +3,10 @@ use Rattle.std.proofs.Common.{◌≡◌, ℕ, ◌+◌, ◌<◌, ◌≤◌, Bool,
 use Rattle.std.proofs.lemmas.List.{drop_all, drop_more, take_all}
 use Rattle.std.proofs.lemmas.List.Kept.{IsStrictlySortedBy-filter}
 use Rattle.std.proofs.lemmas.Map.Text.{is_eq-slice_cmp}
-use Rattle.std.proofs.lemmas.Map.Views.{any-filter_same}
-use Rattle.std.proofs.lemmas.Slice.Eq.{bytes_eq-Decides}
 use Rattle.std.specs.Cmp.Lexicographic.{slice_cmp, nat_list_cmp_total, nat_list_eq_equiv}
-use Rattle.std.specs.FinMap.{IsAntisymmetric, entries, entries_sorted, keys, remove, contains_key-keys, get-retain_keys, get-remove, same_map, slice_cmp-IsAntisymmetric, nat_cmp-IsAntisymmetric}
+use Rattle.std.specs.FinMap.{entries, entries_sorted, keys, remove, get-remove, same_map}
 use Rattle.std.specs.FinMap.Entries.{is_sorted, below_all}
-use Rattle.std.specs.List.{AllByRecursion, filter, list_any}
+use Rattle.std.specs.List.{AllByRecursion, filter}
 use Rattle.std.specs.List.Sorted.{IsStrictlySortedBy}
 use Rattle.std.specs.Ordering.{eq_by_cmp}
 use Rattle.store_update.specs.gql_plain.Order.{AreInOrder, has_text}
@@ -16,22 +14,16 @@ use Rattle.store_update.specs.store_record.Keys.{Text}
 use Rattle.store_update.specs.store_record.declared.record.Slot.{Slot}
 use Rattle.store_update.specs.store_model.Records.{Records, slot_at}
 use Rattle.store_update.specs.store_model.Sweeps.{sweep, dropped}
+use Rattle.store_update.proofs.store_model_laws.SweptSlots.{ties_alone, slot_at-sweep, has_text-dropped}
 use Rattle.store_layers.specs.Layered.{Layered, Layer, swept}
 
 abbrev order : Text → Text → Ordering
 order = slice_cmp nat_cmp
 
-ties_alone : IsAntisymmetric order
-ties_alone = slice_cmp-IsAntisymmetric nat_cmp-IsAntisymmetric
-
 tied : (id q : Text) → eq_by_cmp order q id ≡ bytes_eq id q
 tied id q = is_eq-slice_cmp q id ∙ nat_list_eq_equiv.symm q id
 
 -- ---- slots
-
--- what is kept stands as it stood, and every other id is absent
-pub slot_at-sweep : (keep : Text → Bool) (m : Records) (id : Text) → slot_at id (sweep keep m) ≡ cond (keep id) (slot_at id m) None
-slot_at-sweep keep m id = get-retain_keys m keep id (λ x e. ap keep (sym (ties_alone id x e)))
 
 pub slot_at-remove : (m : Records) (gone id : Text) → slot_at id (remove m gone) ≡ cond (bytes_eq gone id) None (slot_at id m)
 slot_at-remove m gone id = get-remove nat_list_cmp_total m gone id ∙ ap (λ b. cond b None (slot_at id m)) (tied gone id)
@@ -72,12 +64,6 @@ step_gone ids i id m n within is made =
 -- and at their end
 pub end_gone : (ids : List Text) (i : ℕ) (m : Records) → length ids ≤ i → m ≡ swept_of (drop i ids) m
 end_gone ids i m past = sym (ap (λ gone. swept_of gone m) (drop_all i ids past) ∙ none_gone m)
-
--- an id goes exactly if it is there and not kept
-pub has_text-dropped : (keep : Text → Bool) (m : Records) (id : Text) → has_text (dropped keep m) id ≡ (not (keep id) && is_some (slot_at id m))
-has_text-dropped keep m id =
-    any-filter_same (λ one. bytes_eq one id) (λ one. not (keep one)) (not (keep id)) (λ one e. ap (λ t. not (keep t)) ((bytes_eq-Decides one id).0 e)) (keys m)
-    ∙ ap (λ b. not (keep id) && b) (ap (λ test. list_any test (keys m)) (λ i one. sym (tied one id) i) ∙ sym (contains_key-keys m id))
 
 gone_or_absent : (kept : Bool) (s : Option Slot) → cond (not (not kept && is_some s)) s None ≡ cond kept s None
 gone_or_absent true s = refl

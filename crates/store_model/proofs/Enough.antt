@@ -11,11 +11,12 @@ use Rattle.store_record.specs.declared.record.Record.{Record}
 use Rattle.store_record.specs.declared.record.Slot.{Slot}
 use Rattle.store_record.specs.declared.record.Slot.TheVariants.{Deleted, Alive}
 use Rattle.store_model.proofs.Least.{Each, each_append, each_left, each_right, each_so}
+use Rattle.store_model.proofs.Looking.{live_same, below_same, live_edges_same, nodes_same, others_same, without_same, info_same}
 use Rattle.store_model.specs.Enough.{SameAt, LooksAreEnough}
 use Rattle.store_model.specs.Entries.{merge_all, apply, some_ids, some_id, Looks, no_looks, looks_and, asked_page, asked_by_cursor, asked_onto, asked_with_page, asked_of_parent, asked_by_page, asked_in_connection, connection_link, asked_by_edit, asked_by_command, asked_by_facts, asked_by_pages, asked_by_commands, asked_by_each, ids_of_all, looks, weights}
-use Rattle.store_model.specs.Merge.{link_under, links_of, edges_of, with_live, below, node_of, node_at, nodes_at, live_edges, new_edges, is_among, counter_of, edge_id, next_edge, make_edges, info_id, info_below, whole_info, taken_both, Kept, with_edges, replace_edges, with_info, page_after, others_than, nodes_of, page_before, has_cursor, is_null, onto_client, kept_connection, onto, with_page, of_parent, merge}
-use Rattle.store_model.specs.Records.{Records, slot_at, alive, live, with_slot, with_record, field_at, with_field, with_fact, record_of, put_fact, put}
-use Rattle.store_model.specs.Updates.{change_record, create_record, delete_record, connection_of, edge_of, edge_put, edge_inserted, edges_without, field_without, edge_deleted, insert_edge, delete_edge, act, act_all, add_to_field, link_or_null}
+use Rattle.store_model.specs.Merge.{link_under, links_of, edges_of, below, nodes_at, live_edges, new_edges, is_among, counter_of, edge_id, next_edge, make_edges, info_id, whole_info, taken_both, Kept, with_edges, replace_edges, with_info, page_after, others_than, nodes_of, page_before, has_cursor, is_null, onto_client, kept_connection, onto, with_page, of_parent, merge}
+use Rattle.store_model.specs.Records.{Records, slot_at, live, with_slot, with_record, field_at, with_field, with_fact, record_of, put_fact, put}
+use Rattle.store_model.specs.Updates.{change_record, create_record, delete_record, connection_of, edge_of, edge_put, edge_inserted, field_without, edge_deleted, insert_edge, delete_edge, act, act_all, add_to_field, link_or_null}
 use Rattle.store_model.specs.declared.command.Command.{Command}
 use Rattle.store_model.specs.declared.command.Command.TheVariants as C
 use Rattle.store_model.specs.declared.command.EdgeEdit.{EdgeEdit}
@@ -36,60 +37,6 @@ same_record : (id : Text) (r s : Record) (m n : Records) (q : Text) → r ≡ s 
 same_record id r s m n q e h = same_write id (Alive r) (Alive s) m n q (ap Alive e) h
 
 module _ (m n : Records) where
-  -- ---- looking
-
-  live_same : (id : Text) → SameAt m n id → live id m ≡ live id n
-  live_same id h = ap (option_and_then alive) h
-
-  below_same : (key : Text) (r : Record) → Each (SameAt m n) (some_id (link_under key r)) → below key r m ≡ below key r n
-  below_same key r h = at (link_under key r) h
-    where
-      at : (o : Option Text) → Each (SameAt m n) (some_id o) → option_and_then (with_live m) o ≡ option_and_then (with_live n) o
-      at None h = refl
-      at (Some id) h = ap (option_map (λ x. (id, x))) (live_same id h.0)
-
-  live_edges_same : (es : List (Option Text)) → Each (SameAt m n) (some_ids es) → live_edges m es ≡ live_edges n es
-  live_edges_same [] h = refl
-  live_edges_same (None ∷ es) h = live_edges_same es h
-  live_edges_same (Some id ∷ es) h =
-      let first = live_same id h.0 in
-      let rest = live_edges_same es h.1 in
-      λ i. unwrap_or (option_map (λ r. r ∷ rest i) (first i)) (rest i)
-
-  node_same : (e : Option Text) → Each (SameAt m n) (some_id e) → node_at m e ≡ node_at n e
-  node_same None h = refl
-  node_same (Some id) h = ap (option_and_then node_of) (live_same id h.0)
-
-  -- what holds of the ids of a list holds of the first, and of the others
-  first_of_ids : (e : Option Text) (es : List (Option Text)) → Each (SameAt m n) (some_ids (e ∷ es)) → Each (SameAt m n) (some_id e)
-  first_of_ids None es h = tt
-  first_of_ids (Some id) es h = (h.0, tt)
-
-  rest_of_ids : (e : Option Text) (es : List (Option Text)) → Each (SameAt m n) (some_ids (e ∷ es)) → Each (SameAt m n) (some_ids es)
-  rest_of_ids None es h = h
-  rest_of_ids (Some id) es h = h.1
-
-  nodes_same : (es : List (Option Text)) → Each (SameAt m n) (some_ids es) → nodes_at m es ≡ nodes_at n es
-  nodes_same [] h = refl
-  nodes_same (e ∷ es) h =
-      let first = node_same e (first_of_ids e es h) in
-      let rest = nodes_same es (rest_of_ids e es h) in
-      λ i. first i ∷ rest i
-
-  others_same : (nodes : List (Option Text)) (es : List (Option Text)) → Each (SameAt m n) (some_ids es) → others_than m nodes es ≡ others_than n nodes es
-  others_same nodes [] h = refl
-  others_same nodes (e ∷ es) h =
-      let first = node_same e (first_of_ids e es h) in
-      let rest = others_same nodes es (rest_of_ids e es h) in
-      λ i. cond (is_among nodes (first i)) (rest i) (e ∷ rest i)
-
-  without_same : (node : Text) (es : List (Option Text)) → Each (SameAt m n) (some_ids es) → edges_without m node es ≡ edges_without n node es
-  without_same node [] h = refl
-  without_same node (e ∷ es) h =
-      let first = node_same e (first_of_ids e es h) in
-      let rest = without_same node es (rest_of_ids e es h) in
-      λ i. cond (is_among (first i ∷ []) (Some node)) (rest i) (e ∷ rest i)
-
   -- ---- the merge
 
   edges_made : (connection : Text) (k : ℕ) (es fs : List Record) (a b : Records) (q : Text) → es ≡ fs → SameAt a b q → SameAt (make_edges connection k es a) (make_edges connection k fs b) q
@@ -99,15 +46,12 @@ module _ (m n : Records) where
       each_made k [] a b h = h
       each_made k (e ∷ es) a b h = each_made (next_edge k) es (with_record (edge_id connection k) e a) (with_record (edge_id connection k) e b) (same_record (edge_id connection k) e e a b q refl h)
 
-  info_same : (server : Record) → Each (SameAt m n) (some_id (link_under (codes "pageInfo") server)) → info_below server m ≡ info_below server n
-  info_same server h = ap (option_map (λ p. p.1)) (below_same (codes "pageInfo") server h)
-
   replaced_same : (h : HandleFact) (server : Record) (c : Kept) (a b : Records) (q : Text) → Each (SameAt m n) (some_id (link_under (codes "pageInfo") server)) → Each (SameAt m n) (some_ids (edges_of server))
       → SameAt a b q → SameAt (replace_edges h server c m a) (replace_edges h server c n b) q
   replaced_same h server c a b q info edges s =
-      let live_ones = live_edges_same (edges_of server) edges in
+      let live_ones = live_edges_same m n (edges_of server) edges in
       let new = ap (new_edges []) live_ones in
-      same_record (info_id c.id) _ _ _ _ q (ap (whole_info h.info_type) (info_same server info))
+      same_record (info_id c.id) _ _ _ _ q (ap (whole_info h.info_type) (info_same m n server info))
       (edges_made c.id c.next _ _ _ _ q new
       (same_record c.id _ _ a b q (ap (λ es. with_field (codes "pageInfo") (Link (info_id c.id)) (with_edges server c [] es [])) new) s))
 
@@ -123,23 +67,23 @@ module _ (m n : Records) where
   after_same : (server : Record) (c : Kept) (q : Text) → Each (SameAt m n) (some_id (link_under (codes "pageInfo") server)) → Each (SameAt m n) (some_ids (edges_of server)) → Each (SameAt m n) (some_ids (edges_of c.row))
       → SameAt m n (info_id c.id) → SameAt m n q → SameAt (page_after server c m) (page_after server c n) q
   after_same server c q info edges old own s =
-      let lives = live_edges_same (edges_of server) edges in
-      let nodes = nodes_same (edges_of c.row) old in
+      let lives = live_edges_same m n (edges_of server) edges in
+      let nodes = nodes_same m n (edges_of c.row) old in
       let new : new_edges (nodes_at m (edges_of c.row)) (live_edges m (edges_of server)) ≡ new_edges (nodes_at n (edges_of c.row)) (live_edges n (edges_of server)) = λ i. new_edges (nodes i) (lives i) in
-      with_info_same (info_id c.id) (codes "endCursor") (codes "hasNextPage") _ _ _ _ _ _ q (info_same server info) (live_same (info_id c.id) own)
+      with_info_same (info_id c.id) (codes "endCursor") (codes "hasNextPage") _ _ _ _ _ _ q (info_same m n server info) (live_same m n (info_id c.id) own)
       (edges_made c.id c.next _ _ _ _ q new (same_record c.id _ _ m n q (ap (λ es. with_edges server c (edges_of c.row) es []) new) s))
 
   before_same : (server : Record) (c : Kept) (q : Text) → Each (SameAt m n) (some_id (link_under (codes "pageInfo") server)) → Each (SameAt m n) (some_ids (edges_of server)) → Each (SameAt m n) (some_ids (edges_of c.row))
       → SameAt m n (info_id c.id) → SameAt m n q → SameAt (page_before server c m) (page_before server c n) q
   before_same server c q info edges old own s =
-      let lives = live_edges_same (edges_of server) edges in
+      let lives = live_edges_same m n (edges_of server) edges in
       let new = ap (new_edges []) lives in
       let left : others_than m (nodes_of (new_edges [] (live_edges m (edges_of server)))) (edges_of c.row) ≡ others_than n (nodes_of (new_edges [] (live_edges n (edges_of server)))) (edges_of c.row)
-      = others_same (nodes_of (new_edges [] (live_edges m (edges_of server)))) (edges_of c.row) old ∙ ap (λ es. others_than n (nodes_of es) (edges_of c.row)) new in
+      = others_same m n (nodes_of (new_edges [] (live_edges m (edges_of server)))) (edges_of c.row) old ∙ ap (λ es. others_than n (nodes_of es) (edges_of c.row)) new in
       let row : with_edges server c [] (new_edges [] (live_edges m (edges_of server))) (others_than m (nodes_of (new_edges [] (live_edges m (edges_of server)))) (edges_of c.row))
       ≡ with_edges server c [] (new_edges [] (live_edges n (edges_of server))) (others_than n (nodes_of (new_edges [] (live_edges n (edges_of server)))) (edges_of c.row))
       = λ i. with_edges server c [] (new i) (left i) in
-      with_info_same (info_id c.id) (codes "startCursor") (codes "hasPreviousPage") _ _ _ _ _ _ q (info_same server info) (live_same (info_id c.id) own)
+      with_info_same (info_id c.id) (codes "startCursor") (codes "hasPreviousPage") _ _ _ _ _ _ q (info_same m n server info) (live_same m n (info_id c.id) own)
       (edges_made c.id c.next _ _ _ _ q new (same_record c.id _ _ m n q row s))
 
   -- all that is asked for has the same slot in both
@@ -174,7 +118,7 @@ module _ (m n : Records) where
   own_info true info server row h = h.0.0
 
   has_same : (key : Text) (value : Plain) (info : Text) → SameAt m n info → has_cursor key value (live info m) ≡ has_cursor key value (live info n)
-  has_same key value info h = ap (has_cursor key value) (live_same info h)
+  has_same key value info h = ap (has_cursor key value) (live_same m n info h)
 
   -- a step that asks for the same and leaves the same slots
   abbrev pub Steps : Looks → Looks → Records → Records → Type 0
@@ -234,7 +178,7 @@ module _ (m n : Records) where
   page_same h parent None looked = (refl, λ q s. same_record h.parent _ _ m n q refl s)
   page_same h parent (Some server) looked =
       let link = some_id (link_under h.handle_key parent) in
-      let e = below_same h.handle_key parent (looks_left link (asked_onto h server.1 (below h.handle_key parent m) m) looked) in
+      let e = below_same m n h.handle_key parent (looks_left link (asked_onto h server.1 (below h.handle_key parent m) m) looked) in
       let inner = onto_same h server.1 parent (below h.handle_key parent m) (looks_right link (asked_onto h server.1 (below h.handle_key parent m) m) looked) in (
         ap (looks_and link) (inner.0 ∙ ap (λ o. asked_onto h server.1 o n) e),
         λ q s. subst (λ o. SameAt (onto h server.1 parent (below h.handle_key parent m) m) (onto h server.1 parent o n) q) e (inner.1 q s),
@@ -244,7 +188,7 @@ module _ (m n : Records) where
   parent_same h None looked = (refl, λ q s. s)
   parent_same h (Some parent) looked =
       let link = some_id (link_under h.field_key parent) in
-      let e = below_same h.field_key parent (looks_left link (asked_with_page h parent (below h.field_key parent m) m) looked) in
+      let e = below_same m n h.field_key parent (looks_left link (asked_with_page h parent (below h.field_key parent m) m) looked) in
       let inner = page_same h parent (below h.field_key parent m) (looks_right link (asked_with_page h parent (below h.field_key parent m) m) looked) in (
         ap (looks_and link) (inner.0 ∙ ap (λ o. asked_with_page h parent o n) e),
         λ q s. subst (λ o. SameAt (with_page h parent (below h.field_key parent m) m) (with_page h parent o n) q) e (inner.1 q s),
@@ -252,7 +196,7 @@ module _ (m n : Records) where
 
   merge_same : (h : HandleFact) → SameLooks (asked_by_page h m) → Steps (asked_by_page h m) (asked_by_page h n) (merge h m) (merge h n)
   merge_same h looked =
-      let e = live_same h.parent looked.0.0 in
+      let e = live_same m n h.parent looked.0.0 in
       let inner = parent_same h (live h.parent m) (looks_right (h.parent ∷ []) (asked_of_parent h (live h.parent m) m) looked) in (
         ap (looks_and (h.parent ∷ [])) (inner.0 ∙ ap (λ o. asked_of_parent h o n) e),
         λ q s. subst (λ o. SameAt (of_parent h (live h.parent m) m) (of_parent h o n) q) e (inner.1 q s),
@@ -261,21 +205,21 @@ module _ (m n : Records) where
   -- ---- commands
 
   changed_same : (id : Text) (change : Record → Record) → SameAt m n id → (q : Text) → SameAt m n q → SameAt (change_record id change m) (change_record id change n) q
-  changed_same id change own q s = subst (λ o. SameAt (change_record id change m) (unwrap_or (option_map (λ r. with_record id (change r) n) o) n) q) (live_same id own) (at (live id m))
+  changed_same id change own q s = subst (λ o. SameAt (change_record id change m) (unwrap_or (option_map (λ r. with_record id (change r) n) o) n) q) (live_same m n id own) (at (live id m))
     where
       at : (o : Option Record) → SameAt (unwrap_or (option_map (λ r. with_record id (change r) m) o) m) (unwrap_or (option_map (λ r. with_record id (change r) n) o) n) q
       at None = s
       at (Some r) = same_record id (change r) (change r) m n q refl s
 
   created_same : (id of : Text) → SameAt m n id → (q : Text) → SameAt m n q → SameAt (create_record (live id m) id of m) (create_record (live id n) id of n) q
-  created_same id of own q s = subst (λ o. SameAt (create_record (live id m) id of m) (create_record o id of n) q) (live_same id own) (at (live id m))
+  created_same id of own q s = subst (λ o. SameAt (create_record (live id m) id of m) (create_record o id of n) q) (live_same m n id own) (at (live id m))
     where
       at : (o : Option Record) → SameAt (create_record o id of m) (create_record o id of n) q
       at None = same_record id (record_of of) (record_of of) m n q refl s
       at (Some r) = s
 
   deleted_same : (id : Text) → SameAt m n id → (q : Text) → SameAt m n q → SameAt (delete_record (live id m) id m) (delete_record (live id n) id n) q
-  deleted_same id own q s = subst (λ o. SameAt (delete_record (live id m) id m) (delete_record o id n) q) (live_same id own) (at (live id m))
+  deleted_same id own q s = subst (λ o. SameAt (delete_record (live id m) id m) (delete_record o id n) q) (live_same m n id own) (at (live id m))
     where
       at : (o : Option Record) → SameAt (delete_record o id m) (delete_record o id n) q
       at None = s
@@ -283,16 +227,16 @@ module _ (m n : Records) where
 
   connection_same : (e : EdgeEdit) → SameLooks (asked_by_edit e m) → connection_of e m ≡ connection_of e n
   connection_same e looked =
-      at (live e.id m) looked.0.1 ∙ ap (option_and_then (λ parent. below (field_key (handle_name e.key) e.filters) parent n)) (live_same e.id looked.0.0)
+      at (live e.id m) looked.0.1 ∙ ap (option_and_then (λ parent. below (field_key (handle_name e.key) e.filters) parent n)) (live_same m n e.id looked.0.0)
     where
       at : (o : Option Record) → Each (SameAt m n) (connection_link e o)
           → option_and_then (λ parent. below (field_key (handle_name e.key) e.filters) parent m) o ≡ option_and_then (λ parent. below (field_key (handle_name e.key) e.filters) parent n) o
       at None h = refl
-      at (Some parent) h = below_same (field_key (handle_name e.key) e.filters) parent h
+      at (Some parent) h = below_same m n (field_key (handle_name e.key) e.filters) parent h
 
   edit_same : (e : EdgeEdit) → SameLooks (asked_by_edit e m) → asked_by_edit e m ≡ asked_by_edit e n
   edit_same e looked =
-      let own = live_same e.id looked.0.0 in
+      let own = live_same m n e.id looked.0.0 in
       let connection = connection_same e looked in
       λ i. record { ids = e.id ∷ connection_link e (own i); edges = asked_in_connection (connection i) }
 
@@ -307,7 +251,7 @@ module _ (m n : Records) where
       at : (o : Option (Text × Record)) → Each (SameAt m n) (asked_in_connection o) → SameAt (edge_inserted front e o m) (edge_inserted front e o n) q
       at None h = s
       at (Some c) h =
-          subst (λ nodes. SameAt (edge_inserted front e (Some c) m) (cond {A = Records} (is_among nodes (Some e.node)) n (edge_put front e c n)) q) (nodes_same (edges_of c.1) h)
+          subst (λ nodes. SameAt (edge_inserted front e (Some c) m) (cond {A = Records} (is_among nodes (Some e.node)) n (edge_put front e c n)) q) (nodes_same m n (edges_of c.1) h)
           (either c (is_among (nodes_at m (edges_of c.1)) (Some e.node)))
 
   delete_same : (e : EdgeEdit) → SameLooks (asked_by_edit e m) → (q : Text) → SameAt m n q → SameAt (delete_edge e m) (delete_edge e n) q
@@ -320,7 +264,7 @@ module _ (m n : Records) where
       by_field c None h = s
       by_field c (Some (Leaf value)) h = same_record c.0 _ _ m n q refl s
       by_field c (Some (Link id)) h = same_record c.0 _ _ m n q refl s
-      by_field c (Some (Links ids)) h = same_record c.0 _ _ m n q (ap (λ es. with_field (codes "edges") (Links es) c.1) (without_same e.node ids h)) s
+      by_field c (Some (Links ids)) h = same_record c.0 _ _ m n q (ap (λ es. with_field (codes "edges") (Links es) c.1) (without_same m n e.node ids h)) s
 
       at : (o : Option (Text × Record)) → Each (SameAt m n) (asked_in_connection o) → SameAt (edge_deleted e o m) (edge_deleted e o n) q
       at None h = s

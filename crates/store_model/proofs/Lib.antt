@@ -21,6 +21,7 @@ pub mod Joins
 pub mod Kept
 pub mod LikeLaws
 pub mod LookedKeys
+pub mod Looking
 pub mod Merged
 pub mod MergeRows
 pub mod PayloadRows
@@ -31,6 +32,7 @@ pub mod SameRead
 pub mod SameSlots
 pub mod Seated
 pub mod Seats
+pub mod SweptSlots
 pub mod Valid
 pub mod WalkRows
 pub mod Widest

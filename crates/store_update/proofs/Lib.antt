@@ -1,3 +1,4 @@
+pub use Rattle.store_conn.proofs.store_model_laws
 pub mod Changes
 pub mod Entries
 pub mod Equal
