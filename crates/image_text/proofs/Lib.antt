@@ -1,0 +1,3 @@
+pub use Rattle.image_marks.proofs as image_marks_laws
+mod LineExamples
+pub mod RowLaws
