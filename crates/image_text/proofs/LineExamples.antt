@@ -1,9 +1,9 @@
 -- A worked image.
-use Rattle.std.proofs.Common.{◌≡◌, ◌++◌, [], ◌∷◌, codes, Some, None, refl}
+use Rattle.std.proofs.Common.{◌≡◌, [], ◌∷◌, codes, Some, refl}
 use Rattle.store_model.specs.gql_plain.declared.plain.Plain.TheVariants as P
 use Rattle.serde_json.proofs.OnLiterals.{serde_json_on_literals}
 use Rattle.std.specs.Fmt.{digits}
-use Rattle.image_marks.specs.store_record.declared.field.Field.TheVariants.{Leaf, Link, Links}
+use Rattle.image_marks.specs.store_record.declared.field.Field.TheVariants.{Leaf, Link}
 use Rattle.image_text.specs.Lines.{image_text}
 use Rattle.image_text.specs.declared.image.Image.{Image}
 

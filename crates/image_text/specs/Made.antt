@@ -48,7 +48,7 @@ pub record AreFactsMade (facts : List Fact) : Type 0 where
   pub are : facts_of rows ≡ facts
   pub order : AreFactRows rows
   pub fields : HaveFieldsInOrder rows
-  pub values : AllByRecursion (λ (r : FactRow). AreFieldsMade r.fields) rows
+  pub values : AllByRecursion (λ (f : Fact). IsFieldMade f.value) facts
 
 abbrev pub IsPageMade : HandleFact → Type 0
 IsPageMade h = IsValue (tree_of h.after) × IsValue (tree_of h.before)

@@ -42,7 +42,8 @@ fn write_fact(
 
 /// The fields of a row, the name of its type among them.
 fn named_fields(alloc: Global, row: &FactRow) -> Result<Fields, NoMemory>
-    ensures { IfOk result (λ fields. fields ≡ fields_of row.now) }
+    ensures named { IfOk result (λ fields. fields ≡ fields_of row.now) }
+    ensures order { OnOk result (AreInOrder (keys_of row.now.fields)) }
 {
     let key = Words::new(alloc, "__typename")?;
     let name = row.type_name.copy()?;
@@ -74,7 +75,6 @@ fn write_row(alloc: Global, out: Vec<u8>, row: &FactRow) -> Result<Vec<u8>, NoMe
     ensures made { OnOk result (AllByRecursion (λ (f : fact.Fact). made.IsFieldMade f.value) (facts_of_row row.now)) }
     ensures order { OnOk result (AreInOrder (keys_of row.now.fields)) }
 {
-    drop(row.fields.as_slice());
     let fields = named_fields(alloc, row)?;
     Ok(write_facts_at(alloc, out, &row.id, &fields)?)
 }

@@ -1,10 +1,10 @@
-use Rattle.std.proofs.Common.{◌≡◌, ◌∷◌, ◌++◌, [], refl, sym, ap, subst, ◌∙◌, append_assoc, append-nil}
+use Rattle.std.proofs.Common.{◌≡◌, ◌∷◌, ◌++◌, [], sym, ap, subst, ◌∙◌, append_assoc, append-nil}
 use Rattle.std.specs.Str.{IsUtf8}
-use Rattle.std.proofs.lemmas.Str.{IsUtf8-append, IsUtf8-from_is_utf8}
+use Rattle.std.proofs.lemmas.Str.{IsUtf8-append}
 use Rattle.json.specs.Print.{print}
 use Rattle.store_model.proofs.gql_plain_laws.Tokens.{print-tree_tokens}
 use Rattle.image_text.specs.Lines.{inner, row_line, row_text}
-use Rattle.image_text.proofs.RowLaws.{ended}
+use Rattle.image_text.proofs.RowLaws.{ended, lf_utf8}
 use Rattle.image_text.proofs.row.end_row.Goals as goal
 
 pub returns : goal.returns
@@ -18,5 +18,5 @@ returns c before items is =
       text = put ∙ ap (λ bs. bs ++ 10 ∷ []) shown ∙ append_assoc before (row_text items) (10 ∷ []) ∙ ap (λ bs. before ++ bs) (sym (append-nil (row_line items)));
       utf8 = λ h.
           subst IsUtf8 (sym (put ∙ ap (λ bs. bs ++ 10 ∷ []) shown))
-          (IsUtf8-append (before ++ row_text items) (10 ∷ []) (IsUtf8-append before (row_text items) h (subst IsUtf8 text c.into_inner-out.ensures.utf8)) (IsUtf8-from_is_utf8 (10 ∷ []) refl));
+          (IsUtf8-append (before ++ row_text items) (10 ∷ []) (IsUtf8-append before (row_text items) h (subst IsUtf8 text c.into_inner-out.ensures.utf8)) lf_utf8);
     }

@@ -1,6 +1,5 @@
 use Rattle.std.proofs.Common.{◌∙◌}
 use Rattle.store_model.specs.gql_plain.Shown.{tree_of}
-use Rattle.image_text.specs.Lines.{pairs as object_of}
 use Rattle.image_text.proofs.RowLaws.{marks_put}
 use Rattle.image_text.proofs.row.put_marks.Goals as goal
 

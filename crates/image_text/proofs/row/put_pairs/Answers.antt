@@ -1,5 +1,4 @@
 use Rattle.std.proofs.Common.{◌∙◌}
-use Rattle.store_model.specs.gql_plain.Shown.{tree_of}
 use Rattle.image_text.specs.Lines.{pairs as object_of}
 use Rattle.image_text.proofs.RowLaws.{marks_put}
 use Rattle.image_text.proofs.row.put_pairs.Goals as goal

@@ -1,6 +1,6 @@
 use Rattle.std.proofs.Common.{map}
-use Rattle.store_record.specs.Keys.{Text}
-use Rattle.store_record.specs.declared.field.Field.{Field}
+use Rattle.image_marks.specs.store_record.Keys.{Text}
+use Rattle.image_marks.specs.store_record.declared.field.Field.{Field}
 use Rattle.image_text.proofs.RowLaws.{Carries, Continues}
 use Rattle.image_text.specs.Lines.{field_row}
 use Rattle.image_text.specs.Made.{IsFieldMade}
