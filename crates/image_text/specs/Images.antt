@@ -8,6 +8,8 @@ use Rattle.store_model.specs.gql_plain.Equal.{tree_eq}
 use Rattle.store_model.specs.gql_plain.Names.{is_name}
 use Rattle.store_model.specs.gql_plain.Order.{has_text, member_at}
 use Rattle.store_model.specs.gql_plain.ToJson.{data_of}
+use Rattle.store_model.specs.gql_plain.declared.plain.Plain.{Plain}
+use Rattle.store_model.specs.gql_plain.declared.plain.Plain.TheVariants as P
 use Rattle.image_marks.specs.store_record.Keys.{Text, root}
 use Rattle.image_marks.specs.store_record.declared.field.Field.{Field}
 use Rattle.image_marks.specs.store_record.declared.field.Field.TheVariants.{Leaf, Link, Links}
@@ -15,6 +17,7 @@ use Rattle.image_marks.specs.store_record.declared.record.Record.{Record}
 use Rattle.store_model.specs.Events.{command_of, is_short, is_there}
 use Rattle.store_model.specs.Records.{typename}
 use Rattle.store_model.specs.declared.command.Command.{Command}
+use Rattle.store_model.specs.declared.command.Command.TheVariants as C
 use Rattle.store_model.specs.declared.entry.Entry.{Entry}
 use Rattle.store_model.specs.declared.event.Part.{Part}
 use Rattle.store_model.specs.declared.facts.Fact.{Fact}
@@ -86,9 +89,29 @@ abbrev pub is_same_command : Command → Option Command → Bool
 is_same_command c None = false
 is_same_command c (Some d) = tree_eq (command_tree d) (command_tree c)
 
+abbrev pub is_null_value : Plain → Bool
+is_null_value P.Null = true
+is_null_value (P.Bool b) = false
+is_null_value (P.Int z) = false
+is_null_value (P.Text s) = false
+is_null_value (P.List ts) = false
+is_null_value (P.Tree ms) = false
+
+-- where edges are taken out, the edit names no type and no cursor of an edge: its object has no keys for them
+abbrev pub is_bare : Command → Bool
+is_bare (C.Set id field args value) = true
+is_bare (C.Add id field args by) = true
+is_bare (C.Link id field args to) = true
+is_bare (C.Links id field args to) = true
+is_bare (C.Create id of) = true
+is_bare (C.Delete id) = true
+is_bare (C.AppendNode e) = true
+is_bare (C.PrependNode e) = true
+is_bare (C.DeleteEdge e) = bytes_eq e.edge_type [] && is_null_value e.cursor
+
 -- the reader of a script's lines takes the command
 abbrev pub is_given : Command → Bool
-is_given c = is_same_command c (command_of (data_of (command_tree c)))
+is_given c = is_bare c && is_same_command c (command_of (data_of (command_tree c)))
 
 abbrev pub is_entry : Entry → Bool
 is_entry e = list_all is_fact e.facts.facts && list_all (is_page e.facts.facts) e.facts.handles && list_all is_given e.commands
