@@ -2,7 +2,8 @@
 """peaks.py [PROGRAM] [SMALL LARGE]: the most memory that scripts of SMALL and of LARGE million bytes take: 2 and 200 where they are not given.
 
 Both scripts have the same store: one operation, one payload, and then updates of one record, so that their lines differ in number alone.
-Prints for each script its bytes and lines, the most resident memory, and the time by the clock.
+Prints for each script its bytes and lines, the most resident memory, and the time by the clock. The memory is what the system says of the process,
+asked every hundredth of a second while it runs.
 """
 import os
 import subprocess
@@ -30,6 +31,15 @@ def write(path, size):
             done, lines = done + file.write(update(lines)), lines + 1
     return done, lines
 
+def peak_of(run):
+    """The most resident memory of a process until it ends, in MiB."""
+    peak = 0
+    while run.poll() is None:
+        with open(f"/proc/{run.pid}/status", encoding="utf-8") as file:
+            peak = max([peak, *(int(line.split()[1]) for line in file if line.startswith("VmHWM"))])
+        time.sleep(0.01)
+    return peak / 1024
+
 def main():
     program = os.path.realpath(sys.argv[1] if len(sys.argv) > 1 else PROGRAM)
     sizes = [float(it) for it in sys.argv[2:]] or [2, 200]
@@ -43,13 +53,13 @@ def main():
             begun = time.perf_counter()
             with open(f"{room}/script", "rb") as script, open(f"{room}/out", "wb") as out:
                 run = subprocess.Popen(words, stdin=script, stdout=out)
-                _, status, used = os.wait4(run.pid, 0)
+                peak = peak_of(run)
             taken = time.perf_counter() - begun
             with open(f"{room}/out", "rb") as out:
                 answers = sum(1 for _ in out)
-            if status or answers != lines:
-                sys.exit(f"the program ended with {status} after {answers:,} answers to {lines:,} lines")
-            print(f"{done:,} bytes, {lines:,} lines: at most {used.ru_maxrss / 1024:.1f} MiB, {taken:.2f} seconds")
+            if run.returncode or answers != lines:
+                sys.exit(f"the program ended with {run.returncode} after {answers:,} answers to {lines:,} lines")
+            print(f"{done:,} bytes, {lines:,} lines: at most {peak:.1f} MiB, {taken:.2f} seconds")
 
 if __name__ == "__main__":
     main()

@@ -1,5 +1,7 @@
 -- What is written byte by byte is what the machine writes line by line.
-use Rattle.std.proofs.Common.{◌≡◌, ℕ, zero, suc, ◌+◌, ◌≤◌, [], ◌∷◌, ◌++◌, length, take, Bool, true, false, ◌||◌, ◌==◌, cond, refl, sym, ap, ◌∙◌, arith, append_assoc, length-take}
+use Rattle.std.proofs.Common.{◌≡◌, ℕ, zero, suc, ◌+◌, ◌-◌, ◌≤◌, [], ◌∷◌, ◌++◌, length, take, Bool, true, false, ◌||◌, ◌==◌, cond, refl, sym, ap, ◌∙◌, arith, append_assoc, length-take}
+use Rattle.std.proofs.Math.Seq.{take-append-add}
+use Rattle.std.proofs.lemmas.Bool.{true≢false}
 use Rattle.std.proofs.lemmas.List.{append-nil, take_all}
 use Rattle.plan_ir.specs.gql_plain.Limits.{max_line}
 use Rattle.relay_machine.specs.Machine.{Project, State, beginning, step, output, output_from, refused_from, some_refused}
@@ -42,6 +44,20 @@ module _ (p : Project) (buffer : ℕ) where
       let answer : Text = cond (x == 10) (step_of p buffer q).text [] in
       ap (λ t. answer ++ t) (told_more (behind p buffer q x) xs ys) ∙ sym (append_assoc answer (told p buffer (behind p buffer q x) xs) _)
 
+  -- a piece behind what was given, up to a limit
+  both_parts : (n : ℕ) (given more : Text) → length given ≤ n → take n (given ++ more) ≡ take n given ++ take (n - length given) more
+  both_parts n given more within =
+      let left : length given + (n - length given) ≡ n = omega (arith, within) in
+      ap (λ k. take k (given ++ more)) (sym left) ∙ take-append-add given more (n - length given) ∙ ap (λ xs. xs ++ take (n - length given) more) (sym (take_all n given within))
+
+  pub after_piece : (q : Progress) (n : ℕ) (given more : Text) → length given ≤ n
+      → after p buffer (after p buffer q (take n given)) (take (n - length given) more) ≡ after p buffer q (take n (given ++ more))
+  after_piece q n given more within = sym (ap (after p buffer q) (both_parts n given more within) ∙ after_more q (take n given) (take (n - length given) more))
+
+  pub told_piece : (q : Progress) (n : ℕ) (given more : Text) → length given ≤ n
+      → told p buffer q (take n (given ++ more)) ≡ told p buffer q (take n given) ++ told p buffer (after p buffer q (take n given)) (take (n - length given) more)
+  told_piece q n given more within = ap (told p buffer q) (both_parts n given more within) ∙ told_more q (take n given) (take (n - length given) more)
+
   -- ---- the bytes of one line
 
   pub after_plain : (q : Progress) (xs : Text) → HasNoEnd xs → length q.part ≤ max_line + 1 → after p buffer q xs ≡ longer q xs
@@ -66,6 +82,16 @@ module _ (p : Project) (buffer : ℕ) where
   told_line q line rest plain short =
       told_more q line (10 ∷ rest) ∙ ap (λ t. t ++ told p buffer (after p buffer q line) (10 ∷ rest)) (told_plain q line plain)
       ∙ ap (λ r. told p buffer r (10 ∷ rest)) (after_plain q line plain short)
+
+  -- ---- a part that is not empty
+
+  pub ended_some : (q : Progress) (part : Text) → (length part == 0) ≡ false → ended_line p buffer q ≡ ended_part p buffer q part
+  ended_some q [] some = absurd (true≢false some)
+  ended_some q (b ∷ part) some = refl
+
+  pub told_some : (q : Progress) (part : Text) → (length part == 0) ≡ false → (step_of p buffer q).text ≡ told_of_part p buffer q part
+  told_some q [] some = absurd (true≢false some)
+  told_some q (b ∷ part) some = refl
 
   -- ---- the lines
 

@@ -25,31 +25,28 @@ put_both a b h0 h1 h2 c0 c1 c2 x y = record {
   ends = both_end a b x.ends y.ends;
 }
 
-pub put_then_part : (a b : Text) (fails : Type 0) (h0 h1 h2 : Option Text) (c0 c1 c2 : ℕ) → IsPut a h0 h1 c0 c1 → IsPutInPart b fails h1 h2 c1 c2 → IsPutInPart (a ++ b) fails h0 h2 c0 c2
-put_then_part a b fails h0 h1 h2 c0 c1 c2 x y = record {
-  part = a ++ y.part;
-  rest = y.rest;
-  parts = append_assoc a y.part y.rest ∙ ap (λ t. a ++ t) y.parts;
-  adds = added_more h0 h1 h2 a y.part x.adds y.adds;
-  calls = omega (arith, x.calls, y.calls, length-append a y.part);
-  ends = elim y.ends [ inl f ↦ inl f | inr e ↦ inr (both_end a y.part x.ends e) ];
-}
-
 pub nothing_of : (text : Text) (fails : Type 0) (h : Option Text) (c : ℕ) → IsPutInPart text fails h h c c
 nothing_of text fails h c = record { part = []; rest = text; parts = refl; adds = sym (append-none h); calls = omega arith; ends = inr (inl refl) }
 
-pub all_of : (text : Text) (fails : Type 0) (h0 h1 : Option Text) (c0 c1 : ℕ) → IsPut text h0 h1 c0 c1 → IsPutInPart text fails h0 h1 c0 c1
-all_of text fails h0 h1 c0 c1 x = record { part = text; rest = []; parts = append-nil text; adds = x.adds; calls = omega (arith, x.calls); ends = inr x.ends }
+pub all_of : (text : Text) (fails : Type 0) (h0 h1 : Option Text) (c0 c1 : ℕ) → IsPut text h0 h1 c0 c1 → (put : IsPutInPart text fails h0 h1 c0 c1) × (put.rest ≡ [])
+all_of text fails h0 h1 c0 c1 x = (record { part = text; rest = []; parts = append-nil text; adds = x.adds; calls = omega (arith, x.calls); ends = inr x.ends }, refl)
 
 -- more is due
-pub less_of : (a b : Text) (fails : Type 0) (h0 h1 : Option Text) (c0 c1 : ℕ) → IsPutInPart a fails h0 h1 c0 c1 → IsPutInPart (a ++ b) fails h0 h1 c0 c1
-less_of a b fails h0 h1 c0 c1 x = record {
-  part = x.part;
-  rest = x.rest ++ b;
-  parts = sym (append_assoc x.part x.rest b) ∙ ap (λ t. t ++ b) x.parts;
-  adds = x.adds;
-  calls = x.calls;
-  ends = x.ends;
+pub put_of : (all text rest : Text) (fails : Type 0) (h0 h1 : Option Text) (c0 c1 : ℕ) → all ≡ text ++ rest → IsPut text h0 h1 c0 c1 → IsPutInPart all fails h0 h1 c0 c1
+put_of all text rest fails h0 h1 c0 c1 same x = record { part = text; rest = rest; parts = sym same; adds = x.adds; calls = omega (arith, x.calls); ends = inr x.ends }
+
+-- a part is put behind whole lines, and more is due
+pub stopped : (all said text rest : Text) (fails : Type 0) (h0 h1 h2 : Option Text) (c0 c1 c2 : ℕ) → all ≡ (said ++ text) ++ rest → IsPut said h0 h1 c0 c1 → IsPutInPart text fails h1 h2 c1 c2
+    → IsPutInPart all fails h0 h2 c0 c2
+stopped all said text rest fails h0 h1 h2 c0 c1 c2 same x y = record {
+  part = said ++ y.part;
+  rest = y.rest ++ rest;
+  parts =
+      append_assoc said y.part (y.rest ++ rest) ∙ ap (λ t. said ++ t) (sym (append_assoc y.part y.rest rest) ∙ ap (λ t. t ++ rest) y.parts)
+      ∙ sym (append_assoc said text rest) ∙ sym same;
+  adds = added_more h0 h1 h2 said y.part x.adds y.adds;
+  calls = omega (arith, x.calls, y.calls, length-append said y.part);
+  ends = elim y.ends [ inl f ↦ inl f | inr e ↦ inr (both_end said y.part x.ends e) ];
 }
 
 -- the sink failed for this cause

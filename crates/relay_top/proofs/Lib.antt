@@ -1,4 +1,5 @@
 pub mod Written
+pub mod Streams
 pub mod Courses
 pub mod Owed
 pub mod Finished

@@ -1,5 +1,5 @@
 -- What the top call owes, from the course that it took.
-use Rattle.std.proofs.Common.{◌≡◌, ◌⊎◌, ◌↔◌, ◌≤◌, ◌+◌, ◌++◌, ℕ, List, [], length, take, Bool, true, IsTrue, Option, None, Some, refl, sym, ap, subst, inl, inr, ◌∙◌, arith, length-append}
+use Rattle.std.proofs.Common.{◌≡◌, ◌⊎◌, ◌↔◌, ◌≤◌, ◌+◌, ◌++◌, ℕ, List, [], length, take, Bool, true, false, IsTrue, IsFalse, Option, None, Some, refl, sym, ap, subst, inl, inr, ◌∙◌, arith, length-append}
 use Rattle.std.specs.Io.KnownBytes.{IsAtEnd}
 use Rattle.std.proofs.lemmas.Bool.{cases_eq}
 use Rattle.std.proofs.lemmas.List.{append-nil, take_all}
@@ -197,7 +197,7 @@ module _ (status : Status) (script sink : Type 0) (left left_now : Option Text) 
   refused_whole : (form : Form) (x y : Fault) → x ≡ y → Ran form (refused y.0 y.1 y.2 y.3) status left left_now reads reads_now held held_now puts puts_now → status ≡ ProjectRefused
       → held_now ≡ append held (fault_text x)
   refused_whole form x y same r e =
-      let added_is : r.added ≡ fault_text y = sym (append-nil r.added) ∙ ap (λ m. r.added ++ m) (sym (r.whole (inr e))) ∙ r.part in
+      let added_is : r.added ≡ fault_text y = sym (append-nil r.added) ∙ ap (λ m. r.added ++ m) (sym (r.whole (inr (inl e)))) ∙ r.part in
       r.adds ∙ ap (append held) (added_is ∙ sym (ap fault_text same))
 
   faulty_in : (files : Files) (form : Form) (vault : Type 0) (file : Text) (line column : ℕ) (rule : Text) (course : Course) → IsCourse (Some files) form course
@@ -429,6 +429,42 @@ module _ (status : Status) (script sink : Type 0) (left left_now : Option Text) 
       → (course : Course) × IsCourse files form course × (taken : Text) × (ended : Bool) × Took form course status left left_now taken ended
       × AddsPartOf held held_now (due form course (take max_script taken) ended)
   owed_part files form vault w = let r = w.3 in (w.0, w.1, r.taken, r.ended, r.took, (r.added, r.more, r.adds, r.part))
+
+  -- the script could not be read further, or is too long
+  abbrev IsCut : Type 0
+  IsCut = (status ≡ ReadFault) ⊎ (status ≡ ScriptTooLong)
+
+  not_ended : (form : Form) (course : Course) (taken : Text) (ended : Bool) → Took form course status left left_now taken ended → IsCut → IsFalse ended
+  not_ended form course taken ended took cut = elim cut [ inl e ↦ took.read_fault e | inr e ↦ (took.too_long e).1 ]
+
+  streamed_in : (form : Form) (course : Course) (r : Ran form course status left left_now reads reads_now held held_now puts puts_now) → IsCut
+      → Took form course status left left_now r.taken false × (held_now ≡ append held (due form course (take max_script r.taken) false))
+  streamed_in form course r cut =
+      let open_is : r.ended ≡ false = not_ended form course r.taken r.ended r.took cut in
+      let all : r.more ≡ [] = r.whole (inr (inr cut)) in (
+        subst (Took form course status left left_now r.taken) open_is r.took,
+        r.adds ∙ ap (append held) (sym (append-nil r.added) ∙ ap (λ m. r.added ++ m) (sym all) ∙ r.part ∙ ap (due form course (take max_script r.taken)) open_is),
+      )
+
+  -- all that is due was written
+  pub owed_streamed : (files : Option Files) (form : Form) (vault : Type 0) → Called files form vault → (status ≡ ReadFault) ⊎ (status ≡ ScriptTooLong)
+      → (course : Course) × IsCourse files form course × (taken : Text) × Took form course status left left_now taken false × (held_now ≡ append held (due form course (take max_script taken) false))
+  owed_streamed files form vault w cut = let d = streamed_in form w.0 w.3 cut in (w.0, w.1, w.3.taken, d.0, d.1)
+
+  -- the script is too long exactly where it gave so many bytes
+  pub owed_too_long : (files : Option Files) (form : Form) (vault : Type 0) → Called files form vault
+      → (taken : Text) × (left ≡ prepend taken left_now) × (status ≡ ScriptTooLong → length taken ≡ max_script + 1)
+      × (length taken ≡ max_script + 1 → (status ≡ ScriptTooLong) ⊎ (((status ≡ WriteFault) × sink) ⊎ (status ≡ NoMemory)))
+  owed_too_long files form vault w =
+      let r = w.3 in (
+        r.taken,
+        r.took.is,
+        λ e. (r.took.too_long e).0,
+        λ e. elim (r.took.over e) [
+          | inl long ↦ inl long
+          | inr f ↦ elim f [ inl fault ↦ inr (inl (fault, write_fault_in form w.0 (vault ⊎ IsFirstAbsent files form) w.2 fault)) | inr lacks ↦ inr (inr lacks) ]
+        ],
+      )
 
   -- ---- the summary
 

@@ -223,7 +223,10 @@ impl Session {
         if self.part.is_empty() {
             return Ok(());
         }
-        self.answer(out, steps)
+        match self.answer(out, steps) {
+            Ok(()) => Ok(()),
+            Err(stop) => Err(stop),
+        }
     }
 }
 

@@ -132,6 +132,23 @@ fn a_last_line_that_is_cut_is_a_line(rt: HostRuntime) -> Result<(), Fail> {
     Ok(())
 }
 
+// The script ends within its last line. Two calls give it, and the third finds its end.
+#[test]
+fn a_last_line_is_answered_at_the_end_alone(rt: HostRuntime) -> Result<(), Fail> {
+    let alloc = rt.alloc();
+    for (failing, wanted, lines) in [
+        (0u64, Status::Done, COLLECTED),
+        (2, Status::ReadFault, ""),
+        (3, Status::ReadFault, ""),
+    ] {
+        let reads = Moves { piece: 10, failing };
+        let (status, held) = answers_of(alloc, COLLECT.as_bytes(), reads, WHOLE)?;
+        assert_eq!(rt; status, wanted, "at {failing}");
+        assert_eq!(rt; held.as_slice(), lines.as_bytes(), "at {failing}");
+    }
+    Ok(())
+}
+
 // How many bytes the answers have of the lines that end within so many bytes of the script of three
 // lines.
 fn answered_by(bytes: u64) -> usize {

@@ -6,7 +6,7 @@ use Rattle.relay_forms.specs.Files.{Files}
 use Rattle.relay_forms.specs.FormShown.{asked_shown}
 use Rattle.relay_forms.specs.Words.{Asked, Form, bulk, compile, on_files}
 use Rattle.relay_forms.specs.declared.status.Status.TheVariants.{Usage}
-use Rattle.relay_top.proofs.Owed.{any_ends, any_script_calls, any_sink_calls, any_unopened, any_unread, any_usage, any_write_fault, owed_bulk, owed_bulk_complete, owed_bulk_part, owed_complete, owed_done, owed_faulty, owed_part, owed_read_fault, owed_refused, owed_scriptless, owed_whole}
+use Rattle.relay_top.proofs.Owed.{any_ends, any_script_calls, any_sink_calls, any_unopened, any_unread, any_usage, any_write_fault, owed_bulk, owed_bulk_complete, owed_bulk_part, owed_complete, owed_done, owed_faulty, owed_part, owed_read_fault, owed_refused, owed_scriptless, owed_streamed, owed_too_long, owed_whole}
 use Rattle.relay_top.proofs.top.relay_top.Goals as goal
 
 asked_same : (a b : Asked) → Some a ≡ Some b → a ≡ b
@@ -14,6 +14,16 @@ asked_same a b h = cc
 
 some_asked : (a : Asked) → ◌≡◌ {A = Option Asked} (Some a) None → ⊥
 some_asked a h = cc
+
+pub returns-in-Some-clause-answered : goal.returns-in-Some-clause-answered
+returns-in-Some-clause-answered g c = λ asked h.
+    let v = Rose (g.V.Vault.faults c.args.vault.now) (g.V.Vault.faults c.answer.new.vault) in
+    let s = Rose (g.S.Source.faults c.args.script.now) (g.S.Source.faults c.answer.new.script) in
+    let k = Rose (g.K.Sink.faults c.args.out.now) (g.K.Sink.faults c.answer.new.out) in
+    let P : Option Files → Asked → Type 0 = λ files a. IsAnswered files a c.answer.result v s k (g.V.Vault.calls c.args.vault.now) (g.V.Vault.calls c.answer.new.vault) (g.S.Source.left c.args.script.now) (g.S.Source.left c.answer.new.script) (g.S.Source.calls c.args.script.now) (g.S.Source.calls c.answer.new.script)
+    (g.K.Sink.contents c.args.out.now) (g.K.Sink.contents c.answer.new.out) (g.K.Sink.calls c.args.out.now) (g.K.Sink.calls c.answer.new.out) in
+    let same = asked_same _ asked (c.in-Some.ensures.asked ∙ h) in
+    subst (P (g.V.Vault.files c.args.vault.now)) same c.answer.ensures.ran
 
 pub returns-in-Some-clause-usage : goal.returns-in-Some-clause-usage
 returns-in-Some-clause-usage g c =
@@ -115,6 +125,34 @@ returns-in-Some-clause-part g c = λ form h.
     let same = asked_same _ asked (c.in-Some.ensures.asked ∙ h) in
     let ran = subst (P (g.V.Vault.files c.args.vault.now)) same c.answer.ensures.ran in
     owed_part c.answer.result s k (g.S.Source.left c.args.script.now) (g.S.Source.left c.answer.new.script) (g.S.Source.calls c.args.script.now) (g.S.Source.calls c.answer.new.script)
+    (g.K.Sink.contents c.args.out.now) (g.K.Sink.contents c.answer.new.out) (g.K.Sink.calls c.args.out.now) (g.K.Sink.calls c.answer.new.out)
+    (g.V.Vault.files c.args.vault.now) form v ran.0
+
+pub returns-in-Some-clause-streamed : goal.returns-in-Some-clause-streamed
+returns-in-Some-clause-streamed g c = λ form h cut.
+    let v = Rose (g.V.Vault.faults c.args.vault.now) (g.V.Vault.faults c.answer.new.vault) in
+    let s = Rose (g.S.Source.faults c.args.script.now) (g.S.Source.faults c.answer.new.script) in
+    let k = Rose (g.K.Sink.faults c.args.out.now) (g.K.Sink.faults c.answer.new.out) in
+    let asked = on_files form in
+    let P : Option Files → Asked → Type 0 = λ files a. IsAnswered files a c.answer.result v s k (g.V.Vault.calls c.args.vault.now) (g.V.Vault.calls c.answer.new.vault) (g.S.Source.left c.args.script.now) (g.S.Source.left c.answer.new.script) (g.S.Source.calls c.args.script.now) (g.S.Source.calls c.answer.new.script)
+    (g.K.Sink.contents c.args.out.now) (g.K.Sink.contents c.answer.new.out) (g.K.Sink.calls c.args.out.now) (g.K.Sink.calls c.answer.new.out) in
+    let same = asked_same _ asked (c.in-Some.ensures.asked ∙ h) in
+    let ran = subst (P (g.V.Vault.files c.args.vault.now)) same c.answer.ensures.ran in
+    owed_streamed c.answer.result s k (g.S.Source.left c.args.script.now) (g.S.Source.left c.answer.new.script) (g.S.Source.calls c.args.script.now) (g.S.Source.calls c.answer.new.script)
+    (g.K.Sink.contents c.args.out.now) (g.K.Sink.contents c.answer.new.out) (g.K.Sink.calls c.args.out.now) (g.K.Sink.calls c.answer.new.out)
+    (g.V.Vault.files c.args.vault.now) form v ran.0 cut
+
+pub returns-in-Some-clause-too_long : goal.returns-in-Some-clause-too_long
+returns-in-Some-clause-too_long g c = λ form h.
+    let v = Rose (g.V.Vault.faults c.args.vault.now) (g.V.Vault.faults c.answer.new.vault) in
+    let s = Rose (g.S.Source.faults c.args.script.now) (g.S.Source.faults c.answer.new.script) in
+    let k = Rose (g.K.Sink.faults c.args.out.now) (g.K.Sink.faults c.answer.new.out) in
+    let asked = on_files form in
+    let P : Option Files → Asked → Type 0 = λ files a. IsAnswered files a c.answer.result v s k (g.V.Vault.calls c.args.vault.now) (g.V.Vault.calls c.answer.new.vault) (g.S.Source.left c.args.script.now) (g.S.Source.left c.answer.new.script) (g.S.Source.calls c.args.script.now) (g.S.Source.calls c.answer.new.script)
+    (g.K.Sink.contents c.args.out.now) (g.K.Sink.contents c.answer.new.out) (g.K.Sink.calls c.args.out.now) (g.K.Sink.calls c.answer.new.out) in
+    let same = asked_same _ asked (c.in-Some.ensures.asked ∙ h) in
+    let ran = subst (P (g.V.Vault.files c.args.vault.now)) same c.answer.ensures.ran in
+    owed_too_long c.answer.result s k (g.S.Source.left c.args.script.now) (g.S.Source.left c.answer.new.script) (g.S.Source.calls c.args.script.now) (g.S.Source.calls c.answer.new.script)
     (g.K.Sink.contents c.args.out.now) (g.K.Sink.contents c.answer.new.out) (g.K.Sink.calls c.args.out.now) (g.K.Sink.calls c.answer.new.out)
     (g.V.Vault.files c.args.vault.now) form v ran.0
 
