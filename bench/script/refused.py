@@ -4,8 +4,7 @@
 The scripts are those of crates/run_tests/src/rows.rt: a watch with a layer, pages of a connection, and operations that are released and swept.
 A run may end as it does with ample memory, where the program asked again; else it ends with status 6, and what it wrote is the beginning of the
 answers with ample memory, empty or up to an LF. Prints for each script the number of runs, and how many of them ended so and so; a run that ends
-otherwise is told, and the status is 1. With --tests PROGRAM the program is that of the tests of the engine (crates/engine_tests/out/), and of these
-the one that gives a line again where memory is lacking has to pass, or to lack memory for itself. It wants a C compiler, `cc`.
+otherwise is told, and the status is 1. It wants a C compiler, `cc`.
 """
 import collections
 import os
@@ -68,12 +67,10 @@ def of_program(program, refuse, room):
     return wrong
 
 def main():
-    of_tests = sys.argv[1:2] == ["--tests"]
-    given = sys.argv[2 if of_tests else 1:]
     with tempfile.TemporaryDirectory(prefix="refused-") as room:
         refuse = f"{room}/refused.so"
         subprocess.run(["cc", "-O2", "-shared", "-fPIC", "-o", refuse, f"{HERE}/refused.c", "-ldl"], check=True)
-        program = os.path.realpath(given[0] if given else PROGRAM)
+        program = os.path.realpath(sys.argv[1] if len(sys.argv) > 1 else PROGRAM)
         return of_program(program, refuse, room)
 
 if __name__ == "__main__":
