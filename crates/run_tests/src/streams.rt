@@ -194,7 +194,7 @@ fn due_of(bytes: usize) -> (Option<usize>, usize) {
     let (mut begin, mut held) = (0, 0);
     for (n, (end, more)) in WATCH_LINES.iter().enumerate() {
         if bytes < *end {
-            let cut = if bytes == begin { None } else { Some(n + 1) };
+            let cut = if bytes <= begin { None } else { Some(n + 1) };
             return (cut, held);
         }
         begin = *end + 1;
