@@ -77,7 +77,7 @@ fn read_files<'a, V: Vault>(
         Ok(file) => file,
         Err(closed) => return Err(closed),
     };
-    match read_documents(alloc, vault, first, &documents[..documents.len().min(1)]) {
+    match read_documents(alloc, vault, first, documents) {
         Ok(files) => Ok(files),
         Err(closed) => Err(closed),
     }

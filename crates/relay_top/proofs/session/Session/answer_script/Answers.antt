@@ -8,10 +8,11 @@ use Rattle.relay_forms.specs.Statuses.{IsDone}
 use Rattle.relay_forms.specs.declared.status.Status.{Status}
 use Rattle.relay_forms.specs.declared.status.Status.TheVariants.{NoMemory, ReadFault, WriteFault}
 use Rattle.plan_ir.specs.schema_tables.Types.{Text}
-use Rattle.relay_forms.proofs.PutLaws.{failing_so}
+use Rattle.relay_forms.proofs.PutLaws.{failing_so, nothing_of}
 use Rattle.relay_top.specs.Sessions.{IsAt}
 use Rattle.relay_top.specs.declared.session.Halt.{Halt}
 use Rattle.relay_top.specs.declared.session.Halt.TheVariants as H
+use Rattle.relay_top.proofs.Courses.{nothing_given}
 use Rattle.relay_top.proofs.Streams.{none_put, piece_after, piece_part, piece_put, streamed_ended, streamed_stop, streamed_too_long, streamed_unread}
 use Rattle.relay_top.proofs.session.Session.answer_script.Goals as goal
 
@@ -20,6 +21,14 @@ lacks halt is e = cc
 
 kind_of : (status : Status) (sink : Type 0) → IsDone status ⊎ (((status ≡ WriteFault) × sink) ⊎ (status ≡ NoMemory)) → IsDone status ⊎ ((status ≡ WriteFault) ⊎ (status ≡ NoMemory))
 kind_of status sink form = elim form [ inl d ↦ inl d | inr f ↦ elim f [ inl w ↦ inr (inl w.0) | inr m ↦ inr (inr m) ] ]
+
+pub returns-in_default-clause-streamed : goal.returns-in_default-clause-streamed
+returns-in_default-clause-streamed g c = λ p buffer q at.
+    let left = g.S.Source.left c.args.script.now in
+    let reads = g.S.Source.calls c.args.script.now in
+    let held = g.K.Sink.contents c.args.out.now in
+    let puts = g.K.Sink.calls c.args.out.now in
+    streamed_stop p buffer q left left reads reads held held puts puts NoMemory [] (inr refl) (nothing_given left) (omega arith) (omega arith) (nothing_of (told p buffer q (take max_script [])) _ held puts)
 
 pub returns-in-Ok-eq0-clause-streamed : goal.returns-in-Ok-eq0-clause-streamed
 returns-in-Ok-eq0-clause-streamed g c = λ p buffer q at.
@@ -36,8 +45,8 @@ returns-in-Ok-eq0-clause-streamed g c = λ p buffer q at.
     (g.K.Sink.contents c.args.out.now) (g.K.Sink.contents c.finish.new.out) (g.K.Sink.calls c.args.out.now) (g.K.Sink.calls c.finish.new.out) c.finish.result given (g.K.Sink.contents c.next_piece.new.out) (g.K.Sink.calls c.next_piece.new.out)
     (kind_of c.finish.result _ c.finish.ensures.form)
     (s.2 ∙ ap (prepend s.0) w.3 ∙ prepend-prepend s.0 w.0 _)
-    (omega (arith, long, s.1, w.1, c.in-Ok-eq0.field-0-is, within))
-    (w.4 c.in-Ok-eq0.field-0-is)
+    (omega (arith, long, s.1, w.1, c.in-Ok-eq0.field-0-test, within))
+    (w.4 c.in-Ok-eq0.field-0-test)
     (omega (arith, long, s.1, c.next_piece.ensures.counted, c.pieces.invariant.calls))
     (piece_put p buffer q (g.S.Source.left c.args.script.now) (g.S.Source.left c.next_piece.new.script) (g.S.Source.calls c.args.script.now) (g.S.Source.calls c.next_piece.new.script) (g.K.Sink.contents c.args.out.now) (g.K.Sink.contents c.next_piece.new.out) (g.K.Sink.calls c.args.out.now) (g.K.Sink.calls c.next_piece.new.out)
     s.0 w.0 c.pieces.taken (g.K.Sink.contents c.pieces.out) (g.K.Sink.calls c.pieces.out) s.1 within was.1 then_is.1)
@@ -65,9 +74,9 @@ pieces-preserved g c =
             ),
       );
       most = let a = c.next_piece.auto.piece in let b = c.min-ask.ensures in let d = c.deref_mut.ensures.len in grind (arith, common_steps, w.2, a, b, d, c.len.ensures, inv.most);
-      piece = ?;
+      piece = inv.piece;
       number = omega (arith, w.5, inv.number);
-      calls = ?;
+      calls = grind (arith, c.next_piece.ensures.counted, inv.calls, c.in-Ok-next_piece.count-test);
       read_later = omega (arith, c.next_piece.ensures.read_later, inv.read_later);
       put_later = omega (arith, c.next_piece.ensures.put_later, inv.put_later);
     }

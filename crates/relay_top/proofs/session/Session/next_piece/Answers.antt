@@ -1,4 +1,4 @@
-use Rattle.std.proofs.Common.{◌≡◌, ℕ, length, take, refl, sym, subst, ◌∙◌, arith, length-take}
+use Rattle.std.proofs.Common.{◌≡◌, ℕ, [], length, take, refl, sym, subst, ◌∙◌, arith, length-take}
 use Rattle.relay_forms.specs.relay_machine.Machine.{Project}
 use Rattle.relay_forms.specs.Progress.{Progress, after, told}
 use Rattle.relay_forms.specs.Puts.{IsPut, IsPutInPart}
@@ -6,7 +6,8 @@ use Rattle.relay_forms.specs.declared.put.Stop.{Stop}
 use Rattle.relay_forms.specs.declared.put.Stop.TheVariants as S
 use Rattle.plan_ir.specs.schema_tables.Types.{Text}
 use Rattle.relay_forms.proofs.LineParts.{piece_of}
-use Rattle.relay_forms.proofs.PutLaws.{failing_so}
+use Rattle.relay_forms.proofs.PutLaws.{failing_so, nothing_of}
+use Rattle.relay_top.proofs.Courses.{nothing_given}
 use Rattle.relay_top.specs.Sessions.{IsAt}
 use Rattle.relay_top.specs.declared.session.Halt.{Halt}
 use Rattle.relay_top.specs.declared.session.Halt.TheVariants.{NoMemory, ReadFault, WriteFault}
@@ -20,6 +21,15 @@ no_read_fault e = cc
 
 no_fault_either : WriteFault ≡ ReadFault → ⊥
 no_fault_either e = cc
+
+pub returns-in_default-clause-err : goal.returns-in_default-clause-err
+returns-in_default-clause-err g c = (
+  [],
+  omega arith,
+  sym c.in_default.ensures.kept ∙ nothing_given (g.S.Source.left c.read.new.self),
+  λ _. (refl, refl, refl),
+  λ p buffer q at. nothing_of (told p buffer q (take c.args.most [])) _ (g.K.Sink.contents c.args.out.now) (g.K.Sink.calls c.args.out.now),
+)
 
 pub returns-in-Ok-take_piece-clause-ok : goal.returns-in-Ok-take_piece-clause-ok
 returns-in-Ok-take_piece-clause-ok g c =

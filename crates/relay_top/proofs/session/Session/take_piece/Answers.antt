@@ -57,7 +57,7 @@ returns-in_default-keep-2-clause-err g c = λ p buffer q at.
 pub returns-clause-ok : goal.returns-clause-ok
 returns-clause-ok g c = λ p buffer q at.
     let s = c.lines.invariant.so_far p buffer q at in
-    let plain = c.in_default.ensures.none c.in_default.is in
+    let plain = c.in_default.ensures.none refl in
     let said_is : s.2 ≡ told p buffer q c.args.piece.now = sym (append-nil s.2) ∙ ap (λ t. s.2 ++ t) (sym (told_plain p buffer s.0 c.lines.rest.now plain)) ∙ sym s.4 in (
       subst (IsAt p buffer c.keep-2.new.self) (sym (s.5 ∙ after_plain p buffer s.0 c.lines.rest.now plain s.1.short)) (c.in-Ok-keep.ensures.longer p buffer s.0 s.1),
       subst (λ t. IsPut t (g.K.Sink.contents c.args.out.now) (g.K.Sink.contents c.lines.out) (g.K.Sink.calls c.args.out.now) (g.K.Sink.calls c.lines.out)) said_is s.3,
