@@ -93,6 +93,11 @@ fn a_line_is_answered_before_the_next_byte_is_read(rt: HostRuntime) -> Result<()
     Ok(())
 }
 
+// So many of the first bytes, or all where they are fewer.
+fn first(bytes: &[u8], count: usize) -> &[u8] {
+    &bytes[..count.min(bytes.len())]
+}
+
 // What the script of three lines, or another one over the same files, is answered.
 fn answers_of(
     alloc: Global,
@@ -122,13 +127,30 @@ fn a_reading_that_fails_leaves_the_answers_of_the_lines_before(
 
 #[test]
 fn a_last_line_that_is_cut_is_a_line(rt: HostRuntime) -> Result<(), Fail> {
-    let script = &SCRIPT.as_bytes()[..60];
+    let script = first(SCRIPT.as_bytes(), 60);
     let (status, held) = answers_of(rt.alloc(), script, WHOLE, WHOLE)?;
     assert_eq!(rt; status, Status::DoneWithRefusals);
     assert_eq!(rt;
         held.as_slice(),
         b"{\"n\":1,\"ok\":\"retain\"}\n{\"code\":1,\"error\":\"NotJson\",\"n\":2}\n".as_slice()
     );
+    Ok(())
+}
+
+// The script ends within its last line. Two calls give it, and the third finds its end.
+#[test]
+fn a_last_line_is_answered_at_the_end_alone(rt: HostRuntime) -> Result<(), Fail> {
+    let alloc = rt.alloc();
+    for (failing, wanted, lines) in [
+        (0u64, Status::Done, COLLECTED),
+        (2, Status::ReadFault, ""),
+        (3, Status::ReadFault, ""),
+    ] {
+        let reads = Moves { piece: 10, failing };
+        let (status, held) = answers_of(alloc, COLLECT.as_bytes(), reads, WHOLE)?;
+        assert_eq!(rt; status, wanted, "at {failing}");
+        assert_eq!(rt; held.as_slice(), lines.as_bytes(), "at {failing}");
+    }
     Ok(())
 }
 
@@ -154,7 +176,7 @@ fn whichever_reading_fails_each_ended_line_is_answered(rt: HostRuntime) -> Resul
         };
         let (status, held) = answers_of(alloc, SCRIPT.as_bytes(), reads, WHOLE)?;
         assert_eq!(rt; status, Status::ReadFault, "at {call}");
-        let wanted = &ANSWERS.as_bytes()[..answered_by(call.saturating_sub(1))];
+        let wanted = first(ANSWERS.as_bytes(), answered_by(call.saturating_sub(1)));
         assert_eq!(rt; held.as_slice(), wanted, "at {call}");
     }
     Ok(())
@@ -177,10 +199,14 @@ fn due_of(bytes: usize) -> (Option<usize>, usize) {
     let (mut begin, mut held) = (0, 0);
     for (n, (end, more)) in WATCH_LINES.iter().enumerate() {
         if bytes < *end {
-            let cut = if bytes == begin { None } else { Some(n + 1) };
+            let cut = if bytes <= begin {
+                None
+            } else {
+                Some(n.saturating_add(1))
+            };
             return (cut, held);
         }
-        begin = *end + 1;
+        begin = end.saturating_add(1);
         held = *more;
     }
     (None, held)
@@ -205,7 +231,7 @@ fn a_script_that_is_cut_anywhere_is_answered_as_far_as_it_goes(
     let alloc = rt.alloc();
     let (document, script, lines) = parts_of(WATCH);
     for bytes in 0..=script.len() {
-        let begun = &script.as_bytes()[..bytes];
+        let begun = first(script.as_bytes(), bytes);
         let (status, held) = answers_over(alloc, document, begun, WHOLE, WHOLE)?;
         let done = due_of(bytes).0.is_none();
         assert_eq!(rt; status == Status::Done, done, "at {bytes}");
@@ -229,7 +255,11 @@ fn whichever_put_fails_the_lines_before_are_answered(rt: HostRuntime) -> Result<
         };
         let (status, held) = answers_over(alloc, document, script.as_bytes(), WHOLE, puts)?;
         assert_eq!(rt; status, Status::WriteFault, "at {call}");
-        assert_eq!(rt; held.as_slice(), &lines.as_bytes()[..answered], "at {call}");
+        assert_eq!(rt;
+            held.as_slice(),
+            first(lines.as_bytes(), answered),
+            "at {call}"
+        );
         answered = *more;
         call = call.saturating_add(1);
     }
@@ -274,10 +304,9 @@ const PAGE: usize = 65_536;
 
 // A text, and as many spaces as fill it up to a page.
 fn page_of(alloc: Global, text: &str) -> Result<Vec<u8>, Fail> {
+    let blanks = vec![in alloc; b' '; PAGE.saturating_sub(text.len())]?;
     let mut page = text.as_bytes().to_vec(alloc)?;
-    while page.len() < PAGE {
-        page.push(b' ')?;
-    }
+    page.extend_from_slice(&blanks)?;
     Ok(page)
 }
 
