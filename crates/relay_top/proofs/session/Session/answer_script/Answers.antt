@@ -70,7 +70,7 @@ pieces-preserved g c =
             let then_is = w.6 p buffer (after p buffer q (take max_script s.0)) was.0 in (
               subst (IsAt p buffer c.next_piece.new.self) (piece_after p buffer q (g.S.Source.left c.args.script.now) (g.S.Source.left c.next_piece.new.script) (g.S.Source.calls c.args.script.now) (g.S.Source.calls c.next_piece.new.script) (g.K.Sink.contents c.args.out.now) (g.K.Sink.contents c.next_piece.new.out) (g.K.Sink.calls c.args.out.now) (g.K.Sink.calls c.next_piece.new.out) s.0 w.0 c.pieces.taken s.1 within) then_is.0,
               piece_put p buffer q (g.S.Source.left c.args.script.now) (g.S.Source.left c.next_piece.new.script) (g.S.Source.calls c.args.script.now) (g.S.Source.calls c.next_piece.new.script) (g.K.Sink.contents c.args.out.now) (g.K.Sink.contents c.next_piece.new.out) (g.K.Sink.calls c.args.out.now) (g.K.Sink.calls c.next_piece.new.out)
-              s.0 w.0 c.pieces.taken (g.K.Sink.contents c.pieces.out) (g.K.Sink.calls c.pieces.out) s.1 within was.1 then_is.1,
+                  s.0 w.0 c.pieces.taken (g.K.Sink.contents c.pieces.out) (g.K.Sink.calls c.pieces.out) s.1 within was.1 then_is.1,
             ),
       );
       most = let a = c.next_piece.auto.piece in let b = c.min-ask.ensures in let d = c.deref_mut.ensures.len in grind (arith, common_steps, w.2, a, b, d, c.len.ensures, inv.most);
