@@ -1,9 +1,8 @@
 -- States of the machine that are alike but for the records at some ids.
-use Rattle.std.specs.Prelude.{◌≡◌, ℕ, Bool, false, List, [], ◌∷◌, ◌++◌}
-use Rattle.relay_machine.specs.Machine.{Project, State, Step, base, is_reached, retained, swept, with_entries}
+use Rattle.std.specs.Prelude.{◌≡◌, Bool, false}
+use Rattle.relay_machine.specs.Machine.{Project, State, Step, base}
 use Rattle.plan_ir.specs.schema_tables.Types.{Text}
 use Rattle.plan_ir.specs.store_model.Records.{slot_at}
-use Rattle.plan_ir.specs.store_model.Sweeps.{dropped}
 
 -- all parts but what was confirmed are the same, and the bases have the same slot at each other id
 pub record AreAlike (p : Project) (D : Text → Bool) (s t : State) : Type 0 where
@@ -18,13 +17,3 @@ pub record StepsAlike (p : Project) (D : Text → Bool) (a b : Step) : Type 0 wh
   pub text : a.text ≡ b.text
   pub refused : a.refused ≡ b.refused
   pub states : AreAlike p D a.state b.state
-
--- ---- sweeps
-
--- the ids that a sweep takes out of the base
-abbrev pub dropped_ids : Project → (buffer : ℕ) → State → List Text
-dropped_ids p buffer s = dropped (is_reached p (retained buffer s) (base p s)) (base p s)
-
--- the state with a sweep added to what was confirmed
-abbrev pub swept_state : (buffer : ℕ) → State → State
-swept_state buffer s = with_entries (s.entries ++ swept (retained buffer s) ∷ []) s

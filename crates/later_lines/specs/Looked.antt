@@ -1,7 +1,7 @@
 -- The ids that a line looks at (this project's own).
-use Rattle.std.specs.Prelude.{ℕ, Bool, false, ◌==◌, List, [], ◌∷◌, ◌++◌, take, length, cond}
-use Rattle.relay_machine.specs.Effects.{answer_reads, layer_entries, newly_confirmed}
-use Rattle.relay_machine.specs.Machine.{Project, State, Step, Watch, act, base, shown_by, view}
+use Rattle.std.specs.Prelude.{ℕ, List, [], ◌∷◌, ◌++◌, take, length, cond}
+use Rattle.relay_machine.specs.Effects.{answer_reads, newly_confirmed}
+use Rattle.relay_machine.specs.Machine.{Project, State, Step, Watch, act, base, layer_entries, shown_by, view}
 use Rattle.plan_ir.specs.schema_tables.Types.{Text}
 use Rattle.plan_ir.specs.store_model.Entries.{apply, looks}
 use Rattle.plan_ir.specs.store_model.Events as e
@@ -42,27 +42,3 @@ looked p buffer s n e.not_json = []
 looked p buffer s n e.no_event = []
 looked p buffer s n e.no_commands = []
 looked p buffer s n (e.event event) = looked_in p s event (act p buffer s n event)
-
--- ---- sweeps
-
--- whether an event sweeps
-abbrev pub event_sweeps : State → Event → Bool
-event_sweeps s (e.retain handle op given) = false
-event_sweeps s (e.release handle) = false
-event_sweeps s (e.payload answer commands) = false
-event_sweeps s (e.update commands) = false
-event_sweeps s (e.begin layer answer commands) = false
-event_sweeps s (e.finish layer answer commands) = false
-event_sweeps s (e.revert layer) = false
-event_sweeps s (e.read target) = false
-event_sweeps s (e.watch name target) = false
-event_sweeps s (e.unwatch name) = false
-event_sweeps s e.collect = length s.layers == 0
-
--- whether a line sweeps
-abbrev pub sweeps : State → Line → Bool
-sweeps s e.too_long = false
-sweeps s e.not_json = false
-sweeps s e.no_event = false
-sweeps s e.no_commands = false
-sweeps s (e.event event) = event_sweeps s event

@@ -19,7 +19,8 @@ pub fn quiet_sweeps_add_nothing()
 {}
 
 /// Law: alike states meet again in a line that sweeps, where the retained operations reach none of the
-/// ids: the answers differ at most in the number of dropped ids, and the bases are the same.
+/// ids, and the live layers lead to none: the answers differ at most in the number of dropped ids, and
+/// the bases are the same.
 pub fn sweeps_meet()
     ensures { SweepsMeet }
 {}

@@ -2,13 +2,14 @@
 use Rattle.std.specs.Prelude.{◌≡◌, ℕ, Bool, true, false, [], ◌++◌, length}
 use Rattle.std.specs.List.{AllByRecursion}
 use Rattle.plan_ir.specs.gql_plain.Order.{has_text}
-use Rattle.later_lines.specs.Alike.{AreAlike, dropped_ids, swept_state}
-use Rattle.later_lines.specs.Looked.{looked, sweeps}
+use Rattle.later_lines.specs.Alike.{AreAlike}
+use Rattle.later_lines.specs.Looked.{looked}
 use Rattle.relay_engine.specs.Kept.{Kept}
 use Rattle.relay_engine.specs.Stands.{StandsFor}
 use Rattle.relay_engine.specs.Steps.{written}
 use Rattle.relay_engine.specs.declared.lines.Lines.{Lines}
-use Rattle.relay_machine.specs.Machine.{Project, State, Step, base, is_reached, notices_of, retained, step_line, view}
+use Rattle.relay_machine.specs.Effects.{sweeps}
+use Rattle.relay_machine.specs.Machine.{Project, State, Step, base, dropped_ids, is_held, layer_entries, notices_of, retained, step_line, swept_state, view}
 use Rattle.relay_machine.specs.Printed.{collect_line}
 use Rattle.plan_ir.specs.schema_tables.Types.{Text}
 use Rattle.plan_ir.specs.store_model.Events.{Line}
@@ -21,20 +22,20 @@ pub record GoesAlike (p : Project) (D : Text → Bool) (step : Step) (lines : Li
 
 -- the lines and those of the step differ at most in the number of dropped ids, and the records are the same
 pub record MeetsStep (p : Project) (n : ℕ) (dropped_here dropped_there : ℕ) (step : Step) (lines : Lines) (new : Kept) : Type 0 where
-  pub texts : (notices : Text) × (written lines.texts.items ≡ collect_line n dropped_here false ++ notices) × (step.text ≡ collect_line n dropped_there false ++ notices)
+  pub texts : (notices : Text) × (written lines.texts.items ≡ collect_line n dropped_here ++ notices) × (step.text ≡ collect_line n dropped_there ++ notices)
   pub refused : lines.refused ≡ step.refused
   pub base : new.layers.base ≡ base p step.state
 
 -- whichever state the engine stood for
 pub record KeepsLaterLines (old new : Kept) (n : ℕ) (line : Line) (lines : Lines) : Type 0 where
   -- a line that looks at none of some ids is answered as from any state that is alike but for these
-  pub alike : (p : Project) (s : State) → StandsFor old p s → (D : Text → Bool) (t : State) → AreAlike p D s t → sweeps s line ≡ false
+  pub alike : (p : Project) (s : State) → StandsFor old p s → (D : Text → Bool) (t : State) → AreAlike p D s t → sweeps line ≡ false
       → AllByRecursion (λ id. D id ≡ false) (looked p old.buffer s n line) → GoesAlike p D (step_line p old.buffer t n line) lines new
   -- a line that sweeps changes the records at the dropped ids alone, and where it gives no notice nothing else
-  pub leaves : (p : Project) (s : State) → StandsFor old p s → sweeps s line ≡ true → AreAlike p (has_text (dropped_ids p old.buffer s)) s (swept_state old.buffer s)
-  pub quiet : (p : Project) (s : State) → StandsFor old p s → sweeps s line ≡ true → notices_of p (view p (swept_state old.buffer s)) n s.watches ≡ []
+  pub leaves : (p : Project) (s : State) → StandsFor old p s → sweeps line ≡ true → AreAlike p (has_text (dropped_ids p old.buffer s)) s (swept_state old.buffer s)
+  pub quiet : (p : Project) (s : State) → StandsFor old p s → sweeps line ≡ true → notices_of p (view p (swept_state old.buffer s)) n s.watches ≡ []
       → StandsFor new p (swept_state old.buffer s)
-  -- states that are alike meet again in a line that sweeps, where the retained operations reach none of the ids
-  pub meets : (p : Project) (s : State) → StandsFor old p s → (D : Text → Bool) (t : State) → AreAlike p D s t → sweeps s line ≡ true
-      → ((id : Text) → D id ≡ true → is_reached p (retained old.buffer s) (base p s) id ≡ false)
+  -- states that are alike meet again in a line that sweeps, where the retained operations reach none of the ids, and the live layers lead to none
+  pub meets : (p : Project) (s : State) → StandsFor old p s → (D : Text → Bool) (t : State) → AreAlike p D s t → sweeps line ≡ true
+      → ((id : Text) → D id ≡ true → is_held p (retained old.buffer s) (layer_entries s) (base p s) id ≡ false)
       → MeetsStep p n (length (dropped_ids p old.buffer s)) (length (dropped_ids p old.buffer t)) (step_line p old.buffer t n line) lines new

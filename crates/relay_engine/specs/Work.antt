@@ -3,8 +3,8 @@ use Rattle.std.specs.Prelude.{◌≡◌, ℕ, ◌+◌, ◌*◌, ◌≤◌, Bool,
 use Rattle.std.specs.List.{list_any}
 use Rattle.relay_engine.specs.Kept.{Kept}
 use Rattle.relay_engine.specs.Stands.{StandsFor, layer_of}
-use Rattle.relay_machine.specs.Effects.{answer_reads, layer_entries, newly_confirmed}
-use Rattle.relay_machine.specs.Machine.{Project, State, Step, act, base, view}
+use Rattle.relay_machine.specs.Effects.{answer_reads, newly_confirmed, sweeps}
+use Rattle.relay_machine.specs.Machine.{Project, State, Step, act, base, layer_entries, view}
 use Rattle.plan_ir.specs.schema_tables.Types.{Text}
 use Rattle.store_layers.specs.Changed.{is_changed_by}
 use Rattle.store_layers.specs.Layered.{Layer, above, below, entries_of, from_on, view_of}
@@ -91,30 +91,9 @@ line_work p k s n e.no_event = 0
 line_work p k s n e.no_commands = 0
 line_work p k s n (e.event event) = event_work p k s event (act p k.buffer s n event)
 
-abbrev pub is_collect : Event → Bool
-is_collect (e.retain handle op given) = false
-is_collect (e.release handle) = false
-is_collect (e.payload answer commands) = false
-is_collect (e.update commands) = false
-is_collect (e.begin layer answer commands) = false
-is_collect (e.finish layer answer commands) = false
-is_collect (e.revert layer) = false
-is_collect (e.read target) = false
-is_collect (e.watch name target) = false
-is_collect (e.unwatch name) = false
-is_collect e.collect = true
-
--- whether a line asks for a sweep
-abbrev pub asks_sweep : Line → Bool
-asks_sweep e.too_long = false
-asks_sweep e.not_json = false
-asks_sweep e.no_event = false
-asks_sweep e.no_commands = false
-asks_sweep (e.event event) = is_collect event
-
--- the looks of a line that asks for no sweep, whichever state the engine stood for, and whatever is answered
+-- the looks of a line that does not sweep, whichever state the engine stood for, and whatever is answered
 abbrev pub IsWithinWork : Kept → ℕ → Line → (before after : ℕ) → Type 0
-IsWithinWork k n line before after = (p : Project) (s : State) → StandsFor k p s → asks_sweep line ≡ false → after ≤ before + line_work p k s n line
+IsWithinWork k n line before after = (p : Project) (s : State) → StandsFor k p s → sweeps line ≡ false → after ≤ before + line_work p k s n line
 
 -- a layer that is dropped applies exactly those above it again
 abbrev pub AppliesAbove : Kept → Line → (refused : Bool) → (before after : ℕ) → Type 0

@@ -27,9 +27,10 @@ use Rattle.plan_ir.specs.gql_plain.Order.{has_text, member_at}
 use Rattle.plan_ir.specs.gql_plain.Tree as t
 use Rattle.plan_ir.specs.gql_plain.Tree.{Tree}
 use Rattle.serde_json.specs.Data as J
-use Rattle.plan_ir.specs.store_model.Entries.{apply, fold_entries}
+use Rattle.plan_ir.specs.store_model.Entries.{all_named, apply, fold_entries}
 use Rattle.plan_ir.specs.store_model.Events as e
 use Rattle.plan_ir.specs.store_model.Events.{Event, Line, line_of}
+use Rattle.plan_ir.specs.store_model.Leads.{leads}
 use Rattle.plan_ir.specs.store_model.Records.{Records, no_records, slot_at}
 use Rattle.plan_ir.specs.store_model.Said.{Said}
 use Rattle.plan_ir.specs.store_model.Sweeps.{dropped, sweep}
@@ -69,10 +70,10 @@ pub record Retained : Type 0 where
   pub operation : OperationAt
   pub values : Values
 
--- what confirms records: an entry, or a sweep with the operations that were retained then
+-- what confirms records: an entry, or a sweep with the operations that were retained then, and the entries of the layers that were live
 pub data Confirmation : Type 0 where
   confirmed : Entry → Confirmation
-  swept : List Retained → Confirmation
+  swept : List Retained → List Entry → Confirmation
 
 -- a fragment at an id, with the values of its local variables
 pub record PartShown : Type 0 where
@@ -118,13 +119,17 @@ is_reached p rs m id = list_any (λ (r : Retained). has_text (operation_reaches 
 
 -- ---- records
 
--- the records without the ids that no operation reaches
-abbrev pub sweep_of : Project → List Retained → Records → Records
-sweep_of p rs m = sweep (is_reached p rs m) m
+-- whether one of the operations reaches an id, or the entries lead to it, in these records
+abbrev pub is_held : Project → List Retained → List Entry → Records → Text → Bool
+is_held p rs live m id = is_reached p rs m id || has_text (leads m (all_named live)) id
+
+-- the records without the ids that no operation reaches, and no entry leads to
+abbrev pub sweep_of : Project → List Retained → List Entry → Records → Records
+sweep_of p rs live m = sweep (is_held p rs live m) m
 
 abbrev pub confirm_one : Project → Confirmation → Records → Records
 confirm_one p (confirmed e) m = apply e m
-confirm_one p (swept rs) m = sweep_of p rs m
+confirm_one p (swept rs live) m = sweep_of p rs live m
 
 abbrev pub fold_confirmed : Project → List Confirmation → Records → Records
 fold_confirmed p [] m = m
@@ -134,9 +139,13 @@ fold_confirmed p (c ∷ cs) m = fold_confirmed p cs (confirm_one p c m)
 abbrev pub base : Project → State → Records
 base p s = fold_confirmed p s.entries no_records
 
--- the records that are seen: the live layers on what is confirmed, in order of start
+-- the entries of the live layers, in order of start
+abbrev pub layer_entries : State → List Entry
+layer_entries s = map (λ (l : Layer). l.entry) s.layers
+
+-- the records that are seen: the live layers on what is confirmed
 abbrev pub view : Project → State → Records
-view p s = fold_entries (map (λ (l : Layer). l.entry) s.layers) (base p s)
+view p s = fold_entries (layer_entries s) (base p s)
 
 abbrev pub slots_of : Records → Slots
 slots_of m id = slot_at id m
@@ -446,14 +455,16 @@ noticed p n earlier step = cond step.refused step (with_notices p n earlier step
 
 -- ---- collect
 
--- the ids that no retained operation reaches leave the base
-abbrev pub sweep_base : Project → (buffer : ℕ) → State → ℕ → Step
-sweep_base p buffer s n =
-    accept (collect_line n (length (dropped (is_reached p (retained buffer s) (base p s)) (base p s))) false) (with_entries (s.entries ++ swept (retained buffer s) ∷ []) s)
+-- the ids that leave the base: those that no retained operation reaches, and no live layer leads to
+abbrev pub dropped_ids : Project → (buffer : ℕ) → State → List Text
+dropped_ids p buffer s = dropped (is_held p (retained buffer s) (layer_entries s) (base p s)) (base p s)
 
--- while a layer is live nothing is swept
+-- the state with a sweep added to what was confirmed
+abbrev pub swept_state : (buffer : ℕ) → State → State
+swept_state buffer s = with_entries (s.entries ++ swept (retained buffer s) (layer_entries s) ∷ []) s
+
 abbrev pub step_collect : Project → (buffer : ℕ) → State → ℕ → Step
-step_collect p buffer s n = cond (length s.layers == 0) (sweep_base p buffer s n) (accept (collect_line n 0 true) s)
+step_collect p buffer s n = accept (collect_line n (length (dropped_ids p buffer s))) (swept_state buffer s)
 
 -- ---- lines
 

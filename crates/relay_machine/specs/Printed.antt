@@ -1,5 +1,5 @@
 -- The printed lines: compact JSON with keys in byte order, each ended by LF (this project's own).
-use Rattle.std.specs.Prelude.{ℕ, Bool, pos, List, [], ◌∷◌, ◌++◌, map, codes}
+use Rattle.std.specs.Prelude.{ℕ, false, pos, List, [], ◌∷◌, ◌++◌, map, codes}
 use Rattle.plan_ir.specs.gql_plain.ToJson.{compact}
 use Rattle.plan_ir.specs.gql_plain.Tree.{Tree, truth, whole, text, list, trees_of}
 use Rattle.relay_machine.specs.Refusals.{Refusal, code_of, keys_of, name_of}
@@ -39,10 +39,10 @@ watch_line n r = shown_line n (codes "ok", text (codes "watch")) r
 abbrev pub notice_line : ℕ → (name : Text) → Reading → Text
 notice_line n name r = shown_line n (codes "notice", text name) r
 
--- the answer of a sweep: how many ids were dropped, and whether it waits for the live layers
-abbrev pub collect_line : ℕ → (dropped : ℕ) → (waiting : Bool) → Text
-collect_line n dropped waiting =
-    line ((codes "dropped", number dropped) ∷ (codes "n", number n) ∷ (codes "ok", text (codes "collect")) ∷ (codes "waiting", truth waiting) ∷ [])
+-- the answer of a sweep: how many ids were dropped; it never waits
+abbrev pub collect_line : ℕ → (dropped : ℕ) → Text
+collect_line n dropped =
+    line ((codes "dropped", number dropped) ∷ (codes "n", number n) ∷ (codes "ok", text (codes "collect")) ∷ (codes "waiting", truth false) ∷ [])
 
 -- a refused line: the refusal's code and name, the number of the line, and the further keys
 abbrev pub refusal_line : ℕ → Refusal → Text

@@ -1,4 +1,4 @@
-//! The law of retained reads (this project's own). The call does nothing; its contract is the law.
+//! The laws of retained reads (this project's own). The calls do nothing; their contracts are the laws.
 #![tactic(auto)]
 
 pub mod laws;

@@ -4,9 +4,8 @@ use Rattle.std.proofs.lemmas.List.{take_all, take-map, drop-map}
 use Rattle.std.specs.declared.rc.Rc.{Rc}
 use Rattle.store_update.specs.gql_plain.Order.{has_text}
 use Rattle.store_update.specs.store_record.Keys.{Text}
-use Rattle.store_update.specs.store_model.Entries.{apply, fold_entries, ids_named, weight}
+use Rattle.store_update.specs.store_model.Entries.{all_named, apply, fold_entries, ids_named, weight}
 use Rattle.store_sweeps.proofs.Written.{has_append}
-use Rattle.store_sweeps.specs.Swept.{all_named}
 use Rattle.store_update.specs.store_model.Records.{Records}
 use Rattle.store_update.specs.store_model.declared.entry.Entry.{Entry}
 use Rattle.store_update.specs.Touched.{AreTouched, is_changed}

@@ -2,7 +2,7 @@
 ghost use Rattle.std.specs.Prelude.{◌≡◌, ◌+◌, ◌*◌, ◌≤◌, ◌++◌, [], ◌∷◌, true, false, length, IfOk, OnOk, OnErr};
 ghost use Rattle.store_update.specs.gql_plain.Counted.{next_count};
 ghost use Rattle.store_update.specs.gql_plain.Order.{has_text};
-ghost use Rattle.store_update.specs.store_model.Entries.{weight, fold_entries};
+ghost use Rattle.store_update.specs.store_model.Entries.{all_named, weight, fold_entries};
 ghost use Rattle.store_update.specs.store_model.Records.{no_records};
 ghost use Rattle.store_update.specs.store_record.Keys.{Text};
 ghost use Rattle.std.specs.List.{AllByRecursion};
@@ -10,7 +10,6 @@ ghost use Rattle.store_update.specs.store_model.Said.{HaveHandleKeys};
 ghost use Rattle.store_update.specs.store_model.Leads.{leads};
 ghost use Rattle.store_update.specs.store_model.Records.{slot_at};
 ghost use Rattle.store_update.specs.store_model.Sweeps.{sweep, dropped};
-ghost use Rattle.store_sweeps.specs.Swept.{all_named};
 ghost use Rattle.store_layers.specs.Changed.{AreChanged};
 ghost use Rattle.store_layers.specs.Drafts.{Fits, placed};
 ghost use Rattle.store_layers.specs.Layered as spec;

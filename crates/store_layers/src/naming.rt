@@ -2,7 +2,7 @@
 ghost use Rattle.std.specs.Prelude.{◌≡◌, IfOk};
 ghost use Rattle.store_update.specs.gql_plain.Order.{has_text};
 ghost use Rattle.store_update.specs.store_record.Keys.{Text};
-ghost use Rattle.store_sweeps.specs.Swept.{all_named};
+ghost use Rattle.store_update.specs.store_model.Entries.{all_named};
 ghost use Rattle.store_layers.specs.Layered.{entries_of};
 ghost use Rattle.store_layers.specs.Versions.{layers_of};
 

@@ -178,3 +178,8 @@ named_by_commands (c ∷ cs) = named_by_command c ++ named_by_commands cs
 -- the ids of its facts and of the links in them, the parents of its pages, and the ids of its commands
 abbrev pub ids_named : Entry → List Text
 ids_named e = named_by_facts e.facts.facts ++ map (λ h. h.parent) e.facts.handles ++ named_by_commands e.commands
+
+-- those of all entries
+abbrev pub all_named : List Entry → List Text
+all_named [] = []
+all_named (e ∷ es) = ids_named e ++ all_named es

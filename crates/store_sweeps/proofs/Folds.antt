@@ -9,7 +9,7 @@ use Rattle.store_model.specs.store_record.declared.record.Slot.TheVariants.{Dele
 use Rattle.store_model.proofs.Least.{Each, In, in_left, in_right, each_left, each_right, each_so, each_from}
 use Rattle.store_model.proofs.Led.{leads-least}
 use Rattle.store_model.specs.Enough.{SameAt}
-use Rattle.store_model.specs.Entries.{ids_in, named_by_facts, named_by_commands, ids_named, merge_all, apply, fold_entries}
+use Rattle.store_model.specs.Entries.{ids_in, named_by_facts, named_by_commands, ids_named, all_named, merge_all, apply, fold_entries}
 use Rattle.store_model.specs.Leads.{leads, ids_of_fields, IsLedTo}
 use Rattle.store_model.specs.Records.{Records, slot_at, alive, live, put}
 use Rattle.store_model.specs.Said.{HaveHandleKeys}
@@ -17,7 +17,7 @@ use Rattle.store_model.specs.Sweeps.{sweep, dropped}
 use Rattle.store_model.specs.Updates.{act_all}
 use Rattle.store_model.specs.declared.entry.Entry.{Entry}
 use Rattle.store_model.specs.declared.facts.HandleFact.{HandleFact}
-use Rattle.store_sweeps.specs.Swept.{HeldWithInfo, FieldsStay, Stays, AreWithin, IsNamedIn, Goes, chosen, all_named, EntriesStayWithin, LeadsAreWithin, LeadsAreEnough, SweepsAreUnderLayers}
+use Rattle.store_sweeps.specs.Swept.{HeldWithInfo, FieldsStay, Stays, AreWithin, IsNamedIn, Goes, chosen, EntriesStayWithin, LeadsAreWithin, LeadsAreEnough, SweepsAreUnderLayers}
 use Rattle.store_sweeps.proofs.Writes.{goes_nowhere, goes_on}
 use Rattle.store_sweeps.proofs.Commands.{named_stays, named_wider, facts_go, commands_go}
 use Rattle.store_sweeps.proofs.Pages.{pages_go}

@@ -5,12 +5,12 @@ use Rattle.store_model.specs.store_record.Keys.{Text}
 use Rattle.store_model.proofs.Least.{each_so}
 use Rattle.store_model.proofs.Retained.{reads_retained}
 use Rattle.store_model.specs.Enough.{SameAt}
-use Rattle.store_model.specs.Entries.{fold_entries}
+use Rattle.store_model.specs.Entries.{all_named, fold_entries}
 use Rattle.store_model.specs.Leads.{leads}
 use Rattle.store_model.specs.Reaches.{reach_at}
 use Rattle.store_model.specs.Records.{Records, slot_at}
 use Rattle.store_model.specs.Sweeps.{sweep}
-use Rattle.store_sweeps.specs.Swept.{Goes, chosen, all_named, slots_in, ReachesStayUnderLayers, ReadsStayUnderLayers}
+use Rattle.store_sweeps.specs.Swept.{Goes, chosen, slots_in, ReachesStayUnderLayers, ReadsStayUnderLayers}
 use Rattle.store_sweeps.proofs.Folds.{layers_go}
 use Rattle.store_sweeps.proofs.Reaching.{reach_either}
 use Rattle.store_model.proofs.SweptSlots.{slot_at-sweep}

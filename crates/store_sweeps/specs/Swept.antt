@@ -11,7 +11,7 @@ use Rattle.store_model.specs.Items.{Pointer, Collect}
 use Rattle.store_model.specs.Reaches.{reach_at}
 use Rattle.store_model.specs.Retention.{Covers, pointer_read}
 use Rattle.store_model.specs.Walks.{Slots, read_at, pointers_in_turn}
-use Rattle.store_model.specs.Entries.{ids_in, some_id, ids_named, apply, fold_entries}
+use Rattle.store_model.specs.Entries.{ids_in, some_id, ids_named, all_named, apply, fold_entries}
 use Rattle.store_model.specs.Leads.{leads}
 use Rattle.store_model.specs.Merge.{link_of, info_id}
 use Rattle.store_model.specs.Records.{Records, slot_at, with_slot}
@@ -89,10 +89,6 @@ chosen [] es = []
 chosen (b ∷ bs) [] = []
 chosen (true ∷ bs) (e ∷ es) = e ∷ chosen bs es
 chosen (false ∷ bs) (e ∷ es) = chosen bs es
-
-abbrev pub all_named : List Entry → List Text
-all_named [] = []
-all_named (e ∷ es) = ids_named e ++ all_named es
 
 -- within a set that an entry does not lead out of, it does the same on both maps, and leads out of the larger set no more
 abbrev pub EntriesStayWithin : Type 0

@@ -3,7 +3,7 @@ use Rattle.store_layers.proofs.store_sweeps_laws.Meeting.{leads_of_none}
 use Rattle.store_layers.specs.Layered.{entries_of}
 use Rattle.store_tree.specs.gql_plain.Order.{has_text}
 use Rattle.store_layers.specs.store_model.Leads.{leads}
-use Rattle.store_layers.specs.store_sweeps.Swept.{all_named}
+use Rattle.store_layers.specs.store_model.Entries.{all_named}
 use Rattle.source_tests.proofs.sweeps.swept.Goals as goal
 
 pub sweep_base-requires : goal.sweep_base-requires

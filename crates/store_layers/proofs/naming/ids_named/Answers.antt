@@ -1,9 +1,8 @@
 use Rattle.std.proofs.Common.{◌≡◌, ◌+◌, ◌<◌, ◌||◌, ◌++◌, ◌∷◌, [], length, sym, ap, ◌∙◌, arith}
 use Rattle.std.proofs.lemmas.Result.{IfOk-weaker}
 use Rattle.store_update.specs.gql_plain.Order.{AreSortedOf, has_text}
-use Rattle.store_update.specs.store_model.Entries.{ids_named}
+use Rattle.store_update.specs.store_model.Entries.{all_named, ids_named}
 use Rattle.store_sweeps.proofs.Written.{sorted_has}
-use Rattle.store_sweeps.specs.Swept.{all_named}
 use Rattle.store_layers.proofs.Rebuilt.{named_more, within_all}
 use Rattle.store_layers.proofs.Steps.{within_more}
 use Rattle.store_layers.proofs.naming.ids_named.Goals as goal

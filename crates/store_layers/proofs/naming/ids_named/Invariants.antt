@@ -1,7 +1,7 @@
 use Rattle.std.proofs.Common.{◌≡◌, ◌≤◌}
 use Rattle.store_update.specs.gql_plain.Order.{has_text}
 use Rattle.store_update.specs.store_record.Keys.{Text}
-use Rattle.store_sweeps.specs.Swept.{all_named}
+use Rattle.store_update.specs.store_model.Entries.{all_named}
 use Rattle.store_layers.specs.Versions.{entries_within}
 use Rattle.store_layers.proofs.naming.ids_named.Given as goal
 

@@ -14,7 +14,7 @@ use Rattle.relay_machine.specs.Printed.{collect_line}
 use Rattle.store_layers.specs.Drafts.{Fits, placed}
 use Rattle.store_layers.specs.Layered.{Layered, entries_of, swept, view_of}
 use Rattle.store_layers.proofs.store_sweeps_laws.Meeting.{leads_of_none}
-use Rattle.store_layers.specs.store_sweeps.Swept.{all_named}
+use Rattle.plan_ir.specs.store_model.Entries.{all_named}
 use Rattle.plan_ir.specs.store_model.Leads.{leads}
 use Rattle.plan_ir.specs.store_model.Sweeps.{dropped}
 use Rattle.plan_ir.specs.gql_plain.Order.{has_text}

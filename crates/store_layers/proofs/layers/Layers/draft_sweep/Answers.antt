@@ -4,7 +4,7 @@ use Rattle.store_update.specs.store_record.Keys.{Text}
 use Rattle.store_update.specs.store_model.Leads.{leads}
 use Rattle.store_update.specs.store_model.Records.{slot_at}
 use Rattle.store_update.specs.store_model.Sweeps.{sweep, dropped}
-use Rattle.store_sweeps.specs.Swept.{all_named}
+use Rattle.store_update.specs.store_model.Entries.{all_named}
 use Rattle.store_layers.proofs.layers.Layers.draft_sweep.Goals as goal
 use Rattle.store_layers.specs.Drafts.{Fits, placed}
 use Rattle.store_layers.specs.Layered.{Layered, entries_of, swept, view_of}
