@@ -3,12 +3,12 @@ use Rattle.std.proofs.Common.{◌≡◌, ℕ, ◌+◌, ◌*◌, ◌≤◌, false
 use Rattle.std.proofs.Math.Seq.{drop-append_seam}
 use Rattle.std.proofs.lemmas.List.{length-map, map-append}
 use Rattle.relay_engine.proofs.LayerLaws.{without_is}
-use Rattle.relay_engine.proofs.StandingLaws.{same_entries, stands_begun, stands_committed, stands_finished, stands_reverted, view_is}
+use Rattle.relay_engine.proofs.StandingLaws.{entries_are, same_entries, stands_begun, stands_committed, stands_finished, stands_reverted, view_is}
 use Rattle.relay_engine.specs.Kept.{Kept}
 use Rattle.relay_engine.specs.Stands.{StandsFor, layer_of}
 use Rattle.relay_engine.specs.Work.{Change, confirming, dropping, starting}
-use Rattle.relay_machine.specs.Effects.{entries_in, layer_entries}
-use Rattle.relay_machine.specs.Machine.{Confirmation, Layer, Project, State, confirm, confirmed, drop_layer, view, with_layer, without_layer}
+use Rattle.relay_machine.specs.Effects.{entries_in}
+use Rattle.relay_machine.specs.Machine.{Confirmation, Layer, Project, State, confirm, confirmed, drop_layer, layer_entries, view, with_layer, without_layer}
 use Rattle.plan_ir.specs.schema_tables.Types.{Text}
 use Rattle.store_layers.specs.Layered.{Layered, above, begun, below, committed, entries_of, finished, from_on, is_live, reverted, view_of, without}
 use Rattle.store_layers.specs.Work.{weights}
@@ -50,18 +50,15 @@ newest_layer ls l =
     ∙ drop-append_seam (map (λ (x : Layer). x.entry) ls) (l.entry ∷ [])
 
 module _ (k : Kept) (p : Project) (s : State) (stands : StandsFor k p s) where
-  entries_are : entries_of k.layers.live ≡ layer_entries s
-  entries_are = ap entries_of stands.layers ∙ same_entries s.layers
-
   entries_without : (name : Text) → entries_of (without name k.layers.live) ≡ layer_entries (drop_layer name s)
   entries_without name =
       ap (λ ls. entries_of (without name ls)) stands.layers ∙ ap entries_of (without_is name s.layers stands.apart) ∙ same_entries (without_layer name s.layers)
 
   pub commits : (e : Entry) → committing e k.layers ≡ confirming p s (confirm e s)
-  commits e = λ i. record { under = stands.base i; before = entries_are i; after = sym (newest_confirmed s.entries e) i ++ entries_are i }
+  commits e = λ i. record { under = stands.base i; before = entries_are k p s stands i; after = sym (newest_confirmed s.entries e) i ++ entries_are k p s stands i }
 
   pub finishes : (name : Text) (e : Entry) → finishing name e k.layers ≡ confirming p s (confirm e (drop_layer name s))
-  finishes name e = λ i. record { under = stands.base i; before = entries_are i; after = sym (newest_confirmed s.entries e) i ++ entries_without name i }
+  finishes name e = λ i. record { under = stands.base i; before = entries_are k p s stands i; after = sym (newest_confirmed s.entries e) i ++ entries_without name i }
 
   pub begins : (name : Text) (e : Entry) → beginning e k.layers ≡ starting p s (with_layer name e s)
   begins name e =

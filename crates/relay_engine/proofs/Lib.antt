@@ -2,6 +2,7 @@ mod Beginnings
 mod ChangeLaws
 mod ChangeWork
 mod HandleLaws
+mod IdLaws
 mod KeepingLaws
 mod LaterLaws
 mod LayerLaws

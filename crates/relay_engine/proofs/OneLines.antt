@@ -137,9 +137,9 @@ pub shown_one : (n : ℕ) (of : Text × Tree) (r : Reading) (words : Text) → w
 shown_one n of r words e =
     line_one ((codes "data", r.value) ∷ (codes "missing", truth r.missing) ∷ (codes "n", number n) ∷ of ∷ (codes "seen", list (trees_of (map text r.seen))) ∷ []) words e
 
-pub collect_one : (n dropped : ℕ) (waiting : Bool) (words : Text) → words ++ 10 ∷ [] ≡ collect_line n dropped waiting → IsOneLine words
-collect_one n dropped waiting words e =
-    line_one ((codes "dropped", number dropped) ∷ (codes "n", number n) ∷ (codes "ok", text (codes "collect")) ∷ (codes "waiting", truth waiting) ∷ []) words e
+pub collect_one : (n dropped : ℕ) (words : Text) → words ++ 10 ∷ [] ≡ collect_line n dropped → IsOneLine words
+collect_one n dropped words e =
+    line_one ((codes "dropped", number dropped) ∷ (codes "n", number n) ∷ (codes "ok", text (codes "collect")) ∷ (codes "waiting", truth false) ∷ []) words e
 
 pub refusal_one : (n : ℕ) (r : Refusal) (words : Text) → words ++ 10 ∷ [] ≡ refusal_line n r → IsOneLine words
 refusal_one n r words e = line_one ((codes "code", number (code_of r)) ∷ (codes "error", text (name_of r)) ∷ (codes "n", number n) ∷ keys_of r) words e

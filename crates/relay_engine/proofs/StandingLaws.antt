@@ -5,7 +5,7 @@ use Rattle.relay_engine.proofs.LayerLaws.{apart_after, apart_without, layers_aft
 use Rattle.relay_engine.specs.Kept.{Kept, with_layers}
 use Rattle.relay_engine.specs.Stands.{StandsFor, StandsUntold, layer_of}
 use Rattle.relay_machine.proofs.Sweeps.{confirmed_after}
-use Rattle.relay_machine.specs.Machine.{Layer, Project, State, base, confirm, confirmed, drop_layer, is_layer, view, with_layer}
+use Rattle.relay_machine.specs.Machine.{Layer, Project, State, base, confirm, confirmed, drop_layer, is_layer, layer_entries, view, with_layer}
 use Rattle.plan_ir.specs.schema_tables.Types.{Text}
 use Rattle.store_layers.specs.Layered as layered
 use Rattle.store_layers.specs.Layered.{Layered, begun, committed, entries_of, finished, is_live, reverted, view_of}
@@ -26,6 +26,9 @@ view_is ls p s under over = λ i. fold_entries ((ap entries_of over ∙ same_ent
 -- ---- changes of the layers
 
 module _ (k : Kept) (p : Project) (s : State) (stands : StandsFor k p s) where
+  pub entries_are : entries_of k.layers.live ≡ layer_entries s
+  entries_are = ap entries_of stands.layers ∙ same_entries s.layers
+
   pub stands_committed : (e : Entry) → StandsUntold (with_layers k (committed e k.layers)) p (confirm e s)
   stands_committed e = record {
     schema = stands.schema;

@@ -6,9 +6,10 @@ use Rattle.std.specs.Result.{IfOk}
 use Rattle.plan_ir.specs.gql_plain.Order.{has_text}
 use Rattle.relay_engine.specs.Answered.{AreLines}
 use Rattle.relay_engine.specs.Kept.{Kept}
+use Rattle.relay_engine.specs.Sweeping.{HasHandleKeys}
 use Rattle.relay_engine.specs.Work.{AppliesAbove, Change, ReadsWithin, change_of, change_work, changing_work, event_work, is_touched, notice_work, read_work}
 use Rattle.relay_engine.specs.declared.lines.Lines.{Lines}
-use Rattle.relay_machine.specs.Effects.{answer_reads}
+use Rattle.relay_machine.specs.Effects.{answer_reads, sweeps}
 use Rattle.relay_machine.specs.Machine.{Project, State, Step, accept, view}
 use Rattle.plan_ir.specs.schema_tables.Types.{Text}
 use Rattle.store_layers.specs.Layered.{Layered, above, view_of}
@@ -137,6 +138,10 @@ reverted_in e.not_json = None
 reverted_in e.no_event = None
 reverted_in e.no_commands = None
 reverted_in (e.event event) = reverted_by event
+
+-- a line that does not sweep has nothing to tell of the pages of layers
+pub not_swept : {E : Type 0} (r : Result Lines E) (k : Kept) (line : Line) → sweeps line ≡ false → IfOk r (λ lines. HasHandleKeys k line)
+not_swept r k line none = always r (λ lines. HasHandleKeys k line) (λ lines sweeping. absurd (true≢false (sym sweeping ∙ none)))
 
 module _ {E : Type 0} (r : Result Lines E) (k : Kept) (line : Line) (before after : ℕ) where
   -- no layer is dropped alone

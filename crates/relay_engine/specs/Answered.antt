@@ -1,5 +1,5 @@
 -- What the parts of an event give, as the machine sees it.
-use Rattle.std.specs.Prelude.{◌≡◌, ℕ, Bool, true, Option, Some, None, Err}
+use Rattle.std.specs.Prelude.{◌≡◌, ℕ, Bool, true, false, Option, Some, None, Err}
 use Rattle.event_script.specs.Seen.{Says}
 use Rattle.event_script.specs.declared.fault.LineFault.{LineFault}
 use Rattle.relay_engine.specs.Kept.{Kept}
@@ -7,6 +7,7 @@ use Rattle.relay_engine.specs.Steps.{AreSingle, HasStepped, IsStep, written}
 use Rattle.relay_engine.specs.declared.lines.Lines.{Lines}
 use Rattle.relay_engine.specs.declared.taking.Taken.{Taken}
 use Rattle.relay_engine.specs.declared.taking.Taken.TheVariants as T
+use Rattle.relay_machine.specs.Effects.{sweeps}
 use Rattle.relay_machine.specs.Machine.{Project, Step, step_line}
 use Rattle.relay_machine.specs.Printed.{refusal_line}
 use Rattle.relay_machine.specs.Refusals.{variables}
@@ -30,6 +31,10 @@ IsRefusalOf n fault lines = (found : Option Failure) → Tells found fault → (
 -- the lines refuse a line that gives no event for this fault
 abbrev pub IsFaultOf : ℕ → LineFault → Lines → Type 0
 IsFaultOf n fault lines = (line : Line) → Says (Err fault) line → (k : Kept) → HasStepped k k lines (λ p s. step_line p k.buffer s n line)
+
+-- no line that gives no event for this fault sweeps
+abbrev pub IsOfNoSweep : LineFault → Type 0
+IsOfNoSweep fault = (line : Line) → Says (Err fault) line → sweeps line ≡ false
 
 -- the step is what is made of the entry, or the lines are the step's and nothing changes
 abbrev pub Gives : Kept → Project → Step → (take : Entry → Step) → Taken → Type 0

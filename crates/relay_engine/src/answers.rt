@@ -1,6 +1,6 @@
 //! What lines are answered.
 ghost use Rattle.std.specs.Prelude.{◌≡◌, ◌++◌, [], ◌∷◌, true, false, IfOk};
-ghost use Rattle.relay_engine.specs.Answered.{AreLines, IsFaultOf, IsRefusalOf};
+ghost use Rattle.relay_engine.specs.Answered.{AreLines, IsFaultOf, IsOfNoSweep, IsRefusalOf};
 ghost use Rattle.relay_engine.specs.Steps.{IsOneLine};
 ghost use Rattle.relay_lines.specs.RefusalShown.{refusal_shown};
 ghost use Rattle.relay_machine.specs.Printed as model;
@@ -30,16 +30,11 @@ pub(crate) fn show_watch(alloc: Global, snapshot: &Snapshot, n: u64) -> Result<L
     one_line(alloc, text, false)
 }
 
-/// The answer of a sweep: how many ids were dropped, and whether it waits for the live layers.
-pub(crate) fn collected(
-    alloc: Global,
-    dropped: u64,
-    waiting: bool,
-    n: u64,
-) -> Result<Lines, NoMemory>
-    ensures { IfOk result (AreLines (model.collect_line n dropped waiting) false) }
+/// The answer of a sweep: how many ids were dropped.
+pub(crate) fn collected(alloc: Global, dropped: u64, n: u64) -> Result<Lines, NoMemory>
+    ensures { IfOk result (AreLines (model.collect_line n dropped) false) }
 {
-    let text = collect_line(alloc, dropped, waiting, n)?;
+    let text = collect_line(alloc, dropped, n)?;
     one_line(alloc, text, false)
 }
 
@@ -66,6 +61,7 @@ pub(crate) fn refuse_variables(alloc: Global, fault: VarFault, n: u64) -> Result
 pub(crate) fn refuse_fault(alloc: Global, fault: LineFault, n: u64) -> Result<Lines, NoMemory>
     ensures fault { IfOk result (IsFaultOf n fault) }
     ensures refused { IfOk result (λ lines. lines.refused ≡ true) }
+    ensures quiet { IfOk result (λ lines. IsOfNoSweep fault) }
 {
     match fault {
         LineFault::NotJson => refuse(alloc, Refusal::NotJson, n),

@@ -10,6 +10,7 @@ ghost use Rattle.relay_engine.specs.RetainedReads.{KeepsRetainedReads};
 ghost use Rattle.relay_engine.specs.Spares.{Spares};
 ghost use Rattle.relay_engine.specs.Stands.{StandsFor};
 ghost use Rattle.relay_engine.specs.Steps.{HasPrinted, HasStepped};
+ghost use Rattle.relay_engine.specs.Sweeping.{HasHandleKeys};
 ghost use Rattle.relay_engine.specs.Work.{AppliesAbove, IsWithinWork};
 ghost use Rattle.relay_machine.specs.Machine as machine;
 ghost use Rattle.plan_ir.specs.store_model.Events as events;
@@ -122,6 +123,7 @@ impl<S: RecordSource> Engine<S> {
     fn step_line(&mut self, line: &[u8], n: u64, steps: &mut S::Count) -> Result<Lines, NoMemory>
         ensures step { IfOk result (λ lines. HasStepped self.old self.new lines (λ p s. machine.step p self.old.buffer s n line.now)) }
         ensures spares { Spares self.old self.new result }
+        ensures keys { IfOk result (λ lines. HasHandleKeys self.old (events.line_of line.now)) }
         ensures applies { S.Count.applies steps.new ≤ S.Count.applies steps.old + (length self.old.layers.live + 1) }
         ensures exact { IfOk result (λ lines. AppliesAbove self.old (events.line_of line.now) lines.refused (S.Count.applies steps.old) (S.Count.applies steps.new)) }
         ensures looks { IsWithinWork self.old n (events.line_of line.now) (S.Count.looks steps.old) (S.Count.looks steps.new) }
@@ -136,6 +138,7 @@ impl<S: RecordSource> Engine<S> {
     fn step_event(&mut self, event: Event, n: u64, steps: &mut S::Count) -> Result<Lines, NoMemory>
         ensures step { IfOk result (λ lines. HasStepped self.old self.new lines (λ p s. machine.step_event p self.old.buffer s n (event_seen event))) }
         ensures spares { Spares self.old self.new result }
+        ensures keys { IfOk result (λ lines. HasHandleKeys self.old (events.event (event_seen event))) }
         ensures applies { S.Count.applies steps.new ≤ S.Count.applies steps.old + (length self.old.layers.live + 1) }
         ensures exact { IfOk result (λ lines. AppliesAbove self.old (events.event (event_seen event)) lines.refused (S.Count.applies steps.old) (S.Count.applies steps.new)) }
         ensures looks { IsWithinWork self.old n (events.event (event_seen event)) (S.Count.looks steps.old) (S.Count.looks steps.new) }

@@ -2,4 +2,4 @@ use Rattle.relay_engine.proofs.OneLines.{collect_one}
 use Rattle.relay_engine.proofs.answers.collected.Goals as goal
 
 pub one_line-requires : goal.one_line-requires
-one_line-requires c = collect_one c.args.n c.args.dropped c.args.waiting c.in_ok-text.text c.in_ok-text.ensures
+one_line-requires c = collect_one c.args.n c.args.dropped c.in_ok-text.text c.in_ok-text.ensures

@@ -1,13 +1,20 @@
 use Rattle.std.proofs.Common.{true≢false, sym, ap, subst, ◌∙◌, IfOk}
+use Rattle.std.proofs.lemmas.Result.{IfOk-weaker}
+use Rattle.std.specs.List.{AllByRecursion}
 use Rattle.event_script.specs.Seen.{event_seen, target_seen}
 use Rattle.relay_engine.proofs.QuietLaws.{on_quiet}
-use Rattle.relay_engine.proofs.WorkLaws.{is_reverted, not_reverted, reverted_by}
+use Rattle.relay_engine.proofs.WorkLaws.{is_reverted, not_reverted, not_swept, reverted_by}
 use Rattle.relay_engine.proofs.engine.Engine.step_event.Goals as goal
 use Rattle.relay_engine.specs.Kept.{Kept}
 use Rattle.relay_engine.specs.Steps.{HasStepped}
-use Rattle.relay_engine.specs.Work.{IsWithinWork, is_collect}
+use Rattle.relay_engine.specs.Sweeping.{HasHandleKeys}
+use Rattle.relay_engine.specs.Work.{IsWithinWork}
+use Rattle.relay_machine.specs.Effects.{event_sweeps}
 use Rattle.relay_machine.specs.Machine.{step_event, step_read, step_release, step_retain, step_unwatch, step_watch}
 use Rattle.plan_ir.specs.store_model.Events.{event}
+use Rattle.plan_ir.specs.store_model.Said.{HaveHandleKeys}
+use Rattle.plan_ir.specs.store_model.declared.entry.Entry.{Entry}
+use Rattle.store_layers.specs.Layered.{entries_of}
 
 pub returns-in-Retain-clause-step : goal.returns-in-Retain-clause-step
 returns-in-Retain-clause-step g c =
@@ -48,6 +55,41 @@ returns-in-Unwatch-clause-step g c =
     let a = c.in-Unwatch in
     subst (λ e. IfOk c.unwatch.result (λ lines. HasStepped k c.unwatch.new.self lines (λ p s. step_event p k.buffer s n (event_seen e)))) (sym a.is)
     (on_quiet c.unwatch.result k c.unwatch.new.self n (λ p s. step_unwatch s n a.watch) c.unwatch.ensures.step)
+
+pub returns-in-Retain-clause-keys : goal.returns-in-Retain-clause-keys
+returns-in-Retain-clause-keys g c = not_swept c.retain.result c.args.self.now (event (event_seen c.args.event)) (ap (λ e. event_sweeps (event_seen e)) c.in-Retain.is)
+
+pub returns-in-Release-clause-keys : goal.returns-in-Release-clause-keys
+returns-in-Release-clause-keys g c = not_swept c.release.result c.args.self.now (event (event_seen c.args.event)) (ap (λ e. event_sweeps (event_seen e)) c.in-Release.is)
+
+pub returns-in-Payload-clause-keys : goal.returns-in-Payload-clause-keys
+returns-in-Payload-clause-keys g c = not_swept c.confirm.result c.args.self.now (event (event_seen c.args.event)) (ap (λ e. event_sweeps (event_seen e)) c.in-Payload.is)
+
+pub returns-in-Update-clause-keys : goal.returns-in-Update-clause-keys
+returns-in-Update-clause-keys g c = not_swept c.confirm-in-Update.result c.args.self.now (event (event_seen c.args.event)) (ap (λ e. event_sweeps (event_seen e)) c.in-Update.is)
+
+pub returns-in-Begin-clause-keys : goal.returns-in-Begin-clause-keys
+returns-in-Begin-clause-keys g c = not_swept c.begin.result c.args.self.now (event (event_seen c.args.event)) (ap (λ e. event_sweeps (event_seen e)) c.in-Begin.is)
+
+pub returns-in-Finish-clause-keys : goal.returns-in-Finish-clause-keys
+returns-in-Finish-clause-keys g c = not_swept c.finish.result c.args.self.now (event (event_seen c.args.event)) (ap (λ e. event_sweeps (event_seen e)) c.in-Finish.is)
+
+pub returns-in-Revert-clause-keys : goal.returns-in-Revert-clause-keys
+returns-in-Revert-clause-keys g c = not_swept c.revert.result c.args.self.now (event (event_seen c.args.event)) (ap (λ e. event_sweeps (event_seen e)) c.in-Revert.is)
+
+pub returns-in-Read-clause-keys : goal.returns-in-Read-clause-keys
+returns-in-Read-clause-keys g c = not_swept c.read.result c.args.self.now (event (event_seen c.args.event)) (ap (λ e. event_sweeps (event_seen e)) c.in-Read.is)
+
+pub returns-in-Watch-clause-keys : goal.returns-in-Watch-clause-keys
+returns-in-Watch-clause-keys g c = not_swept c.watch.result c.args.self.now (event (event_seen c.args.event)) (ap (λ e. event_sweeps (event_seen e)) c.in-Watch.is)
+
+pub returns-in-Unwatch-clause-keys : goal.returns-in-Unwatch-clause-keys
+returns-in-Unwatch-clause-keys g c = not_swept c.unwatch.result c.args.self.now (event (event_seen c.args.event)) (ap (λ e. event_sweeps (event_seen e)) c.in-Unwatch.is)
+
+pub returns-in-Collect-clause-keys : goal.returns-in-Collect-clause-keys
+returns-in-Collect-clause-keys g c =
+    IfOk-weaker c.collect.result (λ lines. AllByRecursion (λ (e : Entry). HaveHandleKeys e.facts.handles) (entries_of c.args.self.now.layers.live))
+    (λ lines. HasHandleKeys c.args.self.now (event (event_seen c.args.event))) (λ lines keys sweeping. keys) c.collect.ensures.keys
 
 pub returns-in-Retain-clause-exact : goal.returns-in-Retain-clause-exact
 returns-in-Retain-clause-exact g c =
@@ -130,7 +172,7 @@ returns-in-Watch-clause-looks g c =
     (λ p s stands quiet. c.watch.ensures.looks p s stands)
 
 pub returns-in-Collect-clause-looks : goal.returns-in-Collect-clause-looks
-returns-in-Collect-clause-looks g c = λ p s stands quiet. absurd (true≢false (sym (ap (λ e. is_collect (event_seen e)) c.in-Collect.is) ∙ quiet))
+returns-in-Collect-clause-looks g c = λ p s stands quiet. absurd (true≢false (sym (ap (λ e. event_sweeps (event_seen e)) c.in-Collect.is) ∙ quiet))
 
 pub returns-in-Revert-clause-step : goal.returns-in-Revert-clause-step
 returns-in-Revert-clause-step g c =

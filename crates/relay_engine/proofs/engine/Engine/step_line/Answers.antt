@@ -1,13 +1,14 @@
 -- What is kept is the same as the parts that are read.
-use Rattle.std.proofs.Common.{sym, subst, IfOk}
+use Rattle.std.proofs.Common.{true≢false, sym, subst, ◌∙◌, IfOk}
 use Rattle.std.proofs.lemmas.Result.{IfOk-weaker}
 use Rattle.relay_engine.proofs.KeepingLaws.{kept_of}
 use Rattle.relay_engine.proofs.WorkLaws.{none_reverted}
 use Rattle.relay_engine.proofs.engine.Engine.step_line.Goals as goal
-use Rattle.relay_engine.specs.Answered.{IsFaultOf}
+use Rattle.relay_engine.specs.Answered.{IsFaultOf, IsOfNoSweep}
 use Rattle.relay_engine.specs.Kept.{Kept}
 use Rattle.relay_engine.specs.Spares.{Spares}
 use Rattle.relay_engine.specs.Steps.{HasStepped}
+use Rattle.relay_engine.specs.Sweeping.{HasHandleKeys}
 use Rattle.relay_engine.specs.Work.{AppliesAbove, IsWithinWork}
 use Rattle.relay_machine.specs.Machine.{step, step_line}
 use Rattle.plan_ir.specs.store_model.Events.{line_of}
@@ -21,6 +22,13 @@ returns-in-Ok-clause-step g c =
 
 pub returns-in-Ok-clause-spares : goal.returns-in-Ok-clause-spares
 returns-in-Ok-clause-spares g c = subst (λ (k : Kept). Spares k c.step_event.new.self c.step_event.result) c.self.view_is c.step_event.ensures.spares
+
+pub returns-in-Ok-clause-keys : goal.returns-in-Ok-clause-keys
+returns-in-Ok-clause-keys g c =
+    let inside = c.self.inside in
+    let made : Kept = kept_of inside.project inside.layers inside.retained inside.watches in
+    subst (λ (k : Kept). IfOk c.step_event.result (λ lines. HasHandleKeys k (line_of c.args.line.now))) c.self.view_is
+    (subst (λ l. IfOk c.step_event.result (λ lines. HasHandleKeys made l)) (sym c.in-Ok.ensures) c.step_event.ensures.keys)
 
 pub returns-in-Ok-clause-exact : goal.returns-in-Ok-clause-exact
 returns-in-Ok-clause-exact g c =
@@ -48,6 +56,12 @@ returns-in-Err-clause-step g c =
     let line = c.args.line.now in
     IfOk-weaker c.refuse_fault.result (IsFaultOf c.args.n c.in-Err.fault) (λ lines. HasStepped old made lines (λ p s. step p old.buffer s c.args.n line))
     (λ lines is. subst (λ k. HasStepped old k lines (λ p s. step p old.buffer s c.args.n line)) (sym c.self.view_is) (is (line_of line) c.in-Err.ensures old)) c.refuse_fault.ensures.fault
+
+pub returns-in-Err-clause-keys : goal.returns-in-Err-clause-keys
+returns-in-Err-clause-keys g c =
+    let line = line_of c.args.line.now in
+    IfOk-weaker c.refuse_fault.result (λ lines. IsOfNoSweep c.in-Err.fault) (λ lines. HasHandleKeys c.args.self.now line)
+    (λ lines quiet sweeping. absurd (true≢false (sym sweeping ∙ quiet line c.in-Err.ensures))) c.refuse_fault.ensures.quiet
 
 pub returns-in-Err-clause-exact : goal.returns-in-Err-clause-exact
 returns-in-Err-clause-exact g c =
