@@ -4,14 +4,14 @@ use Rattle.later_lines.proofs.AlikeSteps.{lines_alike}
 use Rattle.later_lines.proofs.Sweeping.{quiet_sweeps, sweeps_alike, sweeps_meet_again}
 use Rattle.later_lines.specs.Alike.{dropped_ids, swept_state}
 use Rattle.later_lines.specs.Looked.{sweeps}
-use Rattle.relay_engine.specs.Kept.{Kept}
-use Rattle.relay_engine.specs.LaterLines.{KeepsLaterLines, MeetsStep}
-use Rattle.relay_engine.specs.Stands.{StandsFor}
-use Rattle.relay_engine.specs.Steps.{HasStepped, IsStep}
-use Rattle.relay_engine.specs.declared.lines.Lines.{Lines}
-use Rattle.relay_machine.specs.Machine.{State, step_line}
+use Rattle.line_engine.specs.Kept.{Kept}
+use Rattle.line_engine.specs.Stands.{StandsFor}
+use Rattle.line_engine.specs.Steps.{HasStepped, IsStep}
+use Rattle.line_engine.specs.declared.lines.Lines.{Lines}
+use Rattle.line_engine.specs.relay_machine.Machine.{State, step_line}
 use Rattle.plan_ir.specs.store_model.Events as e
 use Rattle.plan_ir.specs.store_model.Events.{Event, Line}
+use Rattle.relay_engine.specs.LaterLines.{KeepsLaterLines, MeetsStep}
 
 -- an event that sweeps is a collect
 is_collect : (s : State) (event : Event) → sweeps s (e.event event) ≡ true → event ≡ e.collect

@@ -1,20 +1,20 @@
 -- The law of retained reads at a call that has stepped.
 use Rattle.std.proofs.Common.{◌≡◌, ℕ, Bool, true, false, true≢false, ◌==◌, cond, List, [], ◌∷◌, ◌++◌, map, length, sym, ◌∙◌, subst}
 use Rattle.std.specs.List.{AllByRecursion}
-use Rattle.plan_project.specs.Projects.{IsAcceptedProject}
-use Rattle.relay_engine.proofs.LaterLaws.{of_sweep}
-use Rattle.relay_engine.specs.Kept.{HandleKept, Kept, OperationKept}
-use Rattle.relay_engine.specs.RetainedReads.{KeepsRetainedReads}
-use Rattle.relay_engine.specs.Stands.{KeepsHandles, KeepsReleased, StandsFor}
-use Rattle.relay_engine.specs.Steps.{HasStepped}
-use Rattle.relay_engine.specs.declared.lines.Lines.{Lines}
-use Rattle.relay_machine.proofs.Sweeps.{confirmed_after}
-use Rattle.relay_machine.specs.Machine.{Handle, Project, Retained, State, accept, base, last_of, noticed, retained, retained_by, step_line, sweep_base, sweep_of, swept}
-use Rattle.relay_machine.specs.Printed.{collect_line}
-use Rattle.retained_reads.proofs.Sweeping.{sweeps_keep_reads}
-use Rattle.retained_reads.specs.Reads.{IsOfDocuments, StaysRead}
+use Rattle.line_engine.specs.plan_project.Projects.{IsAcceptedProject}
+use Rattle.line_engine.specs.Kept.{HandleKept, Kept, OperationKept}
+use Rattle.line_engine.specs.Stands.{KeepsHandles, KeepsReleased, StandsFor}
+use Rattle.line_engine.specs.Steps.{HasStepped}
+use Rattle.line_engine.specs.declared.lines.Lines.{Lines}
+use Rattle.line_engine.proofs.relay_machine_laws.Sweeps.{confirmed_after}
+use Rattle.line_engine.specs.relay_machine.Machine.{Handle, Project, Retained, State, accept, base, last_of, noticed, retained, retained_by, step_line, sweep_base, sweep_of, swept}
+use Rattle.line_engine.specs.relay_machine.Printed.{collect_line}
 use Rattle.plan_ir.specs.store_model.Events.{Line}
 use Rattle.plan_ir.specs.store_model.Records.{no_records}
+use Rattle.relay_engine.proofs.LaterLaws.{of_sweep}
+use Rattle.relay_engine.specs.RetainedReads.{KeepsRetainedReads}
+use Rattle.retained_reads.proofs.Sweeping.{sweeps_keep_reads}
+use Rattle.retained_reads.specs.Reads.{IsOfDocuments, StaysRead}
 
 -- ---- what is retained are operations of the documents
 
