@@ -142,12 +142,12 @@ fn snapshots_are_lines(rt: HostRuntime) -> Result<(), Fail> {
 fn sweeps_are_lines(rt: HostRuntime) -> Result<(), Fail> {
     let alloc = rt.alloc();
     assert_eq!(rt;
-        collect_line(alloc, 1, false, 34)?.as_str(),
+        collect_line(alloc, 1, 34)?.as_str(),
         r#"{"dropped":1,"n":34,"ok":"collect","waiting":false}"#
     );
     assert_eq!(rt;
-        collect_line(alloc, 0, true, 6)?.as_str(),
-        r#"{"dropped":0,"n":6,"ok":"collect","waiting":true}"#
+        collect_line(alloc, 0, 6)?.as_str(),
+        r#"{"dropped":0,"n":6,"ok":"collect","waiting":false}"#
     );
     Ok(())
 }
