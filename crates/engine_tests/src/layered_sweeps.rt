@@ -1,8 +1,9 @@
-//! Sweeps under live layers. What is expected was worked out by hand, in this way: the ids of the base are
-//! written down, the `payload`s and commands so far in order; of them a sweep keeps the ids that the walk of
-//! a retained operation visits in the base, and those that the ids of the live layers lead to there: each
-//! such id, what the live records among them link to, and so on, and beside each id its page information.
-//! The others are the dropped ones. A read is then made over what was kept, with the layers applied to it.
+//! Sweeps under live layers. What is expected was worked out by hand, in this way: what was confirmed so far
+//! gives the ids of the base, deleted ones too. Of these a sweep keeps the ids that the walk of a retained
+//! operation visits in the base, and those that the live layers lead to there: the ids that their responses
+//! and commands name, what the live records among them link to, and so on, and beside each id that of its
+//! page information. The others are the dropped ones. A read is then made over what was kept, with the layers
+//! applied to it in order of start.
 use crate::replaying::{replayed, replayed_flat};
 use std::test::Fail;
 
