@@ -7,6 +7,8 @@ mod connections;
 #[cfg(test)]
 mod faults;
 #[cfg(test)]
+mod layered_sweeps;
+#[cfg(test)]
 mod layers;
 #[cfg(test)]
 mod limits;

@@ -55,6 +55,16 @@ const EVERY_EVENT: &str = r#"> {"do":"retain","handle":"h","op":"K"}
 {"code":7,"error":"UnknownHandle","n":16,"name":"h"}
 > {"do":"release","handle":"i"}
 {"code":9,"error":"HandleInUse","n":17,"name":"i"}
+> {"do":"begin","layer":"c","updates":[{"create":{"id":"8","type":"User"}}]}
+{"n":18,"ok":"begin"}
+> {"do":"update","updates":[{"create":{"id":"8","type":"User"}},{"create":{"id":"9","type":"User"}}]}
+{"n":19,"ok":"update"}
+> {"do":"collect"}
+{"dropped":1,"n":20,"ok":"collect","waiting":false}
+> {"do":"revert","layer":"c"}
+{"n":21,"ok":"revert"}
+> {"do":"collect"}
+{"dropped":1,"n":22,"ok":"collect","waiting":false}
 "#;
 
 /// What an engine answers to a line, which it is given once more where memory is lacking.

@@ -98,47 +98,6 @@ fn the_operation_that_was_released_first_is_let_go_first(rt: HostRuntime) -> Res
     Ok(())
 }
 
-const AGES: &str = "query G{me{age}} fragment P on User{name}";
-
-const WAITING: &str = r#"> {"do":"update","updates":[{"create":{"id":"7","type":"User"}}]}
-{"n":1,"ok":"update"}
-> {"do":"collect"}
-{"dropped":1,"n":2,"ok":"collect","waiting":false}
-> {"do":"retain","handle":"h","op":"G"}
-{"n":3,"ok":"retain"}
-> {"do":"payload","handle":"h","response":{"data":{"me":{"id":"4","age":5}}},"updates":[{"create":{"id":"9","type":"User"}},{"create":{"id":"8","type":"User"}},{"delete":{"id":"8"}}]}
-{"n":4,"ok":"payload"}
-> {"do":"begin","layer":"a","updates":[{"create":{"id":"7","type":"User"}}]}
-{"n":5,"ok":"begin"}
-> {"do":"collect"}
-{"dropped":0,"n":6,"ok":"collect","waiting":true}
-> {"do":"begin","layer":"b"}
-{"n":7,"ok":"begin"}
-> {"do":"revert","layer":"a"}
-{"n":8,"ok":"revert"}
-> {"do":"collect"}
-{"dropped":0,"n":9,"ok":"collect","waiting":true}
-> {"do":"read","handle":"h","fragment":"P","id":"9"}
-{"data":{},"missing":true,"n":10,"ok":"read","seen":["9"]}
-> {"do":"finish","layer":"b"}
-{"n":11,"ok":"finish"}
-> {"do":"collect"}
-{"dropped":2,"n":12,"ok":"collect","waiting":false}
-> {"do":"read","handle":"h","fragment":"P","id":"9"}
-{"data":null,"missing":true,"n":13,"ok":"read","seen":["9"]}
-> {"do":"read","handle":"h","fragment":"P","id":"8"}
-{"data":null,"missing":true,"n":14,"ok":"read","seen":["8"]}
-> {"do":"read","handle":"h"}
-{"data":{"me":{"age":5}},"missing":false,"n":15,"ok":"read","seen":["4","client:root"]}
-"#;
-
-#[test]
-fn a_sweep_waits_while_a_layer_is_live(rt: HostRuntime) -> Result<(), Fail> {
-    let alloc = rt.alloc();
-    assert_eq!(rt; replayed(alloc, AGES, WAITING)?.as_str(), WAITING);
-    Ok(())
-}
-
 const FRIENDS: &str = "query M{me{name friend{name}}} query N{me{friend{id}}}";
 
 const FEWER: &str = r#"> {"do":"retain","handle":"h","op":"M"}

@@ -18,7 +18,7 @@ fn two_hundred_thousand_drawn_lines_are_summed_up(rt: HostRuntime) -> Result<(),
     assert_eq!(rt; status, Status::Done);
     assert_eq!(rt;
         out.contents(),
-        b"{\"bytes\":25098535,\"lines\":200000,\"notices\":149940,\"refused\":0}\n".as_slice()
+        b"{\"bytes\":25123205,\"lines\":200000,\"notices\":149940,\"refused\":0}\n".as_slice()
     );
     Ok(())
 }

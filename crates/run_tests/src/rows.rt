@@ -144,7 +144,7 @@ query G{me{age}}
 {"n":1,"ok":"retain"}
 {"n":2,"ok":"payload"}
 {"n":3,"ok":"begin"}
-{"dropped":0,"n":4,"ok":"collect","waiting":true}
+{"dropped":0,"n":4,"ok":"collect","waiting":false}
 =
 query G{me{age}}
 
@@ -309,5 +309,5 @@ query G{me{age}}
 {"n":4,"ok":"begin"}
 {"data":{"me":{"age":6}},"missing":false,"n":4,"notice":"w","seen":["4","client:root"]}
 {"code":9,"error":"HandleInUse","n":5,"name":"h"}
-{"dropped":0,"n":6,"ok":"collect","waiting":true}
+{"dropped":0,"n":6,"ok":"collect","waiting":false}
 "#;

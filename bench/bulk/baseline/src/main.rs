@@ -161,12 +161,9 @@ impl Client {
         self.over.drain().map(|it| it.0).collect()
     }
 
-    /// Takes out what the operation does not reach: how many records go, and whether the sweep waits.
-    fn collect(&mut self) -> (usize, bool) {
-        if self.layer.is_some() {
-            return (0, true);
-        }
-        let mut kept: HashSet<String> = HashSet::new();
+    /// Takes out what the operation does not reach, and the live layer does not lead to: how many records go.
+    fn collect(&mut self) -> usize {
+        let mut kept = self.led();
         if let Some(me) = &self.base.me {
             kept.insert(me.clone());
             if self.asks_friend {
@@ -175,7 +172,20 @@ impl Client {
         }
         let before = self.base.users.len();
         self.base.users.retain(|id, _| kept.contains(id));
-        (before - self.base.users.len(), false)
+        before - self.base.users.len()
+    }
+
+    /// The ids that the live layer's update names, and those that their records link to, and so on.
+    fn led(&self) -> HashSet<String> {
+        let mut led = HashSet::new();
+        let mut open: Vec<String> = self.layer.iter().flatten().filter_map(sum_of).map(|it| it.0.to_string()).collect();
+        while let Some(id) = open.pop() {
+            let friend = self.base.users.get(&id).and_then(|it| it.friend.clone());
+            if led.insert(id) {
+                open.extend(friend);
+            }
+        }
+        led
     }
 
     /// Answers a line.
@@ -202,8 +212,8 @@ impl Client {
     }
 
     fn swept(&mut self, n: usize, out: &mut impl Write) -> io::Result<()> {
-        let (dropped, waiting) = self.collect();
-        writeln!(out, "{{\"dropped\":{dropped},\"n\":{n},\"ok\":\"collect\",\"waiting\":{waiting}}}")
+        let dropped = self.collect();
+        writeln!(out, "{{\"dropped\":{dropped},\"n\":{n},\"ok\":\"collect\",\"waiting\":false}}")
     }
 
     /// Reads the watch again where it saw an id that was touched, and reports what differs.
