@@ -13,5 +13,6 @@ pub mod RetainedReads
 pub mod Spares
 pub mod Stands
 pub mod Steps
+pub mod Sweeping
 pub mod Targets
 pub mod Work
