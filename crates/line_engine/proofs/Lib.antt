@@ -17,7 +17,7 @@ mod PlanLaws
 mod QuietLaws
 mod ReachLaws
 mod ReleasedLaws
-mod StandingLaws
+pub mod StandingLaws
 mod StepLaws
 mod SweepLaws
 mod TakingLaws

@@ -10,7 +10,7 @@ ghost use Rattle.line_engine.specs.relay_machine.Machine as machine;
 ghost use Rattle.plan_ir.specs.store_model.Events as events;
 ghost use Rattle.plan_ir.specs.store_model.Records.{no_records};
 ghost use Rattle.relay_engine.specs.LaterLines.{KeepsLaterLines};
-ghost use Rattle.relay_engine.specs.RetainedReads.{KeepsRetainedReads};
+ghost use Rattle.relay_engine.specs.RetainedReads.{KeepsLayeredReads, KeepsRetainedReads};
 
 use line_engine::{LineEngine, Lines, Project, RecordSource};
 use plan_ir::NoMemory;
@@ -68,6 +68,7 @@ impl<S: RecordSource> Engine<S> {
         ensures named { IfOk result (λ lines. StaysNamed self.old self.new n line.now) }
         ensures later { IfOk result (λ lines. KeepsLaterLines self.old self.new n (events.line_of line.now) lines) }
         ensures retained { IfOk result (λ lines. KeepsRetainedReads self.old self.new (events.line_of line.now)) }
+        ensures layered { IfOk result (λ lines. KeepsLayeredReads self.old self.new (events.line_of line.now)) }
     {
         self.lines.is_accepted();
         self.lines.step(line, n, steps)
