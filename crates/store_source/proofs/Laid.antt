@@ -1,6 +1,6 @@
 -- The newest changes over a tree: what a look-up, a change, the number of nodes and the keys are there.
-use Rattle.std.proofs.Common.{◌≡◌, ℕ, ◌+◌, ◌*◌, ◌<◌, ◌≤◌, Bool, true, false, cond, List, [], ◌∷◌, ◌++◌, map, Option, Some, None, nat_cmp, length, drop, get_or, append_assoc, add-one, drop-cons, refl, sym, ap, subst, ◌∙◌, arith}
-use Rattle.std.specs.Prelude.{not}
+use Rattle.std.proofs.Common.{◌≡◌, ℕ, ◌+◌, ◌*◌, ◌<◌, ◌≤◌, Bool, true, false, true≢false, cond, List, [], ◌∷◌, ◌++◌, map, Option, Some, None, nat_cmp, length, drop, get_or, append_assoc, add-one, drop-cons, refl, sym, ap, subst, ◌∙◌, arith}
+use Rattle.std.specs.Prelude.{not, is_some}
 use Rattle.std.specs.Cmp.{alike_right, eq_by_cmp_equiv}
 use Rattle.std.specs.Cmp.Lexicographic.{slice_cmp, nat_list_cmp_total}
 use Rattle.std.specs.FinMap.{find, put, get, insert, remove, keys, len, contains_key, from_sorted, from_entries, get-from_sorted, get-from_entries, get-insert, get-remove, len-insert, same_map, slice_cmp-IsAntisymmetric, nat_cmp-IsAntisymmetric}
@@ -75,6 +75,15 @@ module _ (xs : Changes) (q : List ℕ) (i : ℕ) (x : List ℕ × Slot) (within 
       ∙ ap (λ (l : Changes). old ++ l) (one_and_rest (eq_by_cmp (slice_cmp nat_cmp) q x.0) x rest)
       ∙ ap (λ (l : Changes). old ++ without_key q l) (sym (drop_at xs i x within is))
       ∙ so_far
+
+-- a list without a change of an id is the one without its changes
+pub without_absent : (xs : Changes) (q : List ℕ) → find (slice_cmp nat_cmp) q xs ≡ None → xs ≡ without_key q xs
+without_absent [] q none = refl
+without_absent (x ∷ xs) q none =
+    elim (eq_by_cmp (slice_cmp nat_cmp) q x.0) as (λ b. cond b (Some x.1) (find (slice_cmp nat_cmp) q xs) ≡ None → x ∷ xs ≡ cond (not b) (x ∷ without_key q xs) (without_key q xs)) [
+      | true ↦ λ found. absurd (true≢false (ap is_some found))
+      | false ↦ λ rest. ap (λ ys. x ∷ ys) (without_absent xs q rest)
+    ] none
 
 -- ---- the oldest change
 

@@ -4,13 +4,12 @@ ghost use Rattle.std.specs.Cmp.Lexicographic.{slice_cmp};
 ghost use Rattle.std.specs.FinMap.{find};
 ghost use Rattle.std.specs.Option.{option_copied};
 ghost use Rattle.std.specs.Ordering.{nat_cmp, eq_by_cmp};
-ghost use Rattle.store_tree.specs.gql_plain.Order.{AreSortedOf};
 ghost use Rattle.store_tree.specs.Contents.{keys_of, without_key};
 
 use std::alloc::Global;
 use store_record::Slot;
 use store_tree::Item;
-use store_tree::gql_plain::{Ids, NoMemory, Words};
+use store_tree::gql_plain::{NoMemory, Words};
 
 /// The newest slot of an id, or None where no change is of the id; takes no memory.
 pub(crate) fn newest_of<'a>(changes: &'a [Item<Slot>], id: &str) -> Option<&'a Slot>
@@ -58,6 +57,20 @@ pub(crate) fn copy_without(
     Ok(copy)
 }
 
+/// The changes of all other ids: the list itself where no change is of the id.
+pub(crate) fn without_changes(
+    alloc: Global,
+    changes: Vec<Item<Slot>>,
+    id: &str,
+) -> Result<Vec<Item<Slot>>, NoMemory>
+    ensures { IfOk result (λ left. left.items ≡ without_key id.now changes.items) }
+{
+    if newest_of(&changes, id).is_none() {
+        return Ok(changes);
+    }
+    copy_without(alloc, &changes, id)
+}
+
 /// Puts a change to the end of a list, shared, unless it is of the id.
 fn put_other(copy: &mut Vec<Item<Slot>>, change: &Item<Slot>, id: &str) -> Result<(), NoMemory>
     ensures { OnOk result (copy.new.items ≡ copy.old.items ++ without_key id.now (change.now ∷ [])) }
@@ -76,16 +89,13 @@ fn is_of(change: &Item<Slot>, id: &str) -> bool
     change.key() == id
 }
 
-/// The ids of the changes and those of the list, in byte order.
-pub(crate) fn ids_with(alloc: Global, changes: &[Item<Slot>], ids: &Ids) -> Result<Ids, NoMemory>
-    ensures { IfOk result (AreSortedOf (keys_of changes.now ++ ids.now)) }
+/// The ids of the changes, in the order of the list; takes no memory where there is none.
+pub(crate) fn ids_of_changes(alloc: Global, changes: &[Item<Slot>]) -> Result<Vec<Words>, NoMemory>
+    ensures { IfOk result (λ ids. ids.items ≡ keys_of changes.now) }
 {
-    let mut all = Vec::new(alloc);
+    let mut ids = Vec::new(alloc);
     'changes: for change in changes {
-        all.push(Words::new(alloc, change.key())?)?;
+        ids.push(Words::new(alloc, change.key())?)?;
     }
-    'ids: for id in ids.as_slice() {
-        all.push(id.copy()?)?;
-    }
-    Ids::sort(all)
+    Ok(ids)
 }

@@ -3,7 +3,9 @@ ghost use Rattle.std.specs.Prelude.{◌≡◌, ◌+◌, ◌≤◌, IfOk};
 ghost use Rattle.std.specs.FinMap as map;
 ghost use Rattle.store_source.specs.Records.{most_nodes};
 
-use crate::newest::{copy_all, copy_without, ids_with, newest_of, put_newest};
+use crate::newest::{
+    copy_all, copy_without, ids_of_changes, newest_of, put_newest, without_changes,
+};
 use crate::source::RecordSource;
 use std::alloc::Global;
 use std::marker::Model;
@@ -173,7 +175,18 @@ impl RecordSource for Versions {
     }
 
     fn remove(self, id: &str, steps: &mut Counts) -> Result<Versions, NoMemory> {
-        self.without(id, steps)
+        let Versions {
+            alloc,
+            tree,
+            newest,
+        } = self;
+        let newest = without_changes(alloc, newest, id)?;
+        let tree = tree.take_out(alloc, id, steps)?;
+        Ok(Versions {
+            alloc,
+            tree,
+            newest,
+        })
     }
 
     fn version(&self) -> Result<Versions, NoMemory> {
@@ -194,10 +207,8 @@ impl RecordSource for Versions {
     }
 
     fn ids(&self) -> Result<Ids, NoMemory> {
-        let ids = self.tree.keys(self.alloc)?;
-        if self.newest.is_empty() {
-            return Ok(ids);
-        }
-        ids_with(self.alloc, &self.newest, &ids)
+        let changed = ids_of_changes(self.alloc, &self.newest)?;
+        let ids = self.tree.keys_with(changed)?;
+        Ok(ids)
     }
 }

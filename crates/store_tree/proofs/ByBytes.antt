@@ -1,6 +1,6 @@
 -- What the pairs of a tree are in byte order.
-use Rattle.std.proofs.Common.{◌≡◌, ℕ, ◌+◌, cond, T, List, [], ◌∷◌, length, Some, None, refl, sym, ap, ◌∙◌, arith}
-use Rattle.std.specs.Prelude.{not, is_some}
+use Rattle.std.proofs.Common.{◌≡◌, ℕ, ◌+◌, cond, T, List, [], ◌∷◌, ◌++◌, ◌||◌, length, Some, None, refl, sym, ap, ◌∙◌, arith}
+use Rattle.std.specs.Prelude.{not, is_some, bytes_eq}
 use Rattle.std.specs.declared.cmp.Ordering.{Ordering}
 use Rattle.std.specs.declared.cmp.Ordering.TheVariants.{Less, Equal, Greater}
 use Rattle.std.specs.Ordering.{nat_cmp, is_eq, eq_by_cmp, match_ordering}
@@ -8,8 +8,8 @@ use Rattle.std.specs.Cmp.{IsTotalOrder, alike_right}
 use Rattle.std.specs.Cmp.Lexicographic.{slice_cmp, nat_list_cmp_total}
 use Rattle.std.specs.FinMap.{slice_cmp-IsAntisymmetric, nat_cmp-IsAntisymmetric}
 use Rattle.std.specs.FinMap.Entries.{by_order, find, put, is_sorted, is_sorted-put, is_sorted-where_key, find-put, find-where_key, length-put, same_entries}
-use Rattle.gql_plain.specs.Order.{AreSortedOf, with_text, sorted_texts}
-use Rattle.gql_plain.proofs.SortedTexts.{AreSortedOf-is}
+use Rattle.gql_plain.specs.Order.{AreSortedOf, has_text, with_text, sorted_texts}
+use Rattle.gql_plain.proofs.SortedTexts.{AreSortedOf-is, has_text-Decides, has_text-sorted_texts}
 use Rattle.store_tree.specs.Contents.{KeysRise, keys_of, without_key, without_tied, by_bytes}
 use Rattle.store_tree.specs.KeyOrder.{key_cmp}
 use Rattle.store_tree.proofs.KeyOrder.{key_cmp_total, tied_by_bytes}
@@ -20,6 +20,10 @@ bytes = slice_cmp nat_cmp
 
 alike : {R : List ℕ → List ℕ → Ordering} (o : IsTotalOrder R) (key q x : List ℕ) → R q x ≡ Equal → not (eq_by_cmp R key x) ≡ not (eq_by_cmp R key q)
 alike o key q x t = ap (λ r. not (is_eq r)) (sym (alike_right o q x key t))
+
+same_more : (more xs ys : List (List ℕ)) (text : List ℕ) → has_text xs text ≡ has_text ys text → has_text (more ++ xs) text ≡ has_text (more ++ ys) text
+same_more [] xs ys text same = same
+same_more (one ∷ more) xs ys text same = ap (λ b. bytes_eq one text || b) (same_more more xs ys text same)
 
 module _ {V : Type 0} where
   pub KeysRise-by_bytes : (pairs : List (List ℕ × V)) → KeysRise (by_bytes pairs)
@@ -79,3 +83,16 @@ module _ {V : Type 0} where
   -- the keys sorted
   pub sorted_keys : (pairs : List (List ℕ × V)) (texts sorted : List (List ℕ)) → texts ≡ keys_of pairs → AreSortedOf texts sorted → sorted ≡ keys_of (by_bytes pairs)
   sorted_keys pairs texts sorted is h = AreSortedOf-is texts sorted h ∙ ap sorted_texts is ∙ keys-by_bytes pairs
+
+  -- the keys and further texts, sorted, in whichever order the keys stand
+  pub sorted_with : (pairs : List (List ℕ × V)) (more texts sorted : List (List ℕ)) → texts ≡ more ++ keys_of pairs → AreSortedOf texts sorted → AreSortedOf (more ++ keys_of (by_bytes pairs)) sorted
+  sorted_with pairs more texts sorted is h = (
+    h.0,
+    λ text.
+        let all = more ++ keys_of (by_bytes pairs) in
+        let keys : has_text (keys_of pairs) text ≡ has_text (keys_of (by_bytes pairs)) text = sym (has_text-sorted_texts (keys_of pairs) text) ∙ ap (λ ks. has_text ks text) (keys-by_bytes pairs) in
+        let same : has_text texts text ≡ has_text all text = ap (λ ts. has_text ts text) is ∙ same_more more (keys_of pairs) (keys_of (by_bytes pairs)) text keys in (
+          λ one. (has_text-Decides all text).0 (sym same ∙ (has_text-Decides texts text).1 ((h.1 text).0 one)),
+          λ one. (h.1 text).1 ((has_text-Decides texts text).0 (same ∙ (has_text-Decides all text).1 one)),
+        ),
+  )

@@ -6,7 +6,7 @@ use Rattle.std.specs.declared.cmp.Ordering.TheVariants.{Less, Equal, Greater}
 use Rattle.std.specs.FinMap.Entries.{by_order, put}
 use Rattle.std.proofs.lemmas.Bool.{cases_order, eqb-true}
 use Rattle.store_tree.specs.Contents.{Contents}
-use Rattle.store_tree.specs.Heights.{least, DifferByAtMost, IsGrown, IsSettledHeight}
+use Rattle.store_tree.specs.Heights.{least, DifferByAtMost, IsGrown, IsSettledHeight, IsShrunk}
 use Rattle.store_tree.specs.Made.{IsMade}
 use Rattle.store_tree.specs.Shape.{IsEven}
 use Rattle.store_tree.specs.declared.branch.Node.{Node}
@@ -75,6 +75,23 @@ grown-right l r before grown h d e g s =
       | inl same ↦ (omega arith, omega arith)
       | inr (inl less) ↦ let settled : h ≡ max l grown + 1 = s.2 (omega arith, omega arith) in (omega arith, omega arith)
       | inr (inr more) ↦ (omega arith, omega arith)
+    ]
+
+-- the height of a node, one side of which shrinks, falls by one at most
+pub shrunk-left : (l r before shrunk h : ℕ) → DifferByAtMost 1 l r → before ≡ max l r + 1 → IsShrunk l shrunk → IsSettledHeight shrunk r h → IsShrunk before h
+shrunk-left l r before shrunk h d e g s =
+    elim (cases_order (shrunk + 2) r) [
+      | inl same ↦ (omega arith, omega arith)
+      | inr (inl less) ↦ (omega arith, omega arith)
+      | inr (inr more) ↦ let settled : h ≡ max shrunk r + 1 = s.2 (omega arith, omega arith) in (omega arith, omega arith)
+    ]
+
+pub shrunk-right : (l r before shrunk h : ℕ) → DifferByAtMost 1 l r → before ≡ max l r + 1 → IsShrunk r shrunk → IsSettledHeight l shrunk h → IsShrunk before h
+shrunk-right l r before shrunk h d e g s =
+    elim (cases_order (shrunk + 2) l) [
+      | inl same ↦ (omega arith, omega arith)
+      | inr (inl less) ↦ (omega arith, omega arith)
+      | inr (inr more) ↦ let settled : h ≡ max l shrunk + 1 = s.2 (omega arith, omega arith) in (omega arith, omega arith)
     ]
 
 -- two heights that do not differ

@@ -18,3 +18,7 @@ IsSettledHeight l r h = (max l r ≤ h) × (h ≤ max l r + 1) × (DifferByAtMos
 -- the height h is the one before, or one more
 abbrev pub IsGrown : ℕ → ℕ → Type 0
 IsGrown before h = (before ≤ h) × (h ≤ before + 1)
+
+-- the height h is the one before, or one less
+abbrev pub IsShrunk : ℕ → ℕ → Type 0
+IsShrunk before h = (h ≤ before) × (before ≤ h + 1)

@@ -84,7 +84,7 @@ pub(crate) fn without_entry<V: Drop, C: Steps>(
 }
 
 /// One branch after another, where their heights differ by at most one.
-fn join<V: Drop, C: Steps>(
+pub(crate) fn join<V: Drop, C: Steps>(
     alloc: Global,
     left: &Branch<V>,
     right: &Branch<V>,

@@ -153,6 +153,18 @@ impl<V: Drop> Leaf<V> {
         }
     }
 
+    /// Takes the entry at the key, which is given with its digest, out of the leaf; takes no memory.
+    pub(crate) fn take(&mut self, digest: u64, key: &str)
+        requires digest { digest ≡ digest_of key.now }
+        requires in_order { T (is_sorted key_cmp self.old) }
+        ensures { self.new ≡ without_tied key_cmp key.now self.old }
+    {
+        match self.place(digest, key) {
+            Ok(at) => drop(self.items.remove(at)),
+            Err(_) => {}
+        }
+    }
+
     /// The first entry, and a leaf of the others, which may have none.
     pub(crate) fn first_and_rest(&self, alloc: Global) -> Result<(Item<V>, Leaf<V>), NoMemory>
         requires { 1 ≤ length self.now }

@@ -1,8 +1,9 @@
 //! Branches of one leaf, and of two with an entry between them.
 ghost use Rattle.std.specs.Prelude.{◌≡◌, ◌+◌, ◌≤◌, [], ◌∷◌, ◌++◌, length, IfOk, T};
 ghost use Rattle.std.specs.FinMap.{put, is_sorted};
+ghost use Rattle.store_tree.specs.Contents.{without_tied};
 ghost use Rattle.store_tree.specs.Heights.{IsGrown};
-ghost use Rattle.store_tree.specs.KeyOrder.{key_cmp};
+ghost use Rattle.store_tree.specs.KeyOrder.{digest_of, key_cmp};
 ghost use Rattle.store_tree.specs.Place.{HasUpTo};
 
 use crate::branch::{Branch, Link, fork};
@@ -121,4 +122,36 @@ fn node_of_leaves<V: Drop, C: Steps>(
         link: Link::Leaf(Rc::new(alloc, later)?),
     };
     fork(alloc, left, middle, right, steps)
+}
+
+/// The entries of a leaf without the one at the key, which is given with its digest. A leaf that no
+/// other branch holds is written in place, and any other is copied.
+pub(crate) fn take_from_leaf<V: Drop, C: Steps>(
+    alloc: Global,
+    mut leaf: Rc<Leaf<V>>,
+    digest: u64,
+    key: &str,
+    steps: &mut C,
+) -> Result<Branch<V>, NoMemory>
+    requires digest { digest ≡ digest_of key.now }
+    requires in_order { T (is_sorted key_cmp leaf.value) }
+    requires few { HasUpTo MOST leaf.value }
+    ensures pairs { IfOk result (λ b. b.pairs ≡ without_tied key_cmp key.now leaf.value) }
+    ensures height { IfOk result (λ b. b.height ≤ 1) }
+    ensures looks { C.looks steps.new ≡ C.looks steps.old }
+    ensures applies { C.applies steps.new ≡ C.applies steps.old }
+    ensures nodes { C.nodes steps.new ≤ C.nodes steps.old + 1 }
+{
+    let Some(place) = Rc::get_mut(&mut leaf) else {
+        steps.node();
+        let rest = leaf.without(alloc, digest, key)?;
+        return branch_of(alloc, rest);
+    };
+    place.take(digest, key);
+    if place.len() == 0 {
+        return Ok(Branch::empty());
+    }
+    Ok(Branch {
+        link: Link::Leaf(leaf),
+    })
 }

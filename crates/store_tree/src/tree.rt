@@ -1,15 +1,16 @@
 //! The tree: a map from text whose versions share their nodes.
-ghost use Rattle.std.specs.Prelude.{◌≡◌, ◌+◌, ◌*◌, ◌≤◌, [], length, map, IfOk, IfSome, None, T};
+ghost use Rattle.std.specs.Prelude.{◌≡◌, ◌+◌, ◌*◌, ◌≤◌, ◌++◌, [], length, map, IfOk, IfSome, None, T};
 ghost use Rattle.std.specs.Cmp.Lexicographic.{slice_cmp};
 ghost use Rattle.std.specs.FinMap.{find, put, is_sorted};
 ghost use Rattle.std.specs.Option.{option_copied};
 ghost use Rattle.std.specs.Ordering.{nat_cmp};
+ghost use Rattle.gql_plain.specs.Order.{AreSortedOf};
 ghost use Rattle.store_tree.specs.Contents.{Contents, KeysRise, binary_digits, by_bytes, keys_of, without_key};
 ghost use Rattle.store_tree.specs.KeyOrder.{key_cmp};
 
 use crate::branch::Branch;
 use crate::change::{with_entry, without_entry};
-use crate::in_place::put_entry;
+use crate::in_place::{put_entry, take_entry};
 use crate::item::{Item, digest};
 use crate::written::write_entry;
 use gql_plain::{Ids, NoMemory, Steps, Words};
@@ -22,8 +23,8 @@ use std::rc::Rc;
 ///
 /// The entries stand in leaves of a few each, and one in each node above them. `insert` and `remove`
 /// leave the tree as it is, and give a new version. It shares with the old one all leaves and nodes
-/// but those on the way to the key. `put` takes the tree, and writes in place the leaves and nodes
-/// that no other version holds. Each leaf or node made is counted by `Steps::node`.
+/// but those on the way to the key. `put` and `take_out` take the tree, and write in place the leaves
+/// and nodes that no other version holds. Each leaf or node made is counted by `Steps::node`.
 #[derive(Drop)]
 pub struct Tree<V> {
     root: Branch<V>,
@@ -189,12 +190,45 @@ impl<V: Drop> Tree<V> {
         })
     }
 
+    /// The map without the key. A leaf or a node that no other version holds is written in place. After
+    /// an error the tree is gone.
+    ///
+    /// `nodes` rises by at most `8 * (h + 1)`, where `h` is the height before.
+    pub fn take_out<C: Steps>(
+        self,
+        alloc: Global,
+        key: &str,
+        steps: &mut C,
+    ) -> Result<Tree<V>, NoMemory>
+        ensures pairs { IfOk result (λ t. t.pairs ≡ without_key key.now self.pairs) }
+        ensures in_order { KeysRise self.pairs }
+        ensures looks { C.looks steps.new ≡ C.looks steps.old }
+        ensures applies { C.applies steps.new ≡ C.applies steps.old }
+        ensures nodes { C.nodes steps.new ≤ C.nodes steps.old + 8 * (self.height + 1) }
+        ensures bound { C.nodes steps.new ≤ C.nodes steps.old
+            + 8 * (2 * binary_digits (length self.pairs) + 1) }
+    {
+        let mut root = self.into_root();
+        take_entry(alloc, &mut root, digest(key), key, steps)?;
+        Ok(Tree { root })
+    }
+
     /// The keys in byte order.
     pub fn keys(&self, alloc: Global) -> Result<Ids, NoMemory>
         ensures keys { IfOk result (λ ids. ids ≡ keys_of self.now.pairs) }
         ensures in_order { KeysRise self.now.pairs }
     {
         let mut items = Vec::new(alloc);
+        self.root().add_keys(&mut items)?;
+        Ids::sort(items)
+    }
+
+    /// The keys and the texts of a list, each once, in byte order.
+    pub fn keys_with(&self, more: Vec<Words>) -> Result<Ids, NoMemory>
+        ensures keys { IfOk result (AreSortedOf (more.items ++ keys_of self.now.pairs)) }
+        ensures in_order { KeysRise self.now.pairs }
+    {
+        let mut items = more;
         self.root().add_keys(&mut items)?;
         Ids::sort(items)
     }
