@@ -1,9 +1,9 @@
-"""Sweeps: stores of which a part is kept, sweeps that drop nothing, many retained operations over the same records, and plans that are
-made to be hard for the walk along what is retained.
+"""Sweeps: stores of which a part is kept, sweeps under live layers, sweeps that drop nothing, many retained operations over the same records,
+and plans that are made to be hard for the walk along what is retained.
 
 The script without what is timed is subtracted; microseconds are given for each sweep."""
 
-from scripts import BUFFER, Row, answer, collect, collected, payload, release, retain
+from scripts import BUFFER, Row, answer, begin, collect, collected, payload, release, retain
 
 AGAIN = 5
 
@@ -32,6 +32,24 @@ def swept(before, times, dropped):
 def a_part(name, share):
     make = lambda times: lambda count: swept(store(count, count // share), times, count - count // share)
     return Row(name, (10_000, 20_000, 40_000), make(1), without=make(0), parts=lambda count: 1)
+
+def linking(count, kept, live):
+    """A store of `count` records, of which the first are kept, and live layers, begun before the sweep. Each links a kept record to another, the
+    layers in turn to the kept ones from the first on, so that the layers keep no record that goes otherwise."""
+    documents, lines = store(count, kept)
+    link = lambda n: {"link": {"id": f"u{n % kept:06}", "field": "friend", "to": f"u{(n + 1) % kept:06}"}}
+    return documents, lines + [begin(f"l{n}", link(n)) for n in range(live)]
+
+def under_layers(name, live):
+    """A tenth is kept, and the rest is dropped under live layers."""
+    make = lambda times: lambda count: swept(linking(count, count // 10, live), times, count - count // 10)
+    without = lambda count: begun(linking(count, count // 10, live), live)
+    return Row(name, (10_000, 20_000, 40_000), make(1), without=without, parts=lambda count: 1)
+
+def begun(before, live):
+    """The lines before alone, whose last one begins a layer where any is live."""
+    documents, lines = before
+    return documents, lines, answer(len(lines), "begin" if live else "release")
 
 def once_more(name, share):
     make = lambda times: lambda count: swept(store(count, count // share), times, count - count // share)
@@ -75,6 +93,9 @@ ROWS = [
     a_part("a tenth kept", 10),
     a_part("half kept", 2),
     a_part("all kept", 1),
+    under_layers("a tenth kept, no live layer", 0),
+    under_layers("a tenth kept, 10 live layers", 10),
+    under_layers("a tenth kept, 1,000 live layers", 1_000),
     once_more("nothing dropped, a tenth was kept", 10),
     once_more("nothing dropped, all were kept", 1),
     over_records("operations over 100 records", (250, 500, 1_000), lambda count: (count, 100)),

@@ -8,3 +8,4 @@ pub mod Removed
 pub mod Steps
 pub mod Swept
 pub mod VersionSteps
+pub mod Walked

@@ -120,3 +120,7 @@ keys_rise (e ∷ es) h = (keys_above e.0 es (first_holds _ _ h), keys_rise es (s
 
 pub dropped_in_order : (keep : Text → Bool) (m : Records) → AreInOrder (dropped keep m)
 dropped_in_order keep m = IsStrictlySortedBy-filter order (λ id. not (keep id)) (keys m) (keys_rise (entries m) (entries_sorted m))
+
+-- the ids of a map are in byte order
+pub keys_in_order : (m : Records) → AreInOrder (keys m)
+keys_in_order m = keys_rise (entries m) (entries_sorted m)
