@@ -4,8 +4,7 @@ use Rattle.std.specs.Prelude.{is_some, pos}
 use Rattle.bulk_laws.proofs.ReadLines.{begun, paid, retained, reverted, watched}
 use Rattle.plan_ir.specs.Expansion.{operation_named, variable_trees}
 use Rattle.relay_machine.specs.Bulk.{Stage, retaining, watching, drawing}
-use Rattle.relay_machine.specs.Machine.{Handle, Layer, Project, State, Step, Watch, accept, answer_to, act, confirm, definitions_in, drop_layer, entry_of, handle_named, is_layer, is_watch, noticed, nothing_said, of_target, of_verdict, read_again, result_of, retain_named, said_to, start_watch, step, step_begin, step_collect, step_event, step_line, step_payload, step_retain, step_revert, step_watch, sweep_base, unless, unless_failure, view, with_handle, with_layer, with_notices, without_layer}
-use Rattle.relay_machine.specs.Printed as printed
+use Rattle.relay_machine.specs.Machine.{Handle, Layer, Project, State, Step, Watch, accept, answer_to, act, confirm, definitions_in, drop_layer, entry_of, handle_named, is_layer, is_watch, noticed, nothing_said, of_target, of_verdict, read_again, result_of, retain_named, said_to, start_watch, step, step_begin, step_collect, step_event, step_line, step_payload, step_retain, step_revert, step_watch, unless, unless_failure, view, with_handle, with_layer, with_notices, without_layer}
 use Rattle.relay_machine.specs.Printed.{event_line}
 use Rattle.relay_machine.specs.Refusals.{handle_taken, handles, layer_taken, layers, most, too_many, unknown_layer, watch_taken, watches}
 use Rattle.plan_ir.specs.schema_tables.Types.{Text}
@@ -164,12 +163,7 @@ revert_is_fine p o buffer s n st =
     accepted p o false buffer s n reverted (event_line (codes "revert") n) (drop_layer (codes "t") s) (revert_step s n st.layer.0 st.layer.1)
     (record { handle = st.handle; watching = tt; layer = ap (without_layer (codes "t")) st.layer.1 })
 
-collect_by : (p : Project) (o : OperationAt) (live : Bool) (buffer : ℕ) (s : State) (n : ℕ) → Stands o drawing live s → (none : Bool)
-    → IsFine o drawing live (cond none (sweep_base p buffer s n) (accept (printed.collect_line n 0 true) s))
-collect_by p o live buffer s n st true = record { fine = refl; stands = record { handle = st.handle; watching = tt; layer = st.layer } }
-collect_by p o live buffer s n st false = record { fine = refl; stands = record { handle = st.handle; watching = tt; layer = st.layer } }
-
 pub collect_is_fine : (p : Project) (o : OperationAt) (live : Bool) (buffer : ℕ) (s : State) (n : ℕ) → Stands o drawing live s
     → IsFine o drawing live (step_event p buffer s n e.collect)
 collect_is_fine p o live buffer s n st =
-    noticed_is_fine p o live n (length s.watches) (step_collect p buffer s n) (collect_by p o live buffer s n st (length s.layers == 0))
+    noticed_is_fine p o live n (length s.watches) (step_collect p buffer s n) (record { fine = refl; stands = record { handle = st.handle; watching = tt; layer = st.layer } })

@@ -1,16 +1,16 @@
 -- A line that looks at none of some ids does the same from two states that are alike but for these.
-use Rattle.std.proofs.Common.{◌≡◌, ℕ, Bool, true, false, List, [], ◌∷◌, ◌++◌, map, drop, length, take, Option, Some, None, not, is_some, ◌==◌, cond, codes, refl, sym, ap, subst, ◌∙◌}
+use Rattle.std.proofs.Common.{◌≡◌, ℕ, Bool, true, false, true≢false, List, [], ◌∷◌, ◌++◌, map, drop, length, take, Option, Some, None, not, is_some, ◌==◌, cond, codes, refl, sym, ap, subst, ◌∙◌}
 use Rattle.std.proofs.Math.Seq.{drop-append_seam}
 use Rattle.std.proofs.lemmas.List.{append-nil}
 use Rattle.later_lines.proofs.AlikeReads.{IsAway, Away, SameElsewhere, fold_alike, looks_first, looks_rest, shown_alike, notices_alike, again_alike}
 use Rattle.later_lines.specs.Alike.{AreAlike, StepsAlike}
 use Rattle.later_lines.specs.Laws.{LinesStayAlike}
-use Rattle.later_lines.specs.Looked.{event_sweeps, looked, looked_by_entries, looks_of_all, seen_by_all, seen_by_watches, sweeps}
+use Rattle.later_lines.specs.Looked.{looked, looked_by_entries, looks_of_all, seen_by_all, seen_by_watches}
 use Rattle.plan_ir.specs.Expansion.{operation_named, variable_trees}
 use Rattle.plan_ir.specs.relay_marks.Locals.{locals_of}
-use Rattle.relay_machine.specs.Effects.{answer_reads, entries_in, layer_entries, newly_confirmed, reads_of_fragment, reads_of_part, reads_of_target}
-use Rattle.relay_machine.specs.Machine.{Confirmation, confirmed, swept, Handle, PartShown, Project, State, Step, Watch, accept, act, answer_to, base, confirm, definitions_in, drop_layer, entry_of, first_local_failure, first_refused, fold_confirmed, fragment_read, handle_named, is_in_use, is_layer, is_watch, noticed, notices_of, nothing_said, of_fragment, of_part, of_target, of_verdict, operation_read, read_again, refuse, release_handle, result_of, retain_named, said_to, scope_given, shown, start_watch, started, step_line, sweep_base, unless, unless_failure, unless_unknown, view, with_entries, with_handle, with_layer, with_watches, without_watch}
-use Rattle.relay_machine.specs.Printed.{collect_line, event_line, read_line, watch_line}
+use Rattle.relay_machine.specs.Effects.{answer_reads, entries_in, event_sweeps, newly_confirmed, reads_of_fragment, reads_of_part, reads_of_target, sweeps}
+use Rattle.relay_machine.specs.Machine.{Confirmation, confirmed, swept, Handle, PartShown, Project, State, Step, Watch, accept, act, answer_to, base, confirm, definitions_in, drop_layer, entry_of, first_local_failure, first_refused, fold_confirmed, fragment_read, handle_named, is_in_use, is_layer, is_watch, layer_entries, noticed, notices_of, nothing_said, of_fragment, of_part, of_target, of_verdict, operation_read, read_again, refuse, release_handle, result_of, retain_named, said_to, scope_given, shown, start_watch, started, step_line, unless, unless_failure, unless_unknown, view, with_entries, with_handle, with_layer, with_watches, without_watch}
+use Rattle.relay_machine.specs.Printed.{event_line, read_line, watch_line}
 use Rattle.relay_machine.specs.Refusals as refusals
 use Rattle.relay_machine.specs.Refusals.{Refusal}
 use Rattle.plan_ir.specs.schema_tables.Types.{Text}
@@ -33,7 +33,7 @@ fold_grown : (p : Project) (xs : List Confirmation) (es : List Entry) (m : Recor
 fold_grown p [] [] m = refl
 fold_grown p [] (entry ∷ es) m = fold_grown p [] es _
 fold_grown p (confirmed entry ∷ xs) es m = fold_grown p xs es _
-fold_grown p (swept rs ∷ xs) es m = fold_grown p xs es _
+fold_grown p (swept rs live ∷ xs) es m = fold_grown p xs es _
 
 entries_are : (es : List Entry) → entries_in (map confirmed es) ≡ es
 entries_are [] = refl
@@ -199,7 +199,7 @@ module _ (p : Project) (D : Text → Bool) (n : ℕ) (s : State) (es : List Conf
 
   -- ---- events
 
-  act_alike : (buffer : ℕ) (event : Event) → event_sweeps s event ≡ false → Alike (answer_reads p s event) (act p buffer s n event) (act p buffer other n event)
+  act_alike : (buffer : ℕ) (event : Event) → event_sweeps event ≡ false → Alike (answer_reads p s event) (act p buffer s n event) (act p buffer other n event)
   act_alike buffer (e.retain name op given) quiet =
       let o = operation_named (operations (definitions_in p)) op in
       unless_alike [] (is_some (handle_named s.handles name)) (refusals.handle_taken name) (retain_named p s n name op o given) (retain_named p other n name op o given) (retained_alike name op o given)
@@ -252,11 +252,9 @@ module _ (p : Project) (D : Text → Bool) (n : ℕ) (s : State) (es : List Conf
       let x = event_line (codes "unwatch") n in
       let a = with_watches (without_watch name s.watches) s in
       unless_alike [] (not (is_watch s.watches name)) (refusals.unknown_watch name) (accept x a) (accept x (with_entries es a)) (unchanged x a refl)
-  act_alike buffer e.collect quiet =
-      subst (λ b. Alike [] (cond b (sweep_base p buffer s n) (accept (collect_line n 0 true) s)) (cond b (sweep_base p buffer other n) (accept (collect_line n 0 true) other))) (sym quiet)
-      (unchanged (collect_line n 0 true) s refl)
+  act_alike buffer e.collect quiet = absurd (true≢false quiet)
 
-  line_alike : (buffer : ℕ) (line : Line) → sweeps s line ≡ false → Away D (looked p buffer s n line) → StepsAlike p D (step_line p buffer s n line) (step_line p buffer other n line)
+  line_alike : (buffer : ℕ) (line : Line) → sweeps line ≡ false → Away D (looked p buffer s n line) → StepsAlike p D (step_line p buffer s n line) (step_line p buffer other n line)
   line_alike buffer e.too_long quiet away = refused_alike [] refusals.line_too_long tt
   line_alike buffer e.not_json quiet away = refused_alike [] refusals.not_json tt
   line_alike buffer e.no_event quiet away = refused_alike [] refusals.event_shape tt

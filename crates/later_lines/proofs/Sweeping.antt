@@ -1,36 +1,34 @@
 -- What a sweep leaves, and where two states meet in one.
-use Rattle.std.proofs.Common.{◌≡◌, ℕ, ◌+◌, Bool, true, false, true≢false, ◌||◌, ◌==◌, cond, List, [], ◌∷◌, ◌++◌, map, drop, length, take, Option, None, codes, arith, refl, sym, ap, subst, ◌∙◌}
+use Rattle.std.proofs.Common.{◌≡◌, ℕ, ◌+◌, Bool, true, false, true≢false, ◌||◌, cond, List, [], ◌∷◌, ◌++◌, map, drop, length, take, codes, arith, refl, sym, ap, subst, ◌∙◌}
 use Rattle.std.proofs.Math.Seq.{take-length, drop-length}
 use Rattle.std.proofs.lemmas.Bool.{or_parts}
 use Rattle.std.proofs.lemmas.List.{append-nil}
-use Rattle.std.specs.Cmp.Lexicographic.{nat_list_cmp_total}
-use Rattle.std.specs.FinMap.{same_map}
 use Rattle.plan_ir.specs.gql_plain.Order.{has_text}
 use Rattle.plan_ir.specs.gql_plain.ToJson.{compact}
 use Rattle.plan_ir.specs.gql_plain.Tree.{Tree, truth, text, list, trees_of}
 use Rattle.later_lines.proofs.AlikeReads.{SameElsewhere}
 use Rattle.later_lines.proofs.AlikeSteps.{other_is}
-use Rattle.later_lines.specs.Alike.{dropped_ids, swept_state}
 use Rattle.later_lines.specs.Laws.{MeetAgain, QuietSweepsAddNothing, SweepsLeaveAlike, SweepsMeet}
 use Rattle.plan_ir.specs.Expansion as plans
-use Rattle.relay_machine.specs.Effects.{layer_entries}
-use Rattle.relay_machine.specs.Machine.{Confirmation, swept, Project, Retained, State, Watch, accept, base, documents_of, fold_confirmed, is_changed, is_reached, noticed, notices_of, read_again, retained, shown_by, slots_of, started, step_line, sweep_base, sweep_of, view, with_entries, with_watches}
+use Rattle.relay_machine.specs.Machine.{Confirmation, swept, Project, Retained, State, Watch, base, documents_of, dropped_ids, fold_confirmed, is_changed, is_held, is_reached, layer_entries, notices_of, read_again, retained, shown_by, slots_of, started, step_line, sweep_of, swept_state, view, with_entries, with_watches}
 use Rattle.relay_machine.specs.Printed.{collect_line, in_order, line, notice_line, number}
 use Rattle.relay_machine.specs.relay_model.Collection.{collect, part_of}
 use Rattle.relay_machine.specs.relay_model.Reaches.{operation_reaches, whole_depth}
 use Rattle.relay_machine.specs.relay_model.Readings.{no_place}
 use Rattle.relay_machine.specs.relay_model.Responses.{whole_setting}
 use Rattle.relay_machine.proofs.Sweeps.{confirmed_after}
-use Rattle.plan_ir.proofs.store_model_laws.SweptSlots.{same_swept, slot_at-sweep, ties_alone}
+use Rattle.store_sweeps.proofs.Meeting.{sweeps_meet}
+use Rattle.plan_ir.proofs.store_model_laws.SweptSlots.{same_swept}
 use Rattle.plan_ir.specs.schema_tables.Types.{Text, root}
 use Rattle.plan_ir.proofs.store_model_laws.Least.{In, each_from}
 use Rattle.plan_ir.proofs.store_model_laws.SameReach.{reach_same}
-use Rattle.plan_ir.specs.store_model.Entries.{fold_entries}
+use Rattle.plan_ir.specs.store_model.Entries.{all_named, fold_entries}
 use Rattle.plan_ir.specs.store_model.Events as e
+use Rattle.plan_ir.specs.store_model.Leads.{leads}
 use Rattle.plan_ir.specs.store_model.Records.{Records, no_records, slot_at}
 use Rattle.plan_ir.specs.store_model.Walks.{Reading, shown_object, type_of_record}
 use Rattle.plan_ir.specs.store_record.Keys as keys_of
-use Rattle.plan_ir.specs.store_record.declared.record.Slot.{Slot}
+use Rattle.plan_ir.specs.store_model.declared.entry.Entry.{Entry}
 
 -- ---- a sweep added
 
@@ -40,7 +38,9 @@ sweeps_alike p buffer s = record {
   handles = refl;
   released = refl;
   watches = refl;
-  bases = λ id h. same_swept (is_reached p (retained buffer s) (base p s)) (base p s) id h ∙ sym (ap (slot_at id) (confirmed_after p s.entries (swept (retained buffer s)) no_records));
+  bases = λ id h.
+      same_swept (is_held p (retained buffer s) (layer_entries s) (base p s)) (base p s) id h
+      ∙ sym (ap (slot_at id) (confirmed_after p s.entries (swept (retained buffer s) (layer_entries s)) no_records));
 }
 
 -- ---- no notice
@@ -67,20 +67,14 @@ none_told p m n (w ∷ ws) h =
     ] h
 
 pub quiet_sweeps : QuietSweepsAddNothing
-quiet_sweeps p buffer s n now none =
+quiet_sweeps p buffer s n none =
     let ws = s.watches in
     let v = view p (swept_state buffer s) in
     let same : map (read_again p v) (take (length ws) ws) ++ drop (length ws) ws ≡ ws
     = (λ i. map (read_again p v) (take-length ws i) ++ drop-length ws i) ∙ append-nil (map (read_again p v) ws) ∙ none_told p v n ws none in
-    subst (λ b. (noticed p n (length ws) (cond b (sweep_base p buffer s n) (accept (collect_line n 0 true) s))).state ≡ swept_state buffer s) (sym now)
-    (ap (λ vs. with_watches vs (swept_state buffer s)) same)
+    ap (λ vs. with_watches vs (swept_state buffer s)) same
 
 -- ---- reaches
-
-where_kept : (kept d : Bool) (x y : Option Slot) → (d ≡ true → kept ≡ false) → (d ≡ false → x ≡ y) → cond kept x None ≡ cond kept y None
-where_kept true true x y out same = absurd (true≢false (out refl))
-where_kept true false x y out same = same refl
-where_kept false d x y out same = refl
 
 module _ (p : Project) (D : Text → Bool) (m n : Records) (same : SameElsewhere D m n) where
   -- what one operation reaches
@@ -110,39 +104,36 @@ module _ (p : Project) (D : Text → Bool) (m n : Records) (same : SameElsewhere
       λ i. has_text (first i) id || rest i
 
   -- both maps are swept to the same
-  swept_same : (rs : List Retained) → ((id : Text) → D id ≡ true → is_reached p rs m id ≡ false) → sweep_of p rs m ≡ sweep_of p rs n
-  swept_same rs out = same_map nat_list_cmp_total ties_alone (sweep_of p rs m) (sweep_of p rs n) (λ id.
-      slot_at-sweep (is_reached p rs m) m id
-      ∙ where_kept (is_reached p rs m id) (D id) (slot_at id m) (slot_at id n) (out id) (same id)
-      ∙ ap (λ b. cond b (slot_at id n) None) (sym (reached_alike rs out id))
-      ∙ sym (slot_at-sweep (is_reached p rs n) n id))
+  swept_same : (rs : List Retained) (live : List Entry) → ((id : Text) → D id ≡ true → is_held p rs live m id ≡ false) → sweep_of p rs live m ≡ sweep_of p rs live n
+  swept_same rs live out =
+      let parts : (id : Text) → D id ≡ true → (is_reached p rs m id ≡ false) × (has_text (leads m (all_named live)) id ≡ false)
+      = λ id h. or_parts (is_reached p rs m id) (has_text (leads m (all_named live)) id) (out id h) in
+      sweeps_meet m n D (all_named live) (is_reached p rs m) (is_reached p rs n) same (λ id. sym (reached_alike rs (λ j h. (parts j h).0) id)) (λ id h. (parts id h).0) (λ id h. (parts id h).1)
 
 -- ---- meeting again
 
 module _ (p : Project) (buffer : ℕ) (D : Text → Bool) (s : State) (es : List Confirmation) (n : ℕ) (same : SameElsewhere D (base p s) (fold_confirmed p es no_records))
-    (out : (id : Text) → D id ≡ true → is_reached p (retained buffer s) (base p s) id ≡ false) where
+    (out : (id : Text) → D id ≡ true → is_held p (retained buffer s) (layer_entries s) (base p s) id ≡ false) where
   abbrev other : State
   other = with_entries es s
 
   bases_same : base p (swept_state buffer s) ≡ base p (swept_state buffer other)
   bases_same =
-      confirmed_after p s.entries (swept (retained buffer s)) no_records ∙ swept_same p D (base p s) (fold_confirmed p es no_records) same (retained buffer s) out
-      ∙ sym (confirmed_after p es (swept (retained buffer s)) no_records)
+      confirmed_after p s.entries (swept (retained buffer s) (layer_entries s)) no_records
+      ∙ swept_same p D (base p s) (fold_confirmed p es no_records) same (retained buffer s) (layer_entries s) out
+      ∙ sym (confirmed_after p es (swept (retained buffer s) (layer_entries s)) no_records)
 
   abbrev view_on : Records → Records
   view_on m = fold_entries (layer_entries s) m
 
-  meet_now : (b : Bool) → b ≡ true
-      → MeetAgain p n (length (dropped_ids p buffer s)) (length (dropped_ids p buffer other)) (noticed p n (length s.watches) (cond b (sweep_base p buffer s n) (accept (collect_line n 0 true) s)))
-      (noticed p n (length s.watches) (cond b (sweep_base p buffer other n) (accept (collect_line n 0 true) other)))
-  meet_now false now = absurd (true≢false (sym now))
-  meet_now true now =
+  meet : MeetAgain p n (length (dropped_ids p buffer s)) (length (dropped_ids p buffer other)) (step_line p buffer s n (e.event e.collect)) (step_line p buffer other n (e.event e.collect))
+  meet =
       let earlier = length s.watches in
       record {
         texts = (
           notices_of p (view p (swept_state buffer s)) n (take earlier s.watches),
           refl,
-          ap (λ m. collect_line n (length (dropped_ids p buffer other)) false ++ notices_of p (view_on m) n (take earlier s.watches)) (sym bases_same),
+          ap (λ m. collect_line n (length (dropped_ids p buffer other)) ++ notices_of p (view_on m) n (take earlier s.watches)) (sym bases_same),
         );
         refused = refl;
         bases = bases_same;
@@ -156,6 +147,6 @@ module _ (p : Project) (buffer : ℕ) (D : Text → Bool) (s : State) (es : List
       }
 
 pub sweeps_meet_again : SweepsMeet
-sweeps_meet_again p buffer D s t n alike now out =
+sweeps_meet_again p buffer D s t n alike out =
     subst (λ x. MeetAgain p n (length (dropped_ids p buffer s)) (length (dropped_ids p buffer x)) (step_line p buffer s n (e.event e.collect)) (step_line p buffer x n (e.event e.collect))) (other_is p D s t alike)
-    (meet_now p buffer D s t.entries n alike.bases out (length s.layers == 0) now)
+    (meet p buffer D s t.entries n alike.bases out)

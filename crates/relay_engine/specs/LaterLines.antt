@@ -1,16 +1,16 @@
 -- What the laws of later lines say of an engine: what a sweep drops makes no difference to a line that does not look at it.
 use Rattle.std.specs.Prelude.{◌≡◌, ℕ, Bool, true, false, [], ◌++◌, length}
 use Rattle.std.specs.List.{AllByRecursion}
-use Rattle.plan_ir.specs.gql_plain.Order.{has_text}
 use Rattle.later_lines.specs.Alike.{AreAlike}
 use Rattle.later_lines.specs.Looked.{looked}
-use Rattle.relay_engine.specs.Kept.{Kept}
-use Rattle.relay_engine.specs.Stands.{StandsFor}
-use Rattle.relay_engine.specs.Steps.{written}
-use Rattle.relay_engine.specs.declared.lines.Lines.{Lines}
-use Rattle.relay_machine.specs.Effects.{sweeps}
-use Rattle.relay_machine.specs.Machine.{Project, State, Step, base, dropped_ids, is_held, layer_entries, notices_of, retained, step_line, swept_state, view}
-use Rattle.relay_machine.specs.Printed.{collect_line}
+use Rattle.line_engine.specs.Kept.{Kept}
+use Rattle.line_engine.specs.Stands.{StandsFor}
+use Rattle.line_engine.specs.Steps.{written}
+use Rattle.line_engine.specs.declared.lines.Lines.{Lines}
+use Rattle.line_engine.specs.relay_machine.Effects.{sweeps}
+use Rattle.line_engine.specs.relay_machine.Machine.{Project, State, Step, base, dropped_ids, is_held, layer_entries, notices_of, retained, step_line, swept_state, view}
+use Rattle.line_engine.specs.relay_machine.Printed.{collect_line}
+use Rattle.plan_ir.specs.gql_plain.Order.{has_text}
 use Rattle.plan_ir.specs.schema_tables.Types.{Text}
 use Rattle.plan_ir.specs.store_model.Events.{Line}
 

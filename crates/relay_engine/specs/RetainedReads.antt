@@ -1,16 +1,16 @@
 -- What the law of retained reads says of an engine: a sweep changes no read of a retained operation, nor of a pointer that one gives.
 use Rattle.std.specs.Prelude.{◌≡◌, Bool, true, List}
 use Rattle.std.specs.List.{AllByRecursion}
-use Rattle.relay_machine.specs.Effects.{sweeps}
-use Rattle.relay_engine.specs.Kept.{Kept}
-use Rattle.relay_engine.specs.Stands.{StandsFor}
-use Rattle.relay_machine.specs.Machine.{Project, State, retained}
-use Rattle.retained_reads.specs.Reads.{StaysRead}
+use Rattle.line_engine.specs.relay_machine.Effects.{sweeps}
+use Rattle.line_engine.specs.Kept.{Kept}
+use Rattle.line_engine.specs.Stands.{StandsFor}
+use Rattle.line_engine.specs.relay_machine.Machine.{Project, State, retained}
+use Rattle.line_engine.specs.store_layers.Layered.{entries_of}
+use Rattle.line_engine.specs.store_sweeps.Swept.{chosen}
 use Rattle.plan_ir.specs.schema_tables.Types.{Text}
 use Rattle.plan_ir.specs.store_model.Entries.{fold_entries}
 use Rattle.plan_ir.specs.store_model.Events.{Line}
-use Rattle.store_layers.specs.Layered.{entries_of}
-use Rattle.store_layers.specs.store_sweeps.Swept.{chosen}
+use Rattle.retained_reads.specs.Reads.{StaysRead}
 
 -- whichever state the engine stood for, and whoever owns the pointers
 abbrev pub KeepsRetainedReads : (old new : Kept) → Line → Type 0

@@ -1,25 +1,8 @@
-//! The engine: it answers one line of a script after another, over a project and a map of records.
+//! The engine: it answers one line of a script after another, over a project and a map of records, and
+//! keeps the theorems of later lines and of retained reads.
 #![tactic(auto)]
 
-mod answers;
-mod changing;
-mod collecting;
-mod confirming;
 pub mod engine;
-mod environments;
-mod layering;
-pub mod lines;
-mod releasing;
-mod retaining;
-mod said;
-mod taking;
-mod targets;
-mod telling;
-mod types;
-mod watched;
-mod watching;
 
 pub use engine::Engine;
-pub use lines::Lines;
-pub use relay_lines::{fault_line, summary_line};
-pub use store_retain::{Flat, RecordSource, Versions};
+pub use line_engine::{Flat, Lines, RecordSource, Versions, fault_line, summary_line};

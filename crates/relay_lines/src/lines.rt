@@ -101,16 +101,16 @@ fn shown_line(
     line.finish()
 }
 
-/// The answer of a sweep: how many ids were dropped, the number of the line, and whether the sweep
-/// waits for the live layers.
-pub fn collect_line(alloc: Global, dropped: u64, waiting: bool, n: u64) -> Result<Words, NoMemory>
-    ensures { IfOk result (λ words. words ++ 10 ∷ [] ≡ model.collect_line n dropped waiting) }
+/// The answer of a sweep: how many ids were dropped, the number of the line, and that the sweep does
+/// not wait.
+pub fn collect_line(alloc: Global, dropped: u64, n: u64) -> Result<Words, NoMemory>
+    ensures { IfOk result (λ words. words ++ 10 ∷ [] ≡ model.collect_line n dropped) }
 {
     let mut line = LineWriter::new(alloc)?;
     line.put_number("dropped", dropped)?;
     line.put_number("n", n)?;
     line.put_text("ok", "collect")?;
-    line.put_truth("waiting", waiting)?;
+    line.put_truth("waiting", false)?;
     line.finish()
 }
 

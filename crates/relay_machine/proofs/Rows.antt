@@ -23,7 +23,7 @@ use Rattle.plan_ir.specs.gql_plain.Tree as t
 use Rattle.plan_ir.specs.Expansion.{operation_named}
 use Rattle.plan_ir.specs.gql_plain.declared.plain.Plain.TheVariants.{Text as Words}
 use Rattle.relay_machine.specs.Machine.{Handle, Project, State, Step, Watch, accept, beginning, confirmed, definitions_in, documents_of, refuse, slots_of, step_event, step_line, view}
-use Rattle.relay_machine.specs.Printed.{notice_line, read_line}
+use Rattle.relay_machine.specs.Printed.{collect_line, notice_line, read_line}
 use Rattle.relay_machine.specs.Refusals.{handles, layers, watches, too_many}
 use Rattle.relay_model.specs.Readings.{operation_reads}
 use Rattle.plan_ir.specs.schema_tables.Types.{Text, Defs}
@@ -368,9 +368,12 @@ pub a_handle_to_release_is_unknown : refuses beginning 2 (release (codes "z")) (
 unfolding serde_json_on_literals digits
 a_handle_to_release_is_unknown = refl
 
-pub a_sweep_waits : step_event project 10 begun 2 collect ≡ accept (codes "{\"dropped\":0,\"n\":2,\"ok\":\"collect\",\"waiting\":true}\n") begun
+pub a_sweep_does_not_wait : collect_line 2 3 ≡ codes "{\"dropped\":3,\"n\":2,\"ok\":\"collect\",\"waiting\":false}\n"
 unfolding serde_json_on_literals digits
-a_sweep_waits = refl
+a_sweep_does_not_wait = refl
+
+pub layers_stay_live : (step_event project 10 begun 2 collect).state.layers ≡ begun.layers
+layers_stay_live = refl
 
 -- a watch of each handle's operation, which showed nothing
 abbrev watches_on : List Handle → List Watch

@@ -13,8 +13,8 @@ use Rattle.plan_ir.specs.store_model.Said.{Said}
 use Rattle.plan_ir.specs.store_model.Verdicts.{Verdict, content, refusal}
 use Rattle.plan_ir.specs.store_model.declared.command.Command.{Command}
 use Rattle.plan_ir.specs.store_model.declared.entry.Entry.{Entry}
-use Rattle.relay_machine.specs.Machine.{Handle, PartShown, Project, State, Step, Watch, accept, act, answer_to, confirm, definitions_in, drop_layer, entry_of, first_local_failure, first_refused, handle_named, is_in_use, is_layer, is_watch, noticed, nothing_said, of_fragment, of_part, of_target, of_verdict, read_again, release_handle, result_of, retain_named, retained, said_to, scope_given, shown, start_watch, started, step_begin, step_collect, step_finish, step_line, step_payload, step_read, step_release, step_retain, step_revert, step_unwatch, step_update, step_watch, sweep_base, swept, unless, unless_failure, unless_unknown, view, with_entries, with_handle, with_layer, with_notices, with_watches, without_watch}
-use Rattle.relay_machine.specs.Printed.{collect_line, event_line, read_line}
+use Rattle.relay_machine.specs.Machine.{Handle, PartShown, Project, State, Step, Watch, accept, act, answer_to, confirm, definitions_in, drop_layer, entry_of, first_local_failure, first_refused, handle_named, is_in_use, is_layer, is_watch, noticed, nothing_said, of_fragment, of_part, of_target, of_verdict, read_again, release_handle, result_of, retain_named, said_to, scope_given, shown, start_watch, started, step_begin, step_collect, step_finish, step_line, step_payload, step_read, step_release, step_retain, step_revert, step_unwatch, step_update, step_watch, swept_state, unless, unless_failure, unless_unknown, view, with_handle, with_layer, with_notices, with_watches, without_watch}
+use Rattle.relay_machine.specs.Printed.{event_line, read_line}
 use Rattle.relay_machine.specs.Refusals as refusals
 use Rattle.relay_machine.specs.Refusals.{Refusal, handles, layers, most, too_many, watches}
 use Rattle.serde_json.specs.Data as J
@@ -40,7 +40,7 @@ pub record IsKept (p : Project) (s : State) (IsGood : Entry → Type 0) (Holds :
   pub begins : (name : Text) (entry : Entry) → IsName name → is_layer s.layers name ≡ false → (length s.layers == most layers) ≡ false → IsGood entry → Holds (with_layer name entry s)
   pub finishes : (name : Text) (entry : Entry) → IsGood entry → Holds (confirm entry (drop_layer name s))
   pub reverts : (name : Text) → Holds (drop_layer name s)
-  pub sweeps : (buffer : ℕ) → Holds (with_entries (s.entries ++ swept (retained buffer s) ∷ []) s)
+  pub sweeps : (buffer : ℕ) → Holds (swept_state buffer s)
   pub retains : (h : Handle) → IsSoundHandle p h → is_some (handle_named s.handles h.name) ≡ false → (length s.handles == most handles) ≡ false → Holds (with_handle h s)
   pub releases : (name : Text) → is_in_use s.watches name ≡ false → Holds (release_handle name s)
   pub starts : (w : Watch) → IsName w.name → IsSoundShown p w.part → handle_named s.handles w.handle.name ≡ Some w.handle → is_watch s.watches w.name ≡ false
@@ -192,11 +192,7 @@ module _ {IsGood : Entry → Type 0} {Holds : State → Type 0} (p : Project) (s
       by_unless (not (is_watch s.watches name)) (refusals.unknown_watch name) (accept (event_line (codes "unwatch") n) (with_watches (without_watch name s.watches) s)) (λ _. kept.stops name)
 
   collects : (buffer : ℕ) → Keeps (step_collect p buffer s n)
-  collects buffer = at (length s.layers == 0)
-    where
-      at : (b : Bool) → Keeps (cond b (sweep_base p buffer s n) (accept (collect_line n 0 true) s))
-      at true = kept.sweeps buffer
-      at false = kept.before
+  collects buffer = kept.sweeps buffer
 
   acts : (buffer : ℕ) (event : Event) → IsGivenEvent event → Keeps (act p buffer s n event)
   acts buffer (e.retain handle op given) h = retains handle op given h

@@ -6,7 +6,7 @@ use Rattle.plan_ir.specs.store_model.Entries.{apply, fold_entries}
 use Rattle.plan_ir.specs.store_model.Records.{Records, no_records}
 use Rattle.plan_ir.specs.store_model.declared.command.Command.{Command}
 use Rattle.plan_ir.specs.store_model.declared.command.Command.TheVariants as C
-use Rattle.relay_machine.specs.Machine.{Confirmation, confirmed, swept, Layer, Project, base, confirm_one, first_refused, fold_confirmed, is_reached, or_later, refused_in, type_refused}
+use Rattle.relay_machine.specs.Machine.{Confirmation, confirmed, swept, Layer, Project, base, confirm_one, first_refused, fold_confirmed, is_held, or_later, refused_in, type_refused}
 use Rattle.sound_records.proofs.Sounds.{entries_sound, nothing_sound, sweeps_sound}
 use Rattle.sound_records.specs.Giving.{AreGiven}
 use Rattle.sound_records.specs.Sound.{AreSound, IsSoundCommand, NamesTypes}
@@ -20,7 +20,7 @@ module _ (p : Project) where
   folded : (cs : List Confirmation) (m : Records) → Each (IsSoundConfirmation p) cs → AreSound (is_object p.defs) m → AreSound (is_object p.defs) (fold_confirmed p cs m)
   folded [] m all sound = sound
   folded (confirmed e ∷ cs) m all sound = folded cs (apply e m) all.1 (entries_sound (is_object p.defs) e m all.0 sound)
-  folded (swept rs ∷ cs) m all sound = folded cs (confirm_one p (swept rs) m) all.1 (sweeps_sound (is_object p.defs) (is_reached p rs m) m sound)
+  folded (swept rs live ∷ cs) m all sound = folded cs (confirm_one p (swept rs live) m) all.1 (sweeps_sound (is_object p.defs) (is_held p rs live m) m sound)
 
   layered : (ls : List Layer) (m : Records) → Each (IsSoundLayer p) ls → AreSound (is_object p.defs) m → AreSound (is_object p.defs) (fold_entries (map (λ (l : Layer). l.entry) ls) m)
   layered [] m all sound = sound

@@ -4,7 +4,7 @@ use Rattle.plan_ir.specs.schema_tables.Types.{Text}
 use Rattle.plan_ir.specs.store_model.Events.{line_of}
 use Rattle.plan_ir.specs.store_model.Records.{Records}
 use Rattle.plan_ir.specs.store_model.declared.entry.Entry.{Entry}
-use Rattle.relay_machine.specs.Machine.{Confirmation, confirmed, swept, Handle, Project, State, Watch, drop_layer, handle_named, is_changed, is_in_use, is_layer, is_watch, read_again, release_handle, retained, shown_by, started, view, with_entries, with_handle, with_layer, with_watches, without_handle, without_watch}
+use Rattle.relay_machine.specs.Machine.{Confirmation, confirmed, swept, Handle, Project, State, Watch, drop_layer, handle_named, is_changed, is_in_use, is_layer, is_watch, layer_entries, read_again, release_handle, retained, shown_by, started, view, with_entries, with_handle, with_layer, with_watches, without_handle, without_watch}
 use Rattle.sound_records.proofs.Giving.{lines_given}
 use Rattle.sound_states.proofs.Changes.{IsKept, again, kept_by_line, noticed_in}
 use Rattle.sound_states.proofs.Names.{Each, apart_left, apart_push, each_both, each_left, each_push, each_so, found_left, found_push, handle_is, layer_is, layers_left_apart, not_in_use}
@@ -98,7 +98,7 @@ named_kept p s named = record {
   begins = λ name entry short free fits good. begun_named s named name entry free;
   finishes = λ name entry good. entries_named (drop_layer name s) (dropped_named s named name) (s.entries ++ confirmed entry ∷ []);
   reverts = λ name. dropped_named s named name;
-  sweeps = λ buffer. entries_named s named (s.entries ++ swept (retained buffer s) ∷ []);
+  sweeps = λ buffer. entries_named s named (s.entries ++ swept (retained buffer s) (layer_entries s) ∷ []);
   retains = λ h good free fits. retained_named s named h free;
   releases = λ name free. released_named s named name free;
   starts = λ w short good held free fits. started_named s named w held free;

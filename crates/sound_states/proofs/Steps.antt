@@ -9,7 +9,7 @@ use Rattle.plan_ir.specs.store_model.FactOrder.{fact_cmp, handle_cmp}
 use Rattle.plan_ir.specs.store_model.Records.{Records}
 use Rattle.plan_ir.specs.store_model.declared.command.Command.{Command}
 use Rattle.plan_ir.specs.store_model.declared.entry.Entry.{Entry}
-use Rattle.relay_machine.specs.Machine.{Handle, Project, State, Watch, confirm, confirmed, drop_layer, entry_of, first_refused, handle_named, is_changed, is_in_use, is_layer, is_watch, nothing_said, read_again, release_handle, released_by, retained, retained_by, shown_by, started, swept, view, with_entries, with_handle, with_layer, with_watches, without_handle, without_watch}
+use Rattle.relay_machine.specs.Machine.{Handle, Project, State, Watch, confirm, confirmed, drop_layer, entry_of, first_refused, handle_named, is_changed, is_in_use, is_layer, is_watch, layer_entries, nothing_said, read_again, release_handle, released_by, retained, retained_by, shown_by, started, swept, swept_state, view, with_handle, with_layer, with_watches, without_handle, without_watch}
 use Rattle.relay_machine.specs.Refusals.{handles, layers, most, watches}
 use Rattle.sound_records.proofs.Giving.{lines_given}
 use Rattle.sound_records.specs.Giving.{AreGiven, IsName}
@@ -66,10 +66,10 @@ module _ (p : Project) (s : State) (sound : IsSound p s) where
     most_watches = sound.most_watches;
   }
 
-  swept_sound : (buffer : ℕ) → IsSound p (with_entries (s.entries ++ swept (retained buffer s) ∷ []) s)
+  swept_sound : (buffer : ℕ) → IsSound p (swept_state buffer s)
   swept_sound buffer = record {
-    named = entries_named s sound.named (s.entries ++ swept (retained buffer s) ∷ []);
-    entries = each_push (IsSoundConfirmation p) s.entries (swept (retained buffer s)) sound.entries tt;
+    named = entries_named s sound.named (s.entries ++ swept (retained buffer s) (layer_entries s) ∷ []);
+    entries = each_push (IsSoundConfirmation p) s.entries (swept (retained buffer s) (layer_entries s)) sound.entries tt;
     layers = sound.layers;
     handles = sound.handles;
     released = sound.released;

@@ -34,7 +34,7 @@ pub record IsSoundLayer (p : Project) (l : Layer) : Type 0 where
 
 abbrev pub IsSoundConfirmation : Project → Confirmation → Type 0
 IsSoundConfirmation p (confirmed e) = IsSoundEntry (is_object p.defs) e
-IsSoundConfirmation p (swept rs) = Unit {0}
+IsSoundConfirmation p (swept rs live) = Unit {0}
 
 -- a fragment of the project at an id, with values of its local variables that fit
 pub record IsSoundPart (p : Project) (part : PartShown) : Type 0 where

@@ -1,4 +1,4 @@
-use Rattle.std.proofs.Common.{codes, [], ◌∷◌, refl}
+use Rattle.std.proofs.Common.{codes, [], ◌∷◌, false, refl}
 use Rattle.plan_ir.specs.gql_plain.Tree.{truth, text}
 use Rattle.relay_lines.proofs.LineLaws.{begun, more, printed}
 use Rattle.relay_lines.proofs.lines.collect_line.Goals as goal
@@ -10,10 +10,10 @@ returns c =
     let t1 = more (codes "dropped") (number c.args.dropped) t0 c.in_ok-put_number.ensures in
     let t2 = more (codes "n") (number c.args.n) t1 c.in_ok-put_number-2.ensures in
     let t3 = more (codes "ok") (text (codes "collect")) t2 c.in_ok-put_text.ensures in
-    let t4 = more (codes "waiting") (truth c.args.waiting) t3 c.in_ok-put_truth.ensures in
+    let t4 = more (codes "waiting") (truth false) t3 c.in_ok-put_truth.ensures in
     printed
     ((codes "dropped", number c.args.dropped)
     ∷ (codes "n", number c.args.n)
     ∷ (codes "ok", text (codes "collect"))
-    ∷ (codes "waiting", truth c.args.waiting) ∷ [])
+    ∷ (codes "waiting", truth false) ∷ [])
     c.finish.result t4 refl c.finish.ensures

@@ -3,4 +3,4 @@ use Rattle.retained_reads.proofs.Sweeping.{sweeps_keep_reads}
 use Rattle.retained_reads.proofs.laws.sweeps_keep_reads.Goals as goal
 
 pub returns : goal.returns
-returns c = λ p accepted rs named owner m. sweeps_keep_reads p accepted rs named owner m
+returns c = λ p accepted rs named live owner m. sweeps_keep_reads p accepted rs named live owner m

@@ -1,81 +1,49 @@
--- Each clause is the one of the line, where what is kept is the same with the watches that are prepared.
-use Rattle.std.proofs.Common.{◌≡◌, true, ap, subst, ◌∙◌, IfOk, OnErr}
+-- What is kept is what the engine keeps that answers lines; the laws hold at each call that has stepped.
+use Rattle.std.proofs.Common.{Result, Ok, Err, subst, IfOk}
 use Rattle.std.proofs.lemmas.Result.{IfOk-weaker}
-use Rattle.plan_project.specs.Projects.{IsAcceptedProject}
-use Rattle.relay_engine.proofs.KeepingLaws.{kept_of}
-use Rattle.relay_engine.proofs.LaterLaws.{later_lines}
-use Rattle.relay_engine.proofs.NamedLaws.{kept_named}
-use Rattle.relay_engine.proofs.OneLines.{has_printed}
-use Rattle.relay_engine.proofs.RetainedLaws.{retained_reads}
-use Rattle.relay_engine.proofs.engine.Engine.step.Goals as goal
-use Rattle.relay_engine.specs.Kept.{Kept}
-use Rattle.relay_engine.specs.LaterLines.{KeepsLaterLines}
-use Rattle.relay_engine.specs.Named.{StaysNamed}
-use Rattle.relay_engine.specs.RetainedReads.{KeepsRetainedReads}
-use Rattle.relay_engine.specs.Steps.{HasPrinted, HasStepped}
-use Rattle.relay_engine.specs.Work.{AppliesAbove, IsWithinWork}
-use Rattle.relay_machine.specs.Machine.{step}
+use Rattle.line_engine.specs.plan_project.Projects.{IsAcceptedProject}
+use Rattle.line_engine.specs.Kept.{Kept}
+use Rattle.line_engine.specs.Steps.{HasStepped}
+use Rattle.line_engine.specs.Sweeping.{HasHandleKeys}
+use Rattle.line_engine.specs.relay_machine.Machine.{step}
 use Rattle.plan_ir.specs.store_model.Events.{line_of}
-use Rattle.sound_states.proofs.NamedSteps.{steps_named}
-use Rattle.sound_states.specs.Named.{IsNamed}
+use Rattle.relay_engine.proofs.LaterLaws.{later_lines}
+use Rattle.relay_engine.proofs.RetainedLaws.{layered_reads, retained_reads}
+use Rattle.relay_engine.proofs.engine.Engine.step.Goals as goal
+use Rattle.relay_engine.specs.LaterLines.{KeepsLaterLines}
+use Rattle.relay_engine.specs.RetainedReads.{KeepsLayeredReads, KeepsRetainedReads}
 
 pub returns-clause-step : goal.returns-clause-step
 returns-clause-step g c =
-    subst (λ (k : Kept). IfOk c.step_line.result (λ lines. HasStepped k c.step_line.new.self lines (λ p s. step p k.buffer s c.args.n c.args.line.now)))
-    (ap (kept_of c.self.inside.project c.self.inside.layers c.self.inside.retained) c.refresh.ensures ∙ c.self.view_is) c.step_line.ensures.step
-
-pub returns-clause-buffer : goal.returns-clause-buffer
-returns-clause-buffer g c = c.step_line.ensures.spares.buffer ∙ ap (λ (k : Kept). k.buffer) c.self.view_is
-
-pub returns-clause-refused : goal.returns-clause-refused
-returns-clause-refused g c =
-    subst (λ (k : Kept). IfOk c.step_line.result (λ lines. lines.refused ≡ true → c.step_line.new.self ≡ k))
-    (ap (kept_of c.self.inside.project c.self.inside.layers c.self.inside.retained) c.refresh.ensures ∙ c.self.view_is) c.step_line.ensures.spares.refused
-
-pub returns-clause-err : goal.returns-clause-err
-returns-clause-err g c =
-    subst (λ (k : Kept). OnErr c.step_line.result (c.step_line.new.self ≡ k))
-    (ap (kept_of c.self.inside.project c.self.inside.layers c.self.inside.retained) c.refresh.ensures ∙ c.self.view_is) c.step_line.ensures.spares.err
-
-pub returns-clause-exact : goal.returns-clause-exact
-returns-clause-exact g c =
-    subst (λ (k : Kept). IfOk c.step_line.result (λ lines. AppliesAbove k (line_of c.args.line.now) lines.refused (g.S.Count.Steps.applies c.args.steps.now) (g.S.Count.Steps.applies c.step_line.new.steps)))
-    (ap (kept_of c.self.inside.project c.self.inside.layers c.self.inside.retained) c.refresh.ensures ∙ c.self.view_is) c.step_line.ensures.exact
-
-pub returns-clause-looks : goal.returns-clause-looks
-returns-clause-looks g c =
-    subst (λ (k : Kept). IsWithinWork k c.args.n (line_of c.args.line.now) (g.S.Count.Steps.looks c.args.steps.now) (g.S.Count.Steps.looks c.step_line.new.steps))
-    (ap (kept_of c.self.inside.project c.self.inside.layers c.self.inside.retained) c.refresh.ensures ∙ c.self.view_is) c.step_line.ensures.looks
-
-pub returns-clause-lines : goal.returns-clause-lines
-returns-clause-lines g c =
-    let old : Kept = c.args.self.now in
-    IfOk-weaker c.step_line.result (λ lines. HasStepped old c.step_line.new.self lines (λ p s. step p old.buffer s c.args.n c.args.line.now))
-    (λ lines. HasPrinted old lines (λ p s. step p old.buffer s c.args.n c.args.line.now))
-    (λ lines stepped. has_printed old c.step_line.new.self lines (λ p s. step p old.buffer s c.args.n c.args.line.now) stepped) (returns-clause-step g c)
-
-pub returns-clause-named : goal.returns-clause-named
-returns-clause-named g c =
-    let old : Kept = c.args.self.now in
-    let new : Kept = c.step_line.new.self in
-    let n = c.args.n in
-    let line = c.args.line.now in
-    IfOk-weaker c.step_line.result (λ lines. HasStepped old new lines (λ p s. step p old.buffer s n line)) (λ lines. StaysNamed old new n line)
-    (λ lines stepped p s stands named.
-    let after : IsNamed (step p old.buffer s n line).state = steps_named p old.buffer s n line named in
-    (after, kept_named new p (step p old.buffer s n line).state (stepped p s stands).stands after)) (returns-clause-step g c)
+    subst (λ (k : Kept). IfOk c.step.result (λ lines. HasStepped k c.step.new.self lines (λ p s. step p k.buffer s c.args.n c.args.line.now)))
+    c.self.view_is c.step.ensures.step
 
 pub returns-clause-later : goal.returns-clause-later
 returns-clause-later g c =
     let old : Kept = c.args.self.now in
-    IfOk-weaker c.step_line.result (λ lines. HasStepped old c.step_line.new.self lines (λ p s. step p old.buffer s c.args.n c.args.line.now))
-    (λ lines. KeepsLaterLines old c.step_line.new.self c.args.n (line_of c.args.line.now) lines) (λ lines stepped. later_lines old c.step_line.new.self c.args.n (line_of c.args.line.now) lines stepped)
+    IfOk-weaker c.step.result (λ lines. HasStepped old c.step.new.self lines (λ p s. step p old.buffer s c.args.n c.args.line.now))
+    (λ lines. KeepsLaterLines old c.step.new.self c.args.n (line_of c.args.line.now) lines) (λ lines stepped. later_lines old c.step.new.self c.args.n (line_of c.args.line.now) lines stepped)
     (returns-clause-step g c)
 
 pub returns-clause-retained : goal.returns-clause-retained
 returns-clause-retained g c =
     let old : Kept = c.args.self.now in
     let accepted : IsAcceptedProject old.defs old.documents = subst (λ (k : Kept). IsAcceptedProject k.defs k.documents) c.self.view_is c.is_accepted.ensures in
-    IfOk-weaker c.step_line.result (λ lines. HasStepped old c.step_line.new.self lines (λ p s. step p old.buffer s c.args.n c.args.line.now))
-    (λ lines. KeepsRetainedReads old c.step_line.new.self (line_of c.args.line.now))
-    (λ lines stepped. retained_reads old c.step_line.new.self c.args.n (line_of c.args.line.now) lines accepted stepped) (returns-clause-step g c)
+    IfOk-weaker c.step.result (λ lines. HasStepped old c.step.new.self lines (λ p s. step p old.buffer s c.args.n c.args.line.now))
+    (λ lines. KeepsRetainedReads old c.step.new.self (line_of c.args.line.now))
+    (λ lines stepped. retained_reads old c.step.new.self c.args.n (line_of c.args.line.now) lines accepted stepped) (returns-clause-step g c)
+
+both_ok : {T E : Type 0} (r : Result T E) (P Q : T → Type 0) → IfOk r P → IfOk r Q → IfOk r (λ x. P x × Q x)
+both_ok (Ok x) P Q p q = (p, q)
+both_ok (Err x) P Q p q = tt
+
+pub returns-clause-layered : goal.returns-clause-layered
+returns-clause-layered g c =
+    let old : Kept = c.args.self.now in
+    let line = line_of c.args.line.now in
+    let accepted : IsAcceptedProject old.defs old.documents = subst (λ (k : Kept). IsAcceptedProject k.defs k.documents) c.self.view_is c.is_accepted.ensures in
+    let keys : IfOk c.step.result (λ lines. HasHandleKeys old line) = subst (λ (k : Kept). IfOk c.step.result (λ lines. HasHandleKeys k line)) c.self.view_is c.step.ensures.keys in
+    IfOk-weaker c.step.result (λ lines. HasStepped old c.step.new.self lines (λ p s. step p old.buffer s c.args.n c.args.line.now) × HasHandleKeys old line)
+    (λ lines. KeepsLayeredReads old c.step.new.self line)
+    (λ lines both. layered_reads old c.step.new.self c.args.n line lines accepted both.0 both.1)
+    (both_ok c.step.result (λ lines. HasStepped old c.step.new.self lines (λ p s. step p old.buffer s c.args.n c.args.line.now)) (λ lines. HasHandleKeys old line) (returns-clause-step g c) keys)

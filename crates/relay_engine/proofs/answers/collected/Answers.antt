@@ -1,5 +1,0 @@
-use Rattle.relay_engine.proofs.OneLines.{collect_one}
-use Rattle.relay_engine.proofs.answers.collected.Goals as goal
-
-pub one_line-requires : goal.one_line-requires
-one_line-requires c = collect_one c.args.n c.args.dropped c.args.waiting c.in_ok-text.text c.in_ok-text.ensures
