@@ -37,7 +37,7 @@ ids_reached p r m = operation_reaches (documents_of p) no_place r.operation r.va
 -- records, where the slots stay at the ids that an operation reaches in them, if those that it reaches in the swept ones are held
 module _ (p : Project) (accepted : IsAcceptedProject p.defs p.documents) (all : List Retained) (live : List Entry) (owner : Text) (m earlier later : Records)
     (stays : (r : Retained) → AllByRecursion (λ id. is_held p all live m id ≡ true) (ids_reached p r m)
-        → AllByRecursion (λ id. slots_of earlier id ≡ slots_of later id) (ids_reached p r earlier)) where
+    → AllByRecursion (λ id. slots_of earlier id ≡ slots_of later id) (ids_reached p r earlier)) where
   one_stays : (r : Retained) → IsOfDocuments p r → ((id : Text) → has_text (ids_reached p r m) id ≡ true → is_reached p all m id ≡ true) → StaysRead p owner earlier later r
   one_stays r named reached =
       stays_read p (fragments_known p.defs p.documents accepted) r (operation_known p.defs p.documents accepted named.0 r.operation named.1) owner earlier later
