@@ -36,7 +36,7 @@ def kinds():
     yield "the same below a layer", BEGIN + LAYER, lambda n: '{"do":"collect"}\n'
 
 def record(n, fields):
-    """A line that makes a record of so many fields."""
+    """A line that makes a record with a number of fields."""
     sets = "".join(f',{{"set":{{"id":"{n:06}","field":"{key}","value":"{n:06}"}}}}' for key in "abcde"[:fields])
     return f'{{"do":"update","updates":[{{"create":{{"id":"{n:06}","type":"User"}}}}{sets}]}}\n'
 

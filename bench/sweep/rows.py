@@ -10,7 +10,7 @@ AGAIN = 5
 def users(count):
     return [{"id": f"u{n:06}", "age": n} for n in range(count)]
 
-def let_go(handle):
+def drop_operation(handle):
     """Releases a handle, and as many others after it as are kept, so that its operation is retained no more."""
     others = [line for n in range(BUFFER) for line in (retain("N", f"n{n}"), release(f"n{n}"))]
     return [release(handle)] + others
@@ -19,7 +19,7 @@ def store(count, kept):
     """A store of `count` records, of which the first are kept."""
     team = users(count)
     documents = "query A{team(size:1){id age}} query B{team{id age}} query N{me{id}}"
-    return documents, [retain("A", "a"), payload({"team": team[:kept]}, "a"), retain("B", "b"), payload({"team": team}, "b")] + let_go("b")
+    return documents, [retain("A", "a"), payload({"team": team[:kept]}, "a"), retain("B", "b"), payload({"team": team}, "b")] + drop_operation("b")
 
 def swept(before, times, dropped, last="release"):
     """The lines before, of which the last is of the event `last`, and then sweeps, of which the first drops `dropped` records."""
