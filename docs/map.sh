@@ -1,7 +1,7 @@
 #!/bin/bash
 # Writes the picture of the crates between the two marks of MAP.md, from crates.txt: a line a level,
 # lowest last, and of each crate those that it stands on, but for those that follow from the others;
-# and behind it how many ways lead down from one crate to another, which is what `rt` pays for.
+# and after it how many ways lead down from one crate to another, which is what `rt` pays for.
 # With --check nothing is written, and the status is 1 where the picture is not that of crates.txt,
 # where there are more ways than are allowed, where a crate depends on a tier above its own, by the
 # table of tiers at the head of MAP.md, or where definitions wait for checks: where a crate of the

@@ -119,14 +119,14 @@ def nested(count):
         yield f"fragment F{n} on User {{ {inside(99)} n{n}:name }}\n", fragment(f"F{n}", "User")
 
 def narrowed(count):
-    """A field that object types narrow, so many times below itself."""
+    """A field that object types narrow, a number of times below itself."""
     text = "__typename"
     for _ in range(count):
         text = f"n{{{text}}} __typename"
     yield "query Q { i { " + "n { " * count + "__typename" + " }" * count + " } }\n", query("Q", f"query Q{{i{{{text}}}}}")
 
 def conditions(count):
-    """So many fields behind 57 conditions in one another."""
+    """A number of fields under 57 conditions in one another."""
     fields = " ".join(f"a{n}:name" for n in range(count))
     yield ("query Q($v: Boolean!) { me { " + "... @include(if: $v) { " * 57 + fields + " }" * 57 + " } }\n",
            query("Q", "query Q($v:Boolean!){me{" + "...@include(if:$v){" * 57 + fields + "}" * 57 + " id}}"))
@@ -166,7 +166,7 @@ PROJECTS = [
     ("one response key", plain, same_field, [12_500, 25_000, 50_000], False, 0),
     ("sixty sets, fragments", plain, nested, [6_000, 12_000, 24_000], False, 0),
     ("narrowed at each level", narrowing, narrowed, [10, 20, 40], False, 0),
-    ("behind 57 conditions", plain, conditions, [12_375, 24_750, 49_500, 99_000], False, 0),
+    ("under 57 conditions", plain, conditions, [12_375, 24_750, 49_500, 99_000], False, 0),
     ("over one large fragment", plain, over_one, [2_500, 5_000, 10_000], False, 0),
     ("below an interface", wide, abstract, [6_000, 12_000, 24_000], False, 0),
     ("fragments, side by side", plain, spreads, [10_000, 20_000, 40_000], False, 0),

@@ -1,6 +1,6 @@
 #!/bin/bash
 # Times the built program with the arguments `compile` on projects of 1, 2 and 4 times as many parts: the
-# reading of the files, all rules, what operations and fragments become, and their lines. It tells of
+# reading of the files, all rules, what operations and fragments become, and their lines. It says of
 # each answer whether it is the expected one. Times are processor times, the least of nine rounds.
 # Build it first:
 # cd crates/relay_run && rt run -- run 10 data/schema.graphql data/q.graphql < stdin

@@ -1,7 +1,7 @@
 """Reads, five to a script, and fifty of a wide record: lists of links, masked and inline fragments in them, and a cycle of records 60 deep.
 
 The script without reads is subtracted. What is left is compared with a program that prints the data of the same line as often by serde_json
-alone; the reading of it is subtracted. It prints ten times as often, and takes a tenth of the time for it, so that short times are told
+alone; the reading of it is subtracted. It prints ten times as often, and takes a tenth of the time for it, so that short times are measured
 well."""
 
 from scripts import Row, answer, payload, read, retain, shown

@@ -24,7 +24,7 @@ def update(n):
     return b'{"do":"update","updates":[{"set":{"id":"4","field":"name","value":"%0400d"}}]}\n' % n
 
 def write(path, size):
-    """Writes a script of at least so many bytes, and returns how many they are, and how many lines."""
+    """Writes a script of at least `size` bytes, and returns how many they are, and how many lines."""
     with open(path, "wb") as file:
         done, lines = file.write(BEGIN), 2
         while done < size:

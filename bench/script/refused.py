@@ -4,7 +4,7 @@
 The scripts are those of crates/run_tests/src/rows.rt: a watch with a layer, pages of a connection, and operations that are released and swept.
 A run may end as it does with ample memory, where the program asked again; else it ends with status 6, and what it wrote is the beginning of the
 answers with ample memory, empty or up to an LF. Prints for each script the number of runs, and how many of them ended so and so; a run that ends
-otherwise is told, and the status is 1. It wants a C compiler, `cc`.
+otherwise is reported, and the status is 1. It wants a C compiler, `cc`.
 """
 import collections
 import os

@@ -1,8 +1,8 @@
 #!/bin/bash
 # Runs the built program on scripts of 2^30 bytes and of a byte more. One is a single line of more than 8 MiB, which is answered
 # LineTooLong where the script ends with it, and not at all where the script goes on: the status is then 7. The other has 1,024
-# lines of 2^20 bytes, the last of which ends at byte 2^30: a line feed behind it is no line, and all 1,024 lines are answered.
-# Takes seconds, and a few MiB of memory, which is told. Then talks to the program line by line. Build the program first:
+# lines of 2^20 bytes, the last of which ends at byte 2^30: a line feed after it is no line, and all 1,024 lines are answered.
+# Takes seconds, and a few MiB of memory, which is printed. Then talks to the program line by line. Build the program first:
 # cd crates/relay_run && rt run -- run 10 data/schema.graphql data/q.graphql < stdin
 set -eu
 here=$(cd "$(dirname "$0")" && pwd)

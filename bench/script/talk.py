@@ -1,8 +1,8 @@
 #!/usr/bin/env python3
 """talk.py [PROGRAM] [LINES]: talks to the built program over pipes: a line, its answer, the next line; 10,000 lines where no number is given.
 
-It tells the time of a line, from its writing until its answer is there, and fails where an answer is another one or is not there within 10
-seconds, as it would not be from a program that reads on before it answers. The answer of every second line is a notice longer, since a watch
+It prints the time of a line, from its writing until its answer is there, and fails where an answer is another one or is not there within 10
+seconds, as it would not be from a program that reads on before it answers. The answer of every second line is a notification longer, since a watch
 is live. Beside it, a process that gives each line back as it came shows what the pipes alone take.
 """
 import os
@@ -27,7 +27,7 @@ BEGIN = [
 ECHO = [sys.executable, "-c", "import os\nwhile b := os.read(0, 65536):\n    os.write(1, b)"]
 
 def talked(n):
-    """The line n, behind the three first, and the lines of its answer."""
+    """The line n, after the three first, and the lines of its answer."""
     if n % 2:
         return '{"do":"collect"}', [f'{{"dropped":0,"n":{n},"ok":"collect","waiting":false}}']
     age = 5 + (n - 2) // 2
@@ -35,7 +35,7 @@ def talked(n):
     return '{"do":"update","updates":[{"add":{"id":"4","field":"age","by":1}}]}', [f'{{"n":{n},"ok":"update"}}', notice]
 
 def answer(out, size):
-    """So many bytes of a pipe."""
+    """`size` bytes of a pipe."""
     found = b""
     while len(found) < size:
         if not select.select([out], [], [], 10)[0]:

@@ -1,16 +1,16 @@
-"""Sweeps: stores of which a part is kept, sweeps that drop nothing, many retained operations over the same records, and plans that are
-made to be hard for the walk along what is retained.
+"""Sweeps: stores of which a part is kept, sweeps that drop nothing, live layers, many retained operations over the same records, and plans
+that are made to be hard for the walk along what is retained.
 
 The script without what is timed is subtracted; microseconds are given for each sweep."""
 
-from scripts import BUFFER, Row, answer, collect, collected, payload, release, retain
+from scripts import BUFFER, Row, add, answer, begin, collect, collected, payload, release, retain, update
 
 AGAIN = 5
 
 def users(count):
     return [{"id": f"u{n:06}", "age": n} for n in range(count)]
 
-def let_go(handle):
+def drop_operation(handle):
     """Releases a handle, and as many others after it as are kept, so that its operation is retained no more."""
     others = [line for n in range(BUFFER) for line in (retain("N", f"n{n}"), release(f"n{n}"))]
     return [release(handle)] + others
@@ -19,14 +19,14 @@ def store(count, kept):
     """A store of `count` records, of which the first are kept."""
     team = users(count)
     documents = "query A{team(size:1){id age}} query B{team{id age}} query N{me{id}}"
-    return documents, [retain("A", "a"), payload({"team": team[:kept]}, "a"), retain("B", "b"), payload({"team": team}, "b")] + let_go("b")
+    return documents, [retain("A", "a"), payload({"team": team[:kept]}, "a"), retain("B", "b"), payload({"team": team}, "b")] + drop_operation("b")
 
-def swept(before, times, dropped):
-    """The lines before, and then sweeps, of which the first drops `dropped` records."""
+def swept(before, times, dropped, last="release"):
+    """The lines before, of which the last is of the event `last`, and then sweeps, of which the first drops `dropped` records."""
     documents, lines = before
     n = len(lines) + times
     if times == 0:
-        return documents, lines, answer(n, "release")
+        return documents, lines, answer(n, last)
     return documents, lines + [collect()] * times, collected(n, dropped if times == 1 else 0)
 
 def a_part(name, share):
@@ -36,6 +36,37 @@ def a_part(name, share):
 def once_more(name, share):
     make = lambda times: lambda count: swept(store(count, count // share), times, count - count // share)
     return Row(name, (10_000, 20_000, 40_000), make(1 + AGAIN), without=make(1), parts=lambda count: AGAIN)
+
+def under_a_layer(before):
+    """The lines before, and then a layer that names the first user."""
+    documents, lines = before
+    return documents, lines + [begin("a", add(id="u000000"))]
+
+def create(id):
+    return {"create": {"id": id, "type": "User"}}
+
+def chain(count):
+    """A store of `count` records that no operation keeps, each of which links to the next one."""
+    ids = [it["id"] for it in users(count)]
+    commands = [it for one, other in zip(ids, ids[1:] + [None]) for it in (create(one), {"link": {"id": one, "field": "friend", "to": other}})]
+    return "query N{me{id}}", [update(*commands[at:at + 2_000]) for at in range(0, len(commands), 2_000)]
+
+def half_under_a_layer():
+    make = lambda times: lambda count: swept(under_a_layer(store(count, count // 2)), times, count - count // 2, "begin")
+    return Row("half kept, under a layer", (10_000, 20_000, 40_000), make(1), without=make(0), parts=lambda count: 1)
+
+def all_led_to():
+    make = lambda times: lambda count: swept(under_a_layer(chain(count)), times, 0, "begin")
+    return Row("all kept for a layer, five times", (10_000, 20_000, 40_000), make(AGAIN), without=make(0), parts=lambda count: AGAIN)
+
+def under_layers():
+    """Each sweep drops one record, so that all layers are applied again."""
+    def make(ends):
+        begun = lambda count: [begin(f"l{n}", create(f"u{n:06}")) for n in range(count)]
+        lines = lambda count: begun(count) + [update(create("x")), *ends] * AGAIN
+        last = lambda count: (collected(len(lines(count)), 1) if ends else answer(len(lines(count)), "update"))
+        return lambda count: ("query N{me{id}}", lines(count), last(count))
+    return Row("one dropped under layers, five times", (250, 500, 1_000), make([collect()]), without=make([]), parts=lambda count: AGAIN)
 
 def operations(count, records):
     """`count` retained operations over the same records."""
@@ -77,6 +108,9 @@ ROWS = [
     a_part("all kept", 1),
     once_more("nothing dropped, a tenth was kept", 10),
     once_more("nothing dropped, all were kept", 1),
+    half_under_a_layer(),
+    all_led_to(),
+    under_layers(),
     over_records("operations over 100 records", (250, 500, 1_000), lambda count: (count, 100)),
     over_records("1,000 operations, records", (100, 200, 400), lambda count: (1_000, count)),
     # How many steps their plans have

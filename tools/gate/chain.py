@@ -18,7 +18,7 @@ from kit import want_kept
 
 ROOT = os.path.abspath(sys.argv[1])
 HERE = os.path.join(os.path.dirname(ROOT), "chain.state")
-# processor minutes, where the size of a crate does not tell them
+# processor minutes, where the size of a crate does not show them
 COSTS = {"gql_plain": 4.5, "relay_dirs": 6.5, "plan_ir": 6, "plan_expand": 15, "store_norm": 8, "line_engine": 11, "relay_top": 14}
 COSTS |= {"store_tests": 15, "plan_tests": 13, "engine_tests": 18, "run_tests": 12, "rule_tests": 20, "text_tests": 9, "norm_tests": 5, "source_tests": 6, "merge_tests": 6}
 

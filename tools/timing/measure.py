@@ -60,7 +60,7 @@ def run(folder, status):
     words = [program, "run", str(BUFFER), "s.graphql", f"{folder}/d.graphql"]
     took, peak, ended = timed(words, f"{folder}/script")
     is_due = ended == status and subprocess.call(["cmp", "-s", "last", f"{folder}/due"]) == 0
-    return took, peak, "" if is_due else f"WRONG: status {ended}, {head_of('last')}; due {head_of(f'{folder}/due')}"
+    return took, peak, "" if is_due else f"WRONG: status {ended}, {head_of('last')}; expected {head_of(f'{folder}/due')}"
 
 def measured(row):
     """For each size: the least times by what was run, the peak, and what was wrong."""

@@ -80,8 +80,8 @@ def noticed(n, watch, data, seen, missing=False):
 def answer(n, do):
     return line(n=n, ok=do)
 
-def collected(n, dropped, waiting=False):
-    return line(dropped=dropped, n=n, ok="collect", waiting=waiting)
+def collected(n, dropped):
+    return line(dropped=dropped, n=n, ok="collect", waiting=False)
 
 def in_order(ids):
     """The ids in byte order."""
