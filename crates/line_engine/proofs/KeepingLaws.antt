@@ -5,7 +5,7 @@ use Rattle.plan_ir.specs.gql_ast.declared.document.Document.{Document}
 use Rattle.plan_ir.specs.gql_ast.declared.place.Placed.{Placed}
 use Rattle.plan_project.specs.Lookups.{Agree}
 use Rattle.line_engine.proofs.HandleLaws as handles
-use Rattle.line_engine.proofs.HandleLaws.{agrees, is_some-under, kept_after, under_is}
+use Rattle.line_engine.proofs.HandleLaws.{agrees, kept_after, under_is}
 use Rattle.line_engine.proofs.Names.{both_there, found_right, none_right}
 use Rattle.line_engine.proofs.ReleasedLaws.{last_kept, leaves}
 use Rattle.line_engine.proofs.StandingLaws.{view_is}

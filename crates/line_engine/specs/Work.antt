@@ -1,5 +1,5 @@
 -- How often a step may look at records, and apply entries (this project's own).
-use Rattle.std.specs.Prelude.{◌≡◌, ℕ, ◌+◌, ◌*◌, ◌≤◌, Bool, true, false, ◌||◌, List, [], ◌∷◌, ◌++◌, cond, drop, length, map}
+use Rattle.std.specs.Prelude.{◌≡◌, ℕ, ◌+◌, ◌*◌, ◌≤◌, Bool, false, ◌||◌, List, [], ◌∷◌, ◌++◌, cond, drop, length, map}
 use Rattle.std.specs.List.{list_any}
 use Rattle.line_engine.specs.Kept.{Kept}
 use Rattle.line_engine.specs.Stands.{StandsFor, layer_of}
@@ -11,7 +11,7 @@ use Rattle.store_layers.specs.Layered.{Layer, above, below, entries_of, from_on,
 use Rattle.store_layers.specs.Work.{counted, weights}
 use Rattle.plan_ir.specs.store_model.Entries.{fold_entries}
 use Rattle.plan_ir.specs.store_model.Events as e
-use Rattle.plan_ir.specs.store_model.Events.{Event, Line, line_of}
+use Rattle.plan_ir.specs.store_model.Events.{Event, Line}
 use Rattle.plan_ir.specs.store_model.Records.{Records}
 use Rattle.plan_ir.specs.store_model.Walks.{Found, Slots, standings}
 use Rattle.plan_ir.specs.store_model.declared.entry.Entry.{Entry}

@@ -7,8 +7,8 @@ use Rattle.store_source.proofs.Laid.{without_absent}
 use Rattle.store_source.proofs.newest.without_changes.Goals as goal
 
 none_there : {X : Type 0} (o : Option X) (b : Bool) → is_some o ≡ not b → b ≡ true → o ≡ None
-none_there None b is yes = refl
-none_there (Some x) b is yes = absurd (true≢false (is ∙ ap not yes))
+none_there None b is so = refl
+none_there (Some x) b is so = absurd (true≢false (is ∙ ap not so))
 
 pub returns-then-is_none : goal.returns-then-is_none
 returns-then-is_none c =
