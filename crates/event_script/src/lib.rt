@@ -10,8 +10,10 @@ mod rows;
 mod text;
 mod values;
 
+pub use commands::command_of;
 pub use event::{LineReader, read_event};
 pub use fault::LineFault;
+pub use members::{is_short, is_there};
 pub use store_model;
 pub use store_model::{
     Answer, Command, Commands, EdgeEdit, Event, Part, Target, gql_plain, store_record,

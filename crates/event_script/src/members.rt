@@ -90,8 +90,8 @@ pub fn is_there(text: &str) -> bool
     !text.is_empty()
 }
 
-/// Whether a text has 1 to 200 bytes.
-fn is_short(text: &str) -> bool
+/// Whether a text has 1 to 200 bytes; takes no memory.
+pub fn is_short(text: &str) -> bool
     ensures { result ≡ events.is_short text.now }
 {
     is_there(text) && text.len() <= MAX_NAME

@@ -1,0 +1,4 @@
+mod FactLaws
+mod ListedLaws
+mod ListLaws
+mod NumberSteps
