@@ -3,6 +3,7 @@
 use Rattle.std.specs.Prelude.{ℕ, ℤ, pos, negsuc, List, [], ◌∷◌, ◌++◌, cond, codes, bytes_eq, Option, Some, None, option_map, option_and_then}
 use Rattle.store_model.specs.gql_plain.ToJson.{data_of}
 use Rattle.store_model.specs.gql_plain.Tree.{Tree, null, truth, whole, text, list, object}
+use Rattle.store_model.specs.gql_plain.declared.plain.Plain.{Plain}
 use Rattle.store_model.specs.store_record.Keys.{Text, Arguments}
 use Rattle.store_model.specs.store_record.declared.field.Field.{Field}
 use Rattle.store_model.specs.store_record.declared.field.Field.TheVariants.{Leaf, Link, Links}
@@ -35,18 +36,30 @@ object_in _ = None
 abbrev pub marked_pairs : Tree → Option Arguments
 marked_pairs t = option_and_then object_in (marked_value t)
 
+-- an id, or null for none
+abbrev pub id_in : Tree → Option (Option Text)
+id_in null = Some None
+id_in (truth b) = None
+id_in (whole z) = None
+id_in (text id) = Some (Some id)
+id_in (list ts) = None
+id_in (object ms) = None
+
 abbrev pub ids_in : List Tree → Option (List (Option Text))
 ids_in [] = Some []
-ids_in (null ∷ ts) = option_map (λ ids. None ∷ ids) (ids_in ts)
-ids_in (text id ∷ ts) = option_map (λ ids. Some id ∷ ids) (ids_in ts)
-ids_in (truth b ∷ ts) = None
-ids_in (whole z ∷ ts) = None
-ids_in (list us ∷ ts) = None
-ids_in (object ms ∷ ts) = None
+ids_in (t ∷ ts) = option_and_then (λ id. option_map (λ ids. id ∷ ids) (ids_in ts)) (id_in t)
+
+abbrev pub count_in : Tree → Option ℕ
+count_in (whole (pos n)) = Some n
+count_in _ = None
+
+-- the value as code holds it
+abbrev pub marked_plain : Tree → Option Plain
+marked_plain t = option_map plain_of_tree (marked_value t)
 
 -- under the name of its form
 abbrev pub leaf_in : Tree → Option Field
-leaf_in t = option_map (λ value. Leaf (plain_of_tree value)) (marked_value t)
+leaf_in t = option_map Leaf (marked_plain t)
 
 abbrev pub link_in : Tree → Option Field
 link_in (text id) = Some (Link id)
@@ -70,8 +83,8 @@ abbrev pub field_of : Tree → Option Field
 field_of (list ts) = field_in (tree_list ts)
 field_of _ = None
 
-abbrev pub command_in : Tree → Option Command
-command_in t = option_and_then (λ value. command_of (data_of value)) (marked_value t)
+abbrev pub command_of_marks : Tree → Option Command
+command_of_marks t = option_and_then (λ value. command_of (data_of value)) (marked_value t)
 
 -- ---- the image with more in it
 
@@ -99,34 +112,80 @@ on_last f [] = None
 on_last f (x ∷ []) = option_map (λ y. y ∷ []) (f x)
 on_last f (x ∷ y ∷ ys) = option_map (λ zs. x ∷ zs) (on_last f (y ∷ ys))
 
--- ---- rows, by what stands behind their name
+-- ---- what the items behind a row's name are
 
-abbrev pub put_record : ImageRecord → Image → Option Image
-put_record r v = Some (with_records (v.records ++ r ∷ []) v)
+abbrev pub deleted_in : Row → Option ImageRecord
+deleted_in (text id ∷ []) = Some (record { id = id; slot = None })
+deleted_in _ = None
 
-abbrev pub take_deleted : Row → Image → Option Image
-take_deleted (text id ∷ []) v = put_record (record { id = id; slot = None }) v
-take_deleted _ v = None
+abbrev pub record_in : Row → Option ImageRecord
+record_in (text id ∷ text type_name ∷ []) = Some (record { id = id; slot = Some (record { type_name = type_name; fields = [] }) })
+record_in _ = None
 
-abbrev pub take_record : Row → Image → Option Image
-take_record (text id ∷ text type_name ∷ []) v = put_record (record { id = id; slot = Some (record { type_name = type_name; fields = [] }) }) v
-take_record _ v = None
+abbrev pub key_and_field_in : Row → Option (Text × Field)
+key_and_field_in (text key ∷ t ∷ []) = option_map (λ field. (key, field)) (field_of t)
+key_and_field_in _ = None
 
-abbrev pub with_field : Text → Field → Option Record → Option (Option Record)
-with_field key field None = None
-with_field key field (Some r) = Some (Some (record { type_name = r.type_name; fields = r.fields ++ (key, field) ∷ [] }))
+abbrev pub layer_in : Row → Option ImageLayer
+layer_in (text name ∷ []) = Some (record { name = name; entry = record { facts = record { facts = []; handles = [] }; commands = [] } })
+layer_in _ = None
 
-abbrev pub put_field : Text → Field → Image → Option Image
-put_field key field v =
-    option_map (λ rs. with_records rs v) (on_last (λ r. option_map (λ slot. record { id = r.id; slot = slot }) (with_field key field r.slot)) v.records)
+abbrev pub fact_in : Row → Option Fact
+fact_in (text id ∷ text key ∷ t ∷ []) = option_map (λ value. record { id = id; key = key; value = value }) (field_of t)
+fact_in _ = None
 
-abbrev pub take_field : Row → Image → Option Image
-take_field (text key ∷ t ∷ []) v = option_and_then (λ field. put_field key field v) (field_of t)
-take_field _ v = None
+abbrev pub page_in : Row → Option HandleFact
+page_in (text parent ∷ text handle_key ∷ text field_key ∷ after ∷ before ∷ text page_type ∷ text info_type ∷ []) =
+    option_and_then (λ a. option_map (λ b.
+    record { parent = parent; handle_key = handle_key; field_key = field_key; after = a; before = b; page_type = page_type; info_type = info_type })
+    (marked_plain before)) (marked_plain after)
+page_in _ = None
 
-abbrev pub take_layer : Row → Image → Option Image
-take_layer (text name ∷ []) v = Some (with_layers (v.layers ++ (record { name = name; entry = record { facts = record { facts = []; handles = [] }; commands = [] } }) ∷ []) v)
-take_layer _ v = None
+abbrev pub command_in : Row → Option Command
+command_in (t ∷ []) = command_of_marks t
+command_in _ = None
+
+abbrev pub handle_in : Row → Option ImageHandle
+handle_in (text name ∷ text op ∷ t ∷ n ∷ []) =
+    option_and_then (λ fresh. option_map (λ vars. record { name = name; op = op; vars = vars; fresh = fresh }) (marked_pairs t)) (count_in n)
+handle_in _ = None
+
+abbrev pub release_in : Row → Option ImageRelease
+release_in (text op ∷ t ∷ []) = option_map (λ vars. record { op = op; vars = vars }) (marked_pairs t)
+release_in _ = None
+
+-- none where the whole operation is watched
+abbrev pub part_in : Row → Option (Option Part)
+part_in [] = Some None
+part_in (text fragment ∷ text id ∷ t ∷ []) = option_map (λ args. Some (record { fragment = fragment; id = id; args = args })) (marked_pairs t)
+part_in _ = None
+
+abbrev pub watch_in : Row → Option ImageWatch
+watch_in (text name ∷ text handle ∷ rest) = option_map (λ part. record { name = name; handle = handle; part = part }) (part_in rest)
+watch_in _ = None
+
+abbrev pub mark_in : Row → Option ImageMark
+mark_in (text id ∷ n ∷ []) = option_map (λ at. record { id = id; at = at }) (count_in n)
+mark_in _ = None
+
+-- ---- what they add
+
+abbrev pub put_record : ImageRecord → Image → Image
+put_record r v = with_records (v.records ++ r ∷ []) v
+
+abbrev pub with_field : Text × Field → Option Record → Option (Option Record)
+with_field f None = None
+with_field f (Some r) = Some (Some (record { type_name = r.type_name; fields = r.fields ++ f ∷ [] }))
+
+-- the record, where it is alive, with a field more
+abbrev pub record_with : Text × Field → ImageRecord → Option ImageRecord
+record_with f r = option_map (λ slot. record { id = r.id; slot = slot }) (with_field f r.slot)
+
+abbrev pub put_field : Text × Field → Image → Option Image
+put_field f v = option_map (λ rs. with_records rs v) (on_last (record_with f) v.records)
+
+abbrev pub put_layer : ImageLayer → Image → Image
+put_layer l v = with_layers (v.layers ++ l ∷ []) v
 
 abbrev pub in_layer : (ImageLayer → ImageLayer) → Image → Option Image
 in_layer f v = option_map (λ ls. with_layers ls v) (on_last (λ l. Some (f l)) v.layers)
@@ -140,57 +199,32 @@ with_page h l = record { name = l.name; entry = record { facts = record { facts 
 abbrev pub with_command : Command → ImageLayer → ImageLayer
 with_command c l = record { name = l.name; entry = record { facts = l.entry.facts; commands = l.entry.commands ++ c ∷ [] } }
 
-abbrev pub take_fact : Row → Image → Option Image
-take_fact (text id ∷ text key ∷ t ∷ []) v = option_and_then (λ value. in_layer (with_fact (record { id = id; key = key; value = value })) v) (field_of t)
-take_fact _ v = None
+abbrev pub put_handle : ImageHandle → Image → Image
+put_handle h v = with_handles (v.handles ++ h ∷ []) v
 
-abbrev pub take_page : Row → Image → Option Image
-take_page (text parent ∷ text handle_key ∷ text field_key ∷ after ∷ before ∷ text page_type ∷ text info_type ∷ []) v =
-    option_and_then (λ a. option_and_then (λ b.
-    in_layer (with_page (record { parent = parent; handle_key = handle_key; field_key = field_key; after = plain_of_tree a; before = plain_of_tree b; page_type = page_type; info_type = info_type })) v)
-    (marked_value before)) (marked_value after)
-take_page _ v = None
+abbrev pub put_release : ImageRelease → Image → Image
+put_release r v = with_released (v.released ++ r ∷ []) v
 
-abbrev pub take_command : Row → Image → Option Image
-take_command (t ∷ []) v = option_and_then (λ c. in_layer (with_command c) v) (command_in t)
-take_command _ v = None
+abbrev pub put_watch : ImageWatch → Image → Image
+put_watch w v = with_watches (v.watches ++ w ∷ []) v
 
-abbrev pub take_handle : Row → Image → Option Image
-take_handle (text name ∷ text op ∷ t ∷ whole (pos fresh) ∷ []) v =
-    option_map (λ vars. with_handles (v.handles ++ (record { name = name; op = op; vars = vars; fresh = fresh }) ∷ []) v) (marked_pairs t)
-take_handle _ v = None
-
-abbrev pub take_released : Row → Image → Option Image
-take_released (text op ∷ t ∷ []) v = option_map (λ vars. with_released (v.released ++ (record { op = op; vars = vars }) ∷ []) v) (marked_pairs t)
-take_released _ v = None
-
-abbrev pub put_watch : Text → Text → Option Part → Image → Image
-put_watch name handle part v = with_watches (v.watches ++ (record { name = name; handle = handle; part = part }) ∷ []) v
-
-abbrev pub take_watch : Row → Image → Option Image
-take_watch (text name ∷ text handle ∷ []) v = Some (put_watch name handle None v)
-take_watch (text name ∷ text handle ∷ text fragment ∷ text id ∷ t ∷ []) v =
-    option_map (λ args. put_watch name handle (Some (record { fragment = fragment; id = id; args = args })) v) (marked_pairs t)
-take_watch _ v = None
-
-abbrev pub take_mark_row : Row → Image → Option Image
-take_mark_row (text id ∷ whole (pos at) ∷ []) v = Some (with_marked (v.marked ++ (record { id = id; at = at }) ∷ []) v)
-take_mark_row _ v = None
+abbrev pub put_mark : ImageMark → Image → Image
+put_mark m v = with_marked (v.marked ++ m ∷ []) v
 
 -- the row of this name; the last one says nothing
 abbrev pub take_named : Text → Row → Image → Option Image
 take_named name row v =
-    cond (bytes_eq name (codes "deleted")) (take_deleted row v)
-    (cond (bytes_eq name (codes "record")) (take_record row v)
-    (cond (bytes_eq name (codes "field")) (take_field row v)
-    (cond (bytes_eq name (codes "layer")) (take_layer row v)
-    (cond (bytes_eq name (codes "fact")) (take_fact row v)
-    (cond (bytes_eq name (codes "page")) (take_page row v)
-    (cond (bytes_eq name (codes "do")) (take_command row v)
-    (cond (bytes_eq name (codes "handle")) (take_handle row v)
-    (cond (bytes_eq name (codes "released")) (take_released row v)
-    (cond (bytes_eq name (codes "watch")) (take_watch row v)
-    (cond (bytes_eq name (codes "mark")) (take_mark_row row v)
+    cond (bytes_eq name (codes "deleted")) (option_map (λ r. put_record r v) (deleted_in row))
+    (cond (bytes_eq name (codes "record")) (option_map (λ r. put_record r v) (record_in row))
+    (cond (bytes_eq name (codes "field")) (option_and_then (λ f. put_field f v) (key_and_field_in row))
+    (cond (bytes_eq name (codes "layer")) (option_map (λ l. put_layer l v) (layer_in row))
+    (cond (bytes_eq name (codes "fact")) (option_and_then (λ f. in_layer (with_fact f) v) (fact_in row))
+    (cond (bytes_eq name (codes "page")) (option_and_then (λ h. in_layer (with_page h) v) (page_in row))
+    (cond (bytes_eq name (codes "do")) (option_and_then (λ c. in_layer (with_command c) v) (command_in row))
+    (cond (bytes_eq name (codes "handle")) (option_map (λ h. put_handle h v) (handle_in row))
+    (cond (bytes_eq name (codes "released")) (option_map (λ r. put_release r v) (release_in row))
+    (cond (bytes_eq name (codes "watch")) (option_map (λ w. put_watch w v) (watch_in row))
+    (cond (bytes_eq name (codes "mark")) (option_map (λ m. put_mark m v) (mark_in row))
     (cond (bytes_eq name (codes "end")) (Some v) None)))))))))))
 
 abbrev pub take_row : Row → Image → Option Image
@@ -206,7 +240,9 @@ empty_image buffer lines marks all =
     record { buffer = buffer; lines = lines; marks = marks; whole = all; records = []; layers = []; handles = []; released = []; watches = []; marked = [] }
 
 abbrev pub begun : Row → Option Image
-begun (text name ∷ whole (pos version) ∷ whole (pos buffer) ∷ whole (pos lines) ∷ whole (pos marks) ∷ whole (pos all) ∷ []) = Some (empty_image buffer lines marks all)
+begun (name ∷ version ∷ b ∷ n ∷ m ∷ w ∷ []) =
+    option_and_then (λ buffer. option_and_then (λ lines. option_and_then (λ marks. option_map (λ all. empty_image buffer lines marks all)
+    (count_in w)) (count_in m)) (count_in n)) (count_in b)
 begun _ = None
 
 abbrev pub image_of_rows : List Row → Option Image

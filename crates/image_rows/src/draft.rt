@@ -1,6 +1,6 @@
 //! An image that is being read. Nothing is asked of the order of what it holds.
 use image_text::gql_plain::{Id, Name, Words};
-use image_text::{ImageHandles, ImageMarks, ImageReleases, ImageWatches};
+use image_text::{ImageHandle, ImageMark, ImageRelease, ImageWatch};
 use std::marker::Model;
 use store_model::store_record::SharedField;
 use store_model::{Commands, Fact, HandleFact};
@@ -72,10 +72,10 @@ pub struct Draft {
     pub whole: u64,
     pub records: Vec<RecordDraft>,
     pub layers: Vec<LayerDraft>,
-    pub handles: ImageHandles,
-    pub released: ImageReleases,
-    pub watches: ImageWatches,
-    pub marked: ImageMarks,
+    pub handles: Vec<ImageHandle>,
+    pub released: Vec<ImageRelease>,
+    pub watches: Vec<ImageWatch>,
+    pub marked: Vec<ImageMark>,
 }
 
 impl Model for Draft {
@@ -88,6 +88,6 @@ impl Model for Draft {
 
     ghost view = { λ a. record {
         buffer = a.buffer; lines = a.lines; marks = a.marks; whole = a.whole;
-        records = a.records.items; layers = a.layers.items; handles = a.handles; released = a.released;
-        watches = a.watches; marked = a.marked } };
+        records = a.records.items; layers = a.layers.items; handles = a.handles.items; released = a.released.items;
+        watches = a.watches.items; marked = a.marked.items } };
 }

@@ -4,7 +4,10 @@
 pub mod draft;
 mod line;
 mod made;
+mod put;
+mod row;
 mod take;
+mod value;
 
 pub use draft::Draft;
 pub use image_text::gql_plain;
