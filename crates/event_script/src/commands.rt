@@ -325,7 +325,8 @@ fn command_in(alloc: Global, members: &Map<String, Value>) -> Result<Option<Comm
     }
 }
 
-fn command_of(alloc: Global, value: &Value) -> Result<Option<Command>, NoMemory>
+/// The command that a value gives.
+pub fn command_of(alloc: Global, value: &Value) -> Result<Option<Command>, NoMemory>
     ensures { IfOk result (λ command. command ≡ events.command_of (view value.now)) }
 {
     match value.as_object() {

@@ -10,6 +10,7 @@ mod rows;
 mod text;
 mod values;
 
+pub use commands::command_of;
 pub use event::{LineReader, read_event};
 pub use fault::LineFault;
 pub use store_model;

@@ -107,8 +107,8 @@ struct Names<'a> {
 fn page_of(names: Names<'_>, after: Plain, before: Plain) -> Result<HandleFact, NoMemory>
     ensures { IfOk result
         (λ page. page ≡ record {
-            parent = names.parent.now; handle_key = names.handle_key.now; field_key = names.field_key.now;
-            after = after; before = before; page_type = names.page_type.now; info_type = names.info_type.now }) }
+            parent = names.entry.parent.now; handle_key = names.entry.handle_key.now; field_key = names.entry.field_key.now;
+            after = after; before = before; page_type = names.entry.page_type.now; info_type = names.entry.info_type.now }) }
 {
     let parent = names.parent.copy()?;
     let handle_key = names.handle_key.copy()?;
@@ -165,8 +165,9 @@ pub fn command_in(alloc: Global, row: &[Plain]) -> Result<Option<Command>, NoMem
     ensures { IfOk result (λ new. new ≡ reading.command_in (plain_trees row.now)) }
 {
     match row {
+        [] => Ok(None),
         [marks] => command_of_marks(alloc, marks),
-        _ => Ok(None),
+        [_, _, ..] => Ok(None),
     }
 }
 

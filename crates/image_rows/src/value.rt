@@ -1,14 +1,12 @@
 //! What stands in a row.
 ghost use Rattle.std.specs.Prelude.{◌≡◌, IfOk, option_map};
 ghost use Rattle.image_rows.specs.Reading as reading;
-ghost use Rattle.serde_json.specs.View.{view};
-ghost use Rattle.store_model.specs.Events.{command_of};
 ghost use Rattle.store_model.specs.gql_plain.Shown.{plain_trees, tree_of};
 ghost use Rattle.store_model.specs.store_record.declared.field.Field.TheVariants.{Links};
 
+use event_script::command_of;
 use image_text::gql_plain::{Id, NoMemory, OptIds, Pairs, Plain, Plains, value_of};
 use image_text::image_marks::unflat;
-use serde_json::Value;
 use std::alloc::Global;
 use store_model::Command;
 use store_model::store_record::Field;
@@ -204,11 +202,4 @@ pub fn command_of_marks(alloc: Global, plain: &Plain) -> Result<Option<Command>,
         Some(value) => command_of(alloc, &value_of(alloc, &value)?),
         None => Ok(None),
     }
-}
-
-/// A stand-in.
-fn command_of(_alloc: Global, _value: &Value) -> Result<Option<Command>, NoMemory>
-    ensures { IfOk result (λ command. command ≡ command_of (view _value.now)) }
-{
-    Err(NoMemory)
 }

@@ -5,4 +5,4 @@ use Rattle.image_rows.proofs.value.ids_in.Given as goal
 
 abbrev pub invariant-plains : goal.invariant-plains
 invariant-plains l =
-    ids_in (plain_trees l.plains) ≡ option_map (λ more. l.ids ++ more) (ids_in (plain_trees (drop l.plain-index l.plain-items)))
+    ids_in (plain_trees l.plains) ≡ option_map (λ more. l.ids ++ more) (ids_in (plain_trees (drop l.plain-index l.plains)))
