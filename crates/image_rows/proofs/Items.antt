@@ -3,7 +3,6 @@ use Rattle.std.proofs.Common.{◌≡◌, List, [], ◌∷◌, ◌++◌, Option, 
 use Rattle.store_model.specs.gql_plain.Shown.{tree_of}
 use Rattle.store_model.specs.gql_plain.Tree.{Tree, trees_of, members_of}
 use Rattle.store_model.specs.gql_plain.declared.plain.Plain.{Plain}
-use Rattle.store_model.specs.gql_plain.declared.plain.Plain.TheVariants as P
 use Rattle.store_model.specs.store_record.Keys.{Arguments}
 use Rattle.store_model.specs.Events.{pairs_list, plain_of_tree, tree_list}
 use Rattle.store_model.proofs.Plains.{plain_of_tree-tree_of}

@@ -1,6 +1,6 @@
 -- Reading an image row by row: what each row puts to the image so far. It asks little of the order of rows, and nothing of the name
 -- and the version in the first one: an image that was read is written again, and the texts are compared.
-use Rattle.std.specs.Prelude.{ℕ, ℤ, pos, negsuc, List, [], ◌∷◌, ◌++◌, cond, codes, bytes_eq, Option, Some, None, option_map, option_and_then}
+use Rattle.std.specs.Prelude.{ℕ, pos, List, [], ◌∷◌, ◌++◌, cond, codes, bytes_eq, Option, Some, None, option_map, option_and_then}
 use Rattle.store_model.specs.gql_plain.ToJson.{data_of}
 use Rattle.store_model.specs.gql_plain.Tree.{Tree, null, truth, whole, text, list, object}
 use Rattle.store_model.specs.gql_plain.declared.plain.Plain.{Plain}
@@ -13,7 +13,7 @@ use Rattle.store_model.specs.declared.command.Command.{Command}
 use Rattle.store_model.specs.declared.event.Part.{Part}
 use Rattle.store_model.specs.declared.facts.Fact.{Fact}
 use Rattle.store_model.specs.declared.facts.HandleFact.{HandleFact}
-use Rattle.image_text.specs.image_marks.Flat.{unflat}
+use Rattle.image_text.specs.image_marks.Flat.{only, unflat}
 use Rattle.image_text.specs.Lines.{Row}
 use Rattle.image_text.specs.declared.image.Image.{Image}
 use Rattle.image_text.specs.declared.image.ImageHandle.{ImageHandle}
@@ -134,16 +134,35 @@ abbrev pub fact_in : Row → Option Fact
 fact_in (text id ∷ text key ∷ t ∷ []) = option_map (λ value. record { id = id; key = key; value = value }) (field_of t)
 fact_in _ = None
 
+-- the texts of a page
+pub record Names : Type 0 where
+  pub parent : Text
+  pub handle_key : Text
+  pub field_key : Text
+  pub page_type : Text
+  pub info_type : Text
+
+abbrev pub page_of : Names → Plain → Plain → HandleFact
+page_of n after before = record {
+  parent = n.parent;
+  handle_key = n.handle_key;
+  field_key = n.field_key;
+  after = after;
+  before = before;
+  page_type = n.page_type;
+  info_type = n.info_type;
+}
+
+abbrev pub page_between : Names → Tree → Tree → Option HandleFact
+page_between n after before = option_and_then (λ a. option_map (λ b. page_of n a b) (marked_plain before)) (marked_plain after)
+
 abbrev pub page_in : Row → Option HandleFact
 page_in (text parent ∷ text handle_key ∷ text field_key ∷ after ∷ before ∷ text page_type ∷ text info_type ∷ []) =
-    option_and_then (λ a. option_map (λ b.
-    record { parent = parent; handle_key = handle_key; field_key = field_key; after = a; before = b; page_type = page_type; info_type = info_type })
-    (marked_plain before)) (marked_plain after)
+    page_between (record { parent = parent; handle_key = handle_key; field_key = field_key; page_type = page_type; info_type = info_type }) after before
 page_in _ = None
 
 abbrev pub command_in : Row → Option Command
-command_in (t ∷ []) = command_of_marks t
-command_in _ = None
+command_in row = option_and_then command_of_marks (only row)
 
 abbrev pub handle_in : Row → Option ImageHandle
 handle_in (text name ∷ text op ∷ t ∷ n ∷ []) =

@@ -1,5 +1,5 @@
 -- Reading an image line by line.
-use Rattle.std.specs.Prelude.{List, Option, Some, None, option_and_then}
+use Rattle.std.specs.Prelude.{Option, Some, None, option_and_then}
 use Rattle.store_model.specs.gql_plain.FromJson.{is_whole, plain_tree}
 use Rattle.store_model.specs.gql_plain.Tree.{Tree, null, truth, whole, text, list, object}
 use Rattle.serde_json.specs.Data as J

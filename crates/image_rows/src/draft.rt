@@ -59,8 +59,9 @@ impl Model for LayerDraft {
     ghost coded = { of.the_row.coded };
 
     ghost view = { λ a. record {
-        name = a.name;
-        entry = record { facts = record { facts = a.facts.items; handles = a.pages.items }; commands = a.commands } } };
+      name = a.name;
+      entry = record { facts = record { facts = a.facts.items; handles = a.pages.items }; commands = a.commands };
+    } };
 }
 
 /// What the lines of an image's text have said so far, seen as an image.
@@ -87,7 +88,15 @@ impl Model for Draft {
     ghost coded = { of.the_row.coded };
 
     ghost view = { λ a. record {
-        buffer = a.buffer; lines = a.lines; marks = a.marks; whole = a.whole;
-        records = a.records.items; layers = a.layers.items; handles = a.handles.items; released = a.released.items;
-        watches = a.watches.items; marked = a.marked.items } };
+      buffer = a.buffer;
+      lines = a.lines;
+      marks = a.marks;
+      whole = a.whole;
+      records = a.records.items;
+      layers = a.layers.items;
+      handles = a.handles.items;
+      released = a.released.items;
+      watches = a.watches.items;
+      marked = a.marked.items;
+    } };
 }

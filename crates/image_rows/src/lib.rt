@@ -3,14 +3,11 @@
 
 pub mod draft;
 mod line;
-mod made;
 mod put;
 mod row;
 mod take;
 mod value;
 
 pub use draft::Draft;
-pub use image_text::gql_plain;
-pub use image_text::store_model;
-pub use made::image_of;
+pub use image_text::{gql_plain, store_model};
 pub use take::{begin, take_line};

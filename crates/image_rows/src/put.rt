@@ -28,10 +28,12 @@ fn record_with(
     let RecordDraft { id, slot } = row;
     let (key, field) = pair;
     match slot {
-        Some(FieldsDraft {
-            type_name,
-            mut fields,
-        }) => {
+        Some(
+            FieldsDraft {
+                type_name,
+                mut fields,
+            },
+        ) => {
             let key = SharedText::new(alloc, key)?;
             fields.push(SharedField::new(alloc, key, field)?)?;
             let slot = Some(FieldsDraft { type_name, fields });

@@ -1,6 +1,8 @@
 //! What the items behind a row's name are.
 ghost use Rattle.std.specs.Prelude.{◌≡◌, IfOk, option_map};
-ghost use Rattle.store_model.specs.gql_plain.Shown.{plain_trees};
+ghost use Rattle.image_text.specs.image_marks.Flat as flat;
+ghost use Rattle.store_model.specs.gql_plain.Shown.{plain_trees, tree_of};
+ghost use Rattle.image_rows.specs.RowNames.{names_seen};
 ghost use Rattle.image_rows.specs.Reading as reading;
 
 use crate::draft::{FieldsDraft, LayerDraft, RecordDraft};
@@ -105,10 +107,7 @@ struct Names<'a> {
 
 /// A page between these cursors.
 fn page_of(names: Names<'_>, after: Plain, before: Plain) -> Result<HandleFact, NoMemory>
-    ensures { IfOk result
-        (λ page. page ≡ record {
-            parent = names.entry.parent.now; handle_key = names.entry.handle_key.now; field_key = names.entry.field_key.now;
-            after = after; before = before; page_type = names.entry.page_type.now; info_type = names.entry.info_type.now }) }
+    ensures { IfOk result (λ page. page ≡ reading.page_of (names_seen names.entry) after before) }
 {
     let parent = names.parent.copy()?;
     let handle_key = names.handle_key.copy()?;
@@ -126,6 +125,25 @@ fn page_of(names: Names<'_>, after: Plain, before: Plain) -> Result<HandleFact, 
     })
 }
 
+/// A page between the cursors whose marks these are.
+fn page_between(
+    alloc: Global,
+    names: Names<'_>,
+    after: &Plain,
+    before: &Plain,
+) -> Result<Option<HandleFact>, NoMemory>
+    ensures { IfOk result
+        (λ page. page ≡ reading.page_between (names_seen names.entry) (tree_of after.now) (tree_of before.now)) }
+{
+    let Some(after) = marked_plain(alloc, after)? else {
+        return Ok(None);
+    };
+    let Some(before) = marked_plain(alloc, before)? else {
+        return Ok(None);
+    };
+    Ok(Some(page_of(names, after, before)?))
+}
+
 /// A page.
 pub fn page_in(alloc: Global, row: &[Plain]) -> Result<Option<HandleFact>, NoMemory>
     ensures { IfOk result (λ new. new ≡ reading.page_in (plain_trees row.now)) }
@@ -140,12 +158,6 @@ pub fn page_in(alloc: Global, row: &[Plain]) -> Result<Option<HandleFact>, NoMem
             Plain::Text(page_type),
             Plain::Text(info_type),
         ] => {
-            let Some(after) = marked_plain(alloc, after)? else {
-                return Ok(None);
-            };
-            let Some(before) = marked_plain(alloc, before)? else {
-                return Ok(None);
-            };
             let names = Names {
                 parent,
                 handle_key,
@@ -153,10 +165,19 @@ pub fn page_in(alloc: Global, row: &[Plain]) -> Result<Option<HandleFact>, NoMem
                 page_type,
                 info_type,
             };
-            let page = page_of(names, after, before)?;
-            Ok(Some(page))
+            page_between(alloc, names, after, before)
         }
         _ => Ok(None),
+    }
+}
+
+/// The only item; takes no memory.
+fn only(row: &[Plain]) -> Option<&Plain>
+    ensures { option_map (λ plain. tree_of plain.now) result ≡ flat.only (plain_trees row.now) }
+{
+    match row {
+        [plain] => Some(plain),
+        _ => None,
     }
 }
 
@@ -164,10 +185,9 @@ pub fn page_in(alloc: Global, row: &[Plain]) -> Result<Option<HandleFact>, NoMem
 pub fn command_in(alloc: Global, row: &[Plain]) -> Result<Option<Command>, NoMemory>
     ensures { IfOk result (λ new. new ≡ reading.command_in (plain_trees row.now)) }
 {
-    match row {
-        [] => Ok(None),
-        [marks] => command_of_marks(alloc, marks),
-        [_, _, ..] => Ok(None),
+    match only(row) {
+        Some(marks) => command_of_marks(alloc, marks),
+        None => Ok(None),
     }
 }
 
