@@ -1,10 +1,12 @@
 #!/usr/bin/env python3
-"""refused.py [PROGRAM]: runs scripts of the tests with each of their requests for memory refused in turn, one a run.
+"""refused.py [PROGRAM [TESTS]]: runs scripts of the tests with each of their requests for memory refused in turn, one a run.
 
 The scripts are those of crates/run_tests/src/rows.rt: a watch with a layer, pages of a connection, and operations that are released and swept.
 A run may end as it does with ample memory, where the program asked again; else it ends with status 6, and what it wrote is the beginning of the
 answers with ample memory, empty or up to an LF. Prints for each script the number of runs, and how many of them ended so and so; a run that ends
-otherwise is reported, and the status is 1. It wants a C compiler, `cc`.
+otherwise is reported, and the status is 1. TESTS is the built program of engine_tests (`rt test` makes it): the test that gives a line once
+more where memory is lacking is run in the same way. It passes, or had itself no memory: for its engine, or for its text. It wants a C compiler,
+`cc`.
 """
 import collections
 import os
@@ -16,6 +18,7 @@ import tempfile
 HERE = os.path.dirname(os.path.realpath(__file__))
 TOP = os.path.dirname(os.path.dirname(HERE))
 PROGRAM = f"{TOP}/crates/relay_run/out/relay_run"
+AGAIN = "memory::a_line_is_given_again_where_memory_is_lacking"
 WANTED = ["query G{me{age}}", "query K($after:String)", "query O($id:ID!)"]
 
 def text_of(path):
@@ -66,12 +69,36 @@ def of_program(program, refuse, room):
         wrong |= tell(document.split(" ")[1].split("{")[0].split("(")[0], ends)
     return wrong
 
+def end_of_test(ran):
+    """How a run of the test ended."""
+    said = ran.stdout + ran.stderr
+    if ran.returncode == 0:
+        return "as with ample memory"
+    if b"error: NoMemory" in said:
+        return "out of memory, before the engine is made"
+    if b"error: AllocError" in said:
+        return "out of memory, for the test's own text"
+    return f"WRONG: status {ran.returncode}, {said[-200:]!r}"
+
+def of_test(tests, refuse, room):
+    words = [tests, AGAIN]
+    ample, asked = run(words, b"", refuse, room, 0)
+    if ample.returncode or not asked:
+        sys.exit(f"{AGAIN}: status {ample.returncode}, {asked} requests with ample memory")
+    ends = [end_of_test(run(words, b"", refuse, room, call)[0]) for call in range(1, asked + 1)]
+    made = max((at for at, end in enumerate(ends, 1) if end.endswith("is made")), default=0)
+    print(f"{AGAIN}: its project and engine are made with the first {made:,} requests at most")
+    return tell(AGAIN, collections.Counter(ends))
+
 def main():
     with tempfile.TemporaryDirectory(prefix="refused-") as room:
         refuse = f"{room}/refused.so"
         subprocess.run(["cc", "-O2", "-shared", "-fPIC", "-o", refuse, f"{HERE}/refused.c", "-ldl"], check=True)
         program = os.path.realpath(sys.argv[1] if len(sys.argv) > 1 else PROGRAM)
-        return of_program(program, refuse, room)
+        wrong = of_program(program, refuse, room)
+        for tests in sys.argv[2:]:
+            wrong |= of_test(os.path.realpath(tests), refuse, room)
+        return wrong
 
 if __name__ == "__main__":
     sys.exit(main())

@@ -55,6 +55,15 @@ def half_under_a_layer():
     make = lambda times: lambda count: swept(under_a_layer(store(count, count // 2)), times, count - count // 2, "begin")
     return Row("half kept, under a layer", (10_000, 20_000, 40_000), make(1), without=make(0), parts=lambda count: 1)
 
+def tenth_under_layers(live):
+    """A tenth is kept, and the rest is dropped under layers. Each links a kept record to the next one, so that they keep no other."""
+    def before(count):
+        documents, lines = store(count, count // 10)
+        link = lambda n: {"link": {"id": f"u{n % (count // 10):06}", "field": "friend", "to": f"u{(n + 1) % (count // 10):06}"}}
+        return documents, lines + [begin(f"l{n}", link(n)) for n in range(live)]
+    make = lambda times: lambda count: swept(before(count), times, count - count // 10, "begin")
+    return Row(f"a tenth kept, {live:,} live layers", (10_000, 20_000, 40_000), make(1), without=make(0), parts=lambda count: 1)
+
 def all_led_to():
     make = lambda times: lambda count: swept(under_a_layer(chain(count)), times, 0, "begin")
     return Row("all kept for a layer, five times", (10_000, 20_000, 40_000), make(AGAIN), without=make(0), parts=lambda count: AGAIN)
@@ -109,6 +118,8 @@ ROWS = [
     once_more("nothing dropped, a tenth was kept", 10),
     once_more("nothing dropped, all were kept", 1),
     half_under_a_layer(),
+    tenth_under_layers(10),
+    tenth_under_layers(1_000),
     all_led_to(),
     under_layers(),
     over_records("operations over 100 records", (250, 500, 1_000), lambda count: (count, 100)),
